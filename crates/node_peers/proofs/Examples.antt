@@ -10,7 +10,7 @@ use Rattle.node_links.specs.declared.own.Own.{Own}
 use Rattle.node_wires.specs.declared.line.Line.TheVariants.{Peer, Caller}
 use Rattle.node_wires.specs.Passages.{Passage, Began, Came, Wrote}
 use Rattle.node_peers.specs.declared.notice.Notice.TheVariants as notices
-use Rattle.node_peers.specs.Lines.{line_at}
+use Rattle.node_peers.specs.Lines.{line_at, dialled_over}
 use Rattle.node_peers.specs.Hearing.{IsTold, talk_over}
 
 peer_first : line_at 6 ≡ Peer 6
@@ -18,6 +18,12 @@ peer_first = refl
 
 caller_behind : line_at 7 ≡ Caller 0
 caller_behind = refl
+
+peer_was_dialled : dialled_over (line_at 6) ≡ Some 6
+peer_was_dialled = refl
+
+caller_dialled : dialled_over (line_at 7) ≡ None
+caller_dialled = refl
 
 abbrev own : Own
 own = record { number = 0; nodes = 3; digest = record { bytes = replicate 32 9 }; life = record { bytes = replicate 16 1 }; key = None }
@@ -62,7 +68,7 @@ ask_told =
       before = passed;
       since = [];
       passed_is = refl;
-      says = record { hello = hello; is = hello_is; from_is = refl; takes = (None, ([], refl)); said = []; are = tt; frame_is = record { least = lit≤ tt; most = lit≤ tt }; rest = []; text = refl };
+      says = record { hello = hello; is = hello_is; from_is = refl; takes = ([], refl); said = []; are = tt; frame_is = record { least = lit≤ tt; most = lit≤ tt }; rest = []; text = refl };
     }) ∣₁
 
 -- and node 1 is told to be there, whose life is kept
@@ -72,13 +78,13 @@ node_1_told =
       hello = hello;
       from_is = refl;
       life_is = refl;
-      opened = record { place = 7; before = passed; since = []; passed_is = refl; opens = record { is = hello_is; takes = (None, ([], refl)); rest = record_text (record_of.Frame ask) ++ []; text = refl } };
+      opened = record { place = 7; before = passed; since = []; passed_is = refl; opens = record { is = hello_is; takes = ([], refl); rest = record_text (record_of.Frame ask) ++ []; text = refl } };
     }) ∣₁
 
 -- what was written before a connection began is none of it
-began_anew : talk_over (Wrote (Caller 0) (7 ∷ []) ∷ passed) (Caller 0) ≡ record { came = both; wrote = [] }
+began_anew : talk_over (Wrote (Caller 0) (7 ∷ []) ∷ passed) (Caller 0) ≡ record { dialled = None; came = both; wrote = [] }
 began_anew = refl
 
 -- and what is written to another line is none either
-written_there : talk_over (passed ++ Wrote (Caller 0) (7 ∷ []) ∷ Wrote (Caller 1) (8 ∷ []) ∷ []) (Caller 0) ≡ record { came = both; wrote = 7 ∷ [] }
+written_there : talk_over (passed ++ Wrote (Caller 0) (7 ∷ []) ∷ Wrote (Caller 1) (8 ∷ []) ∷ []) (Caller 0) ≡ record { dialled = None; came = both; wrote = 7 ∷ [] }
 written_there = refl

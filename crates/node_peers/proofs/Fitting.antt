@@ -22,9 +22,9 @@ use Rattle.node_links.specs.Going.{Goes, GoesOn, GoesOnWritten, OpensAs, TellsFr
 use Rattle.node_peers.specs.declared.link.Link.{Link}
 use Rattle.node_peers.specs.declared.notice.Notice.{Notice}
 use Rattle.node_peers.specs.declared.notice.Notice.TheVariants as notices
-use Rattle.node_peers.specs.Lines.{line_at}
+use Rattle.node_peers.specs.Lines.{line_at, dialled_over}
 use Rattle.node_peers.specs.Adding.{Adds}
-use Rattle.node_peers.specs.Hearing.{talk_over, IsKept, IsOf, FitsBy, Fits, OpenedBy, IsOpened, Joins, IsTold, AreTold, OpensIn, OpensAt, KeepsOn, FitsOn, Moves, FitsThrough, TakesIn, SaysFrame, IsFresh}
+use Rattle.node_peers.specs.Hearing.{talk_over, IsKept, IsOf, FitsBy, Fits, OpenedBy, IsOpened, IsTold, AreTold, OpensIn, OpensAt, KeepsOn, FitsOn, Moves, FitsThrough, TakesIn, SaysFrame, IsFresh}
 use Rattle.node_peers.specs.declared.saying.Saying.{Saying}
 use Rattle.node_peers.specs.declared.saying.Saying.TheVariants as sayings
 use Rattle.node_peers.specs.Saying.{saying_of, SaidBy, SaidAt}
@@ -69,35 +69,37 @@ passed_over : (same : Bool) (a b : List ℕ) → same ≡ false → cond same a 
 passed_over true a b e = absurd cc
 passed_over false a b e = refl
 
-talk_is : (came came_new wrote wrote_new : List ℕ) → came ≡ came_new → wrote ≡ wrote_new → ◌≡◌ {A = Talk} (record { came = came; wrote = wrote }) (record { came = came_new; wrote = wrote_new })
-talk_is came came_new wrote wrote_new e f =
-    ap (λ (c : List ℕ). let t : Talk = record { came = c; wrote = wrote } in t) e ∙ ap (λ (w : List ℕ). let t : Talk = record { came = came_new; wrote = w } in t) f
+talk_is : (dialled : Option ℕ) (came came_new wrote wrote_new : List ℕ) → came ≡ came_new → wrote ≡ wrote_new → ◌≡◌ {A = Talk} (record { dialled = dialled; came = came; wrote = wrote }) (record { dialled = dialled; came = came_new; wrote = wrote_new })
+talk_is dialled came came_new wrote wrote_new e f =
+    ap (λ (c : List ℕ). let t : Talk = record { dialled = dialled; came = c; wrote = wrote } in t) e ∙ ap (λ (w : List ℕ). let t : Talk = record { dialled = dialled; came = came_new; wrote = w } in t) f
 
-piece_came : (passed : List Passage) (place : ℕ) (piece : List ℕ) → talk_over (passed ++ Came (line_at place) piece ∷ []) (line_at place) ≡ record { came = came_over passed (line_at place) ++ piece; wrote = wrote_over passed (line_at place) }
+piece_came : (passed : List Passage) (place : ℕ) (piece : List ℕ) → talk_over (passed ++ Came (line_at place) piece ∷ []) (line_at place)
+    ≡ record { dialled = dialled_over (line_at place); came = came_over passed (line_at place) ++ piece; wrote = wrote_over passed (line_at place) }
 piece_came passed place piece =
-    talk_is _ _ _ _ (came_more (line_at place) [] passed (Came (line_at place) piece) ∙ chosen (is_line (line_at place) (line_at place)) _ _ (same_line (line_at place))) (wrote_more (line_at place) [] passed (Came (line_at place) piece))
+    talk_is _ _ _ _ _ (came_more (line_at place) [] passed (Came (line_at place) piece) ∙ chosen (is_line (line_at place) (line_at place)) _ _ (same_line (line_at place))) (wrote_more (line_at place) [] passed (Came (line_at place) piece))
 
 piece_elsewhere : (passed : List Passage) (place other : ℕ) (piece : List ℕ) → (place ≡ other → ⊥) → talk_over (passed ++ Came (line_at place) piece ∷ []) (line_at other) ≡ talk_over passed (line_at other)
 piece_elsewhere passed place other piece differ =
-    talk_is _ _ _ _ (came_more (line_at other) [] passed (Came (line_at place) piece) ∙ passed_over (is_line (line_at place) (line_at other)) _ _ (other_line place other differ)) (wrote_more (line_at other) [] passed (Came (line_at place) piece))
+    talk_is _ _ _ _ _ (came_more (line_at other) [] passed (Came (line_at place) piece) ∙ passed_over (is_line (line_at place) (line_at other)) _ _ (other_line place other differ)) (wrote_more (line_at other) [] passed (Came (line_at place) piece))
 
-began_anew : (passed : List Passage) (place : ℕ) → talk_over (passed ++ Began (line_at place) ∷ []) (line_at place) ≡ silence
+began_anew : (passed : List Passage) (place : ℕ) → talk_over (passed ++ Began (line_at place) ∷ []) (line_at place) ≡ silence (dialled_over (line_at place))
 began_anew passed place =
-    talk_is _ _ _ _ (came_more (line_at place) [] passed (Began (line_at place)) ∙ chosen (is_line (line_at place) (line_at place)) _ _ (same_line (line_at place)))
+    talk_is _ _ _ _ _ (came_more (line_at place) [] passed (Began (line_at place)) ∙ chosen (is_line (line_at place) (line_at place)) _ _ (same_line (line_at place)))
     (wrote_more (line_at place) [] passed (Began (line_at place)) ∙ chosen (is_line (line_at place) (line_at place)) _ _ (same_line (line_at place)))
 
 began_elsewhere : (passed : List Passage) (place other : ℕ) → (place ≡ other → ⊥) → talk_over (passed ++ Began (line_at place) ∷ []) (line_at other) ≡ talk_over passed (line_at other)
 began_elsewhere passed place other differ =
-    talk_is _ _ _ _ (came_more (line_at other) [] passed (Began (line_at place)) ∙ passed_over (is_line (line_at place) (line_at other)) _ _ (other_line place other differ))
+    talk_is _ _ _ _ _ (came_more (line_at other) [] passed (Began (line_at place)) ∙ passed_over (is_line (line_at place) (line_at other)) _ _ (other_line place other differ))
     (wrote_more (line_at other) [] passed (Began (line_at place)) ∙ passed_over (is_line (line_at place) (line_at other)) _ _ (other_line place other differ))
 
-written_there : (passed : List Passage) (place : ℕ) (bytes : List ℕ) → talk_over (passed ++ Wrote (line_at place) bytes ∷ []) (line_at place) ≡ record { came = came_over passed (line_at place); wrote = wrote_over passed (line_at place) ++ bytes }
+written_there : (passed : List Passage) (place : ℕ) (bytes : List ℕ) → talk_over (passed ++ Wrote (line_at place) bytes ∷ []) (line_at place)
+    ≡ record { dialled = dialled_over (line_at place); came = came_over passed (line_at place); wrote = wrote_over passed (line_at place) ++ bytes }
 written_there passed place bytes =
-    talk_is _ _ _ _ (came_more (line_at place) [] passed (Wrote (line_at place) bytes)) (wrote_more (line_at place) [] passed (Wrote (line_at place) bytes) ∙ chosen (is_line (line_at place) (line_at place)) _ _ (same_line (line_at place)))
+    talk_is _ _ _ _ _ (came_more (line_at place) [] passed (Wrote (line_at place) bytes)) (wrote_more (line_at place) [] passed (Wrote (line_at place) bytes) ∙ chosen (is_line (line_at place) (line_at place)) _ _ (same_line (line_at place)))
 
 written_elsewhere : (passed : List Passage) (place other : ℕ) (bytes : List ℕ) → (place ≡ other → ⊥) → talk_over (passed ++ Wrote (line_at place) bytes ∷ []) (line_at other) ≡ talk_over passed (line_at other)
 written_elsewhere passed place other bytes differ =
-    talk_is _ _ _ _ (came_more (line_at other) [] passed (Wrote (line_at place) bytes))
+    talk_is _ _ _ _ _ (came_more (line_at other) [] passed (Wrote (line_at place) bytes))
     (wrote_more (line_at other) [] passed (Wrote (line_at place) bytes) ∙ passed_over (is_line (line_at place) (line_at other)) _ _ (other_line place other differ))
 
 -- ---- a connection in its place
@@ -184,12 +186,14 @@ keeps_still old new lost same = keeps_on old new lost (goes_still old.connection
 pub keeps_same : (old new : Option Link) → new ≡ old → KeepsOn old new
 keeps_same old new e own talk is = subst (λ (l : Option Link). IsOf own talk l) (sym e) is
 
-kept_settled : (lost : Bool) (own : Own) (old new : Connection) (talk : Talk) → ((talk : Talk) → Goes own talk old → Goes own talk new) → IsKept lost own talk old → IsKept lost own talk new
+kept_settled : (lost : Bool) (own : Own) (old new : Connection) (talk : Talk) → (Goes own talk old → Goes own talk new) → IsKept lost own talk old → IsKept lost own talk new
 kept_settled true own old new talk goes is = tt
-kept_settled false own old new talk goes is = goes talk is
+kept_settled false own old new talk goes is = goes is
 
-pub keeps_settled : (own : Own) (old new : Link) → new.is_lost ≡ old.is_lost → ((talk : Talk) → Goes own talk old.connection → Goes own talk new.connection) → (talk : Talk) → IsOf own talk (Some old) → IsOf own talk (Some new)
-keeps_settled own old new lost goes talk is = subst (λ (b : Bool). IsKept b own talk new.connection) (sym lost) (kept_settled old.is_lost own old.connection new.connection talk goes is)
+pub keeps_settled : (own : Own) (dialled : Option ℕ) (old new : Link) → new.is_lost ≡ old.is_lost → ((talk : Talk) → talk.dialled ≡ dialled → Goes own talk old.connection → Goes own talk new.connection)
+    → (talk : Talk) → talk.dialled ≡ dialled → IsOf own talk (Some old) → IsOf own talk (Some new)
+keeps_settled own dialled old new lost goes talk same is =
+    subst (λ (b : Bool). IsKept b own talk new.connection) (sym lost) (kept_settled old.is_lost own old.connection new.connection talk (goes talk same) is)
 
 goes_in : (lost : Bool) (own : Own) (talk : Talk) (c : Connection) → lost ≡ false → IsKept lost own talk c → Goes own talk c
 goes_in true own talk c e is = absurd cc
@@ -295,28 +299,28 @@ fits_moved links place old new passed_old passed_new within at moves own fits =
     fits_set own (λ q. talk_over passed_old (line_at q)) (λ q. talk_over passed_new (line_at q)) links place new within fits
     (moves.heard own (at_place own (λ q. talk_over passed_old (line_at q)) links place old at fits)) moves.elsewhere
 
-pub fresh_link : (own : Own) (link : Link) (c : Connection) → link.connection ≡ c → Goes own silence c → IsFresh own (Some link)
-fresh_link own link c e goes = subst (λ (d : Connection). Goes own silence d) (sym e) goes
+pub fresh_link : (own : Own) (line : Line) (link : Link) (c : Connection) → link.connection ≡ c → Goes own (silence (dialled_over line)) c → IsFresh own line (Some link)
+fresh_link own line link c e goes = subst (λ (d : Connection). Goes own (silence (dialled_over line)) d) (sym e) goes
 
-kept_fresh : (lost : Bool) (own : Own) (c : Connection) → Goes own silence c → IsKept lost own silence c
-kept_fresh true own c goes = tt
-kept_fresh false own c goes = goes
+kept_fresh : (lost : Bool) (own : Own) (talk : Talk) (c : Connection) → Goes own talk c → IsKept lost own talk c
+kept_fresh true own talk c goes = tt
+kept_fresh false own talk c goes = goes
 
-fresh_is : (own : Own) (link : Option Link) → IsFresh own link → IsOf own silence link
-fresh_is own None fresh = tt
-fresh_is own (Some link) fresh = kept_fresh link.is_lost own link.connection fresh
+fresh_is : (own : Own) (line : Line) (link : Option Link) → IsFresh own line link → IsOf own (silence (dialled_over line)) link
+fresh_is own line None fresh = tt
+fresh_is own line (Some link) fresh = kept_fresh link.is_lost own (silence (dialled_over line)) link.connection fresh
 
-pub fits_begun : (own : Own) (links : List (Option Link)) (place : ℕ) (link : Option Link) (passed_old passed_new : List Passage) → place < length links → IsFresh own link → passed_new ≡ passed_old ++ Began (line_at place) ∷ []
+pub fits_begun : (own : Own) (links : List (Option Link)) (place : ℕ) (link : Option Link) (passed_old passed_new : List Passage) → place < length links → IsFresh own (line_at place) link → passed_new ≡ passed_old ++ Began (line_at place) ∷ []
     → Fits own passed_old links → Fits own passed_new (set links place link)
 fits_begun own links place link passed_old passed_new within fresh same fits =
     fits_set own (λ q. talk_over passed_old (line_at q)) (λ q. talk_over passed_new (line_at q)) links place link within fits
-    (subst (λ (t : Talk). IsOf own t link) (sym (ap (λ (ps : List Passage). talk_over ps (line_at place)) same ∙ began_anew passed_old place)) (fresh_is own link fresh))
+    (subst (λ (t : Talk). IsOf own t link) (sym (ap (λ (ps : List Passage). talk_over ps (line_at place)) same ∙ began_anew passed_old place)) (fresh_is own (line_at place) link fresh))
     (λ other differ. ap (λ (ps : List Passage). talk_over ps (line_at other)) same ∙ began_elsewhere passed_old place other differ)
 
-pub fits_settled : (own : Own) (links : List (Option Link)) (place : ℕ) (old new : Option Link) → place < length links → old ≡ get_or links place None → ((talk : Talk) → IsOf own talk old → IsOf own talk new)
-    → (talks : ℕ → Talk) → FitsBy own talks links → FitsBy own talks (set links place new)
-fits_settled own links place old new within at keeps talks fits =
-    fits_set own talks talks links place new within fits (keeps (talks place) (at_place own talks links place old at fits)) (λ other differ. refl)
+pub fits_settled : (own : Own) (dialled : Option ℕ) (links : List (Option Link)) (place : ℕ) (old new : Option Link) → place < length links → old ≡ get_or links place None
+    → ((talk : Talk) → talk.dialled ≡ dialled → IsOf own talk old → IsOf own talk new) → (talks : ℕ → Talk) → (talks place).dialled ≡ dialled → FitsBy own talks links → FitsBy own talks (set links place new)
+fits_settled own dialled links place old new within at keeps talks same fits =
+    fits_set own talks talks links place new within fits (keeps (talks place) same (at_place own talks links place old at fits)) (λ other differ. refl)
 
 pub opens_at : (own : Own) (links : List (Option Link)) (place : ℕ) (link : Option Link) (result : Option Hello) → place < length links → OpensIn own result link → OpensAt own result place (set links place link)
 opens_at own links place link None within opens = tt

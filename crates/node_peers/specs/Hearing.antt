@@ -16,11 +16,11 @@ use Rattle.peer_codes.specs.declared.hello.Life.{Life}
 use Rattle.node_peers.specs.declared.link.Link.{Link}
 use Rattle.node_peers.specs.declared.notice.Notice.{Notice}
 use Rattle.node_peers.specs.declared.notice.Notice.TheVariants as notices
-use Rattle.node_peers.specs.Lines.{line_at}
+use Rattle.node_peers.specs.Lines.{line_at, dialled_over}
 
--- all that came over the connection that a line has, and was written to it
+-- the connection that a line has: who was dialled over it, all that came over it and was written to it
 abbrev pub talk_over : List Passage → Line → Talk
-talk_over passed line = record { came = came_over passed line; wrote = wrote_over passed line }
+talk_over passed line = record { dialled = dialled_over line; came = came_over passed line; wrote = wrote_over passed line }
 
 -- ---- connections
 
@@ -122,10 +122,10 @@ pub record Moves (place : ℕ) (old new : Option Link) (passed_old passed_new : 
 abbrev pub FitsThrough : List Passage → List Passage → List (Option Link) → List (Option Link) → Type 0
 FitsThrough passed_old passed_new old new = (own : Own) → Fits own passed_old old → Fits own passed_new new
 
--- over a connection of this node that begins nothing came, and nothing was written to it
-abbrev pub IsFresh : Own → Option Link → Type 0
-IsFresh own None = Unit {0}
-IsFresh own (Some link) = Goes own silence link.connection
+-- over a connection of this node that begins over a line nothing came, and nothing was written to it
+abbrev pub IsFresh : Own → Line → Option Link → Type 0
+IsFresh own line None = Unit {0}
+IsFresh own line (Some link) = Goes own (silence (dialled_over line)) link.connection
 
 -- a piece was taken in, or lost
 abbrev pub TakesIn : Link → Link → List ℕ → Type 0

@@ -1,9 +1,17 @@
--- Where the lines stand over which nodes speak.
-use Rattle.std.specs.Prelude.{ℕ, ◌-◌, nat_lt, if◌then◌else◌}
+-- Where the lines stand over which nodes speak, and who was dialled over each.
+use Rattle.std.specs.Prelude.{ℕ, ◌-◌, nat_lt, if◌then◌else◌, Option, Some, None}
 use Rattle.node_wires.specs.declared.limits.TheConstants.{NODES}
 use Rattle.node_wires.specs.declared.line.Line.{Line}
-use Rattle.node_wires.specs.declared.line.Line.TheVariants.{Peer, Caller}
+use Rattle.node_wires.specs.declared.line.Line.TheVariants.{Peer, Caller, Seat, Guest, Asker}
 
 -- first those of peers that are dialled, and then those of who dialled
 abbrev pub line_at : ℕ → Line
 line_at place = if nat_lt place NODES then Peer place else Caller (place - NODES)
+
+-- the peer that this node dialled over a line; nobody where another dialled
+abbrev pub dialled_over : Line → Option ℕ
+dialled_over (Peer number) = Some number
+dialled_over (Caller place) = None
+dialled_over (Seat number) = None
+dialled_over (Guest place) = None
+dialled_over (Asker place) = None

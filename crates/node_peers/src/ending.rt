@@ -2,6 +2,7 @@
 
 use crate::dialling::end_dial;
 use crate::limits::{LINKS, SILENCES, STRANGER};
+use crate::link::dialled_at;
 use crate::peer::Peer;
 use crate::peers::Peers;
 use node_links::LinkFault;
@@ -29,7 +30,8 @@ impl Peers {
 
     /// The peer that was dialled by the connection at a place.
     pub(crate) fn dialled_at(&self, place: usize) -> Option<u8> {
-        self.lines.at(place)?.dialled
+        let _ = self.lines.at(place)?;
+        dialled_at(place)
     }
 
     /// The peer that is there by the connection at a place.
@@ -117,8 +119,8 @@ impl Peers {
         let Some(link) = self.lines.at(place) else {
             return;
         };
-        let known = link.known(self.joined_at(place), fault);
-        let dialled = link.dialled;
+        let dialled = dialled_at(place);
+        let known = link.known(dialled, self.joined_at(place), fault);
         self.leave(place, now);
         if !self.lines.refuse(place) {
             return;
@@ -152,7 +154,7 @@ impl Peers {
                 }
                 None => true,
             },
-            None => link.dialled.is_none() && now.saturating_sub(link.began) >= STRANGER,
+            None => dialled_at(place).is_none() && now.saturating_sub(link.began) >= STRANGER,
         }
     }
 

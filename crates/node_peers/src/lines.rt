@@ -155,7 +155,7 @@ impl Lines {
     #[tactic(auto, using(crate::proofs::Fitting::are_told_on))]
     fn begin(&mut self, place: usize, line: Line, link: Link)
         requires line { line ≡ line_at place }
-        requires fresh { IsFresh self.old.own (Some link) }
+        requires fresh { IsFresh self.old.own line (Some link) }
         ensures own { self.new.own ≡ self.old.own }
         ensures passed { self.new.passed.items ≡ self.old.passed.items ++ Began line ∷ [] }
     {
@@ -172,7 +172,7 @@ impl Lines {
             return false;
         };
         let place = NODES + number as usize;
-        let link = Link::new(Connection::listen(self.alloc, self.own.key), None, now);
+        let link = Link::new(Connection::listen(self.alloc, self.own.key), now);
         self.begin(place, Line::Caller(number), link);
         true
     }
@@ -187,11 +187,7 @@ impl Lines {
         if place >= NODES || wire.dial(number).is_err() {
             return false;
         }
-        let link = Link::new(
-            Connection::call(self.alloc, self.own.key, own),
-            Some(number),
-            now,
-        );
+        let link = Link::new(Connection::call(self.alloc, self.own.key, own), now);
         self.begin(place, Line::Peer(number), link);
         true
     }

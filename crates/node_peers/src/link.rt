@@ -3,7 +3,7 @@
 ghost use Rattle.std.specs.Prelude.{◌≡◌, ◌<◌, IfSome, Some};
 ghost use Rattle.node_links.specs.Going.{peer_of};
 ghost use Rattle.node_links.specs.Talks.{Talk};
-ghost use Rattle.node_peers.specs.Lines.{line_at};
+ghost use Rattle.node_peers.specs.Lines.{line_at, dialled_over};
 ghost use Rattle.node_peers.specs.Adding.{Grows};
 ghost use Rattle.node_peers.specs.Hearing.{IsOf, KeepsOn, Moves, OpensIn, TakesIn, SaysFrame};
 
@@ -17,8 +17,6 @@ use peer_codes::Hello;
 #[derive(Drop)]
 pub(crate) struct Link {
     pub(crate) connection: Connection,
-    /// The peer that was dialled; none where it dialled.
-    pub(crate) dialled: Option<u8>,
     /// When it began.
     pub(crate) began: u64,
     /// The node that its Hello said, once that was judged, whether it was taken or not; with codes it isn't proved before the
@@ -49,12 +47,11 @@ pub(crate) enum Written {
 
 impl Link {
     /// A connection that begins.
-    pub(crate) fn new(connection: Connection, dialled: Option<u8>, began: u64) -> Link
+    pub(crate) fn new(connection: Connection, began: u64) -> Link
         ensures { result.connection ≡ connection }
     {
         Link {
             connection,
-            dialled,
             began,
             said: None,
             has_more: false,
@@ -66,9 +63,14 @@ impl Link {
 
     /// Who is told to be at the other end where a fault closes the connection: whom this node dialled, who was there, or
     /// who said that he speaks, where his Hello was refused for what he is and not for who.
-    pub(crate) fn known(&self, joined: Option<u8>, fault: LinkFault) -> Option<u8> {
-        if self.dialled.is_some() {
-            return self.dialled;
+    pub(crate) fn known(
+        &self,
+        dialled: Option<u8>,
+        joined: Option<u8>,
+        fault: LinkFault,
+    ) -> Option<u8> {
+        if dialled.is_some() {
+            return dialled;
         }
         if joined.is_some() {
             return joined;
@@ -90,6 +92,17 @@ pub(crate) fn line_at(place: usize) -> Line
         Line::Peer(place as u8)
     } else {
         Line::Caller((place - NODES) as u8)
+    }
+}
+
+/// The peer that this node dialled over the line at a place; none where another dialled.
+pub(crate) fn dialled_at(place: usize) -> Option<u8>
+    ensures { result ≡ dialled_over (line_at place) }
+{
+    if place < NODES {
+        Some(place as u8)
+    } else {
+        None
     }
 }
 
@@ -202,12 +215,18 @@ pub(crate) fn next_of(link: &mut Link) -> Option<Result<Heard, LinkFault>>
 /// Judges what this node said first, as far as it can be judged now. It answers that Hello where the connection is open; not
 /// where it has ended.
 #[tactic(auto, using(crate::proofs::Fitting::keeps_settled, crate::proofs::Fitting::opens_in))]
-pub(crate) fn settle(link: &mut Link, own: &Own, met: &[Met], from: u8) -> Option<Hello>
-    ensures fits { (talk : Talk) → IsOf own.now talk (Some link.old) → IsOf own.now talk (Some link.new) }
+pub(crate) fn settle(
+    link: &mut Link,
+    own: &Own,
+    dialled: Option<u8>,
+    met: &[Met],
+    from: u8,
+) -> Option<Hello>
+    ensures fits { (talk : Talk) → talk.dialled ≡ dialled → IsOf own.now talk (Some link.old) → IsOf own.now talk (Some link.new) }
     ensures opens { OpensIn own.now result (Some link.new) }
 {
     link.said = Some(from);
-    link.connection.settle(own, link.dialled, met);
+    link.connection.settle(own, dialled, met);
     if link.has_ended || link.is_lost {
         return None;
     }
@@ -215,13 +234,11 @@ pub(crate) fn settle(link: &mut Link, own: &Own, met: &[Met], from: u8) -> Optio
 }
 
 /// Answers the one who dialled with this node's own Hello.
-#[tactic(auto, using(crate::proofs::Fitting::keeps_still, crate::proofs::Fitting::keeps_on))]
+#[tactic(auto, using(crate::proofs::Fitting::keeps_on))]
 pub(crate) fn answer(link: &mut Link, own: Hello)
     ensures { KeepsOn (Some link.old) (Some link.new) }
 {
-    if link.dialled.is_none() {
-        link.connection.answer(own);
-    }
+    link.connection.answer(own);
 }
 
 /// The node at the other end of a connection that is open.

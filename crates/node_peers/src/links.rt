@@ -4,13 +4,15 @@ ghost use Rattle.std.specs.Prelude.{◌≡◌, ◌<◌, ◌≤◌, ℕ, List, �
 ghost use Rattle.node_wires.specs.Passages.{Passage, Began};
 ghost use Rattle.node_links.specs.declared.own.Own.{Own};
 ghost use Rattle.node_links.specs.Talks.{Talk};
-ghost use Rattle.node_peers.specs.Lines.{line_at};
+ghost use Rattle.node_peers.specs.Lines.{line_at, dialled_over};
 ghost use Rattle.node_peers.specs.Adding.{Grows};
 ghost use Rattle.node_peers.specs.Hearing.{IsOf, FitsBy, Fits, IsFresh, KeepsOn, FitsOn, Moves, OpensAt, OpensIn, FitsThrough};
 ghost use Rattle.node_peers.specs.Saying.{SaidBy, SaidAt};
 
 use crate::limits::LINKS;
-use crate::link::{Link, Written, answer, begin, next_of, peer_of, read, refuse, settle, write};
+use crate::link::{
+    Link, Written, answer, begin, dialled_at, next_of, peer_of, read, refuse, settle, write,
+};
 use crate::saying::{Saying, saying_of};
 use node_links::{Met, Outbox, Own};
 use node_wires::{Passages, Wire};
@@ -31,7 +33,7 @@ pub(crate) fn no_links(alloc: Global) -> Result<Vec<Option<Link>>, AllocError>
 /// Puts a connection that begins in the place of its line, if there is such a place.
 #[tactic(auto, using(crate::proofs::Fitting::fits_begun, crate::proofs::Fitting::fits_beside))]
 pub(crate) fn put(links: &mut Vec<Option<Link>>, place: usize, link: Link)
-    ensures { (own : Own) (passed_old passed_new : List Passage) → IsFresh own (Some link) → passed_new ≡ passed_old ++ Began (line_at place) ∷ [] → Fits own passed_old links.old.items → Fits own passed_new links.new.items }
+    ensures { (own : Own) (passed_old passed_new : List Passage) → IsFresh own (line_at place) (Some link) → passed_new ≡ passed_old ++ Began (line_at place) ∷ [] → Fits own passed_old links.old.items → Fits own passed_new links.new.items }
 {
     if place < links.len() {
         links[place] = Some(link);
@@ -144,12 +146,18 @@ pub(crate) fn next_at(links: &mut Vec<Option<Link>>, place: usize) -> Saying
 }
 
 /// Judges what waits to be judged of a line.
-fn settle_in(slot: &mut Option<Link>, own: &Own, met: &[Met], from: u8) -> Option<Hello>
-    ensures fits { (talk : Talk) → IsOf own.now talk slot.old → IsOf own.now talk slot.new }
+fn settle_in(
+    slot: &mut Option<Link>,
+    own: &Own,
+    dialled: Option<u8>,
+    met: &[Met],
+    from: u8,
+) -> Option<Hello>
+    ensures fits { (talk : Talk) → talk.dialled ≡ dialled → IsOf own.now talk slot.old → IsOf own.now talk slot.new }
     ensures opens { OpensIn own.now result slot.new }
 {
     match slot {
-        Some(link) => settle(link, own, met, from),
+        Some(link) => settle(link, own, dialled, met, from),
         None => None,
     }
 }
@@ -163,11 +171,11 @@ pub(crate) fn settle_at(
     met: &[Met],
     from: u8,
 ) -> Option<Hello>
-    ensures fits { (talks : ℕ → Talk) → FitsBy own.now talks links.old.items → FitsBy own.now talks links.new.items }
+    ensures fits { (talks : ℕ → Talk) → (talks place).dialled ≡ dialled_over (line_at place) → FitsBy own.now talks links.old.items → FitsBy own.now talks links.new.items }
     ensures opens { OpensAt own.now result place links.new.items }
 {
     match links.get_mut(place) {
-        Some(slot) => settle_in(slot, own, met, from),
+        Some(slot) => settle_in(slot, own, dialled_at(place), met, from),
         None => None,
     }
 }
