@@ -114,6 +114,18 @@ impl Outgoing {
         self.written = 0;
     }
 
+    /// Codes and begins the frame that waits, if one does.
+    fn begin_frame(&mut self, way: &mut Way)
+        requires { way.old.number < LAST_NUMBER }
+        ensures { (reading : Way) (key : Key) (came : Queued) → record { key = key; phase = phases.Open (record { reading = reading; writing = way.new }); came = came; out = self.new } ≡ begun_on (record { reading = reading; writing = way.old }) None self.old.frame key came self.old }
+    {
+        if let Some(frame) = &self.frame {
+            way.cover(Kind::Frame, frame.bytes.as_slice(), &mut self.begun);
+            self.written = 0;
+            self.frame = None;
+        }
+    }
+
     /// Codes and begins the beat, or else the frame that waits.
     fn begin_on(&mut self, way: &mut Way)
         requires { way.old.number < LAST_NUMBER }
@@ -125,10 +137,8 @@ impl Outgoing {
             self.beat = None;
             return;
         }
-        if let Some(frame) = &self.frame {
-            way.cover(Kind::Frame, frame.bytes.as_slice(), &mut self.begun);
-            self.written = 0;
-            self.frame = None;
+        if self.frame.is_some() {
+            self.begin_frame(way);
         }
     }
 
