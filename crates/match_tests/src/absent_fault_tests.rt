@@ -3,7 +3,7 @@
 
 use crate::course::{
     Answer, Course, Ending, TURNS, assert_places, bots_everywhere, course_after, disks, ending_by,
-    lost_bots, no_outages, outage, outages_before_the_leader, server_that,
+    lost_bots, no_outages, outage, outages_before_the_leader, server_that, turn,
 };
 use crate::samples::assert_same;
 use crate::server_tests::{
@@ -44,7 +44,7 @@ fn assert_place(rt: &impl Abort, seat: u8, before: Option<Place>, answer: Answer
 fn watched_turn(rt: &impl Abort, server: &mut Match) -> Answer {
     let alice = server.place(0);
     let bob = server.place(1);
-    let answer = server.turn();
+    let answer = turn(server);
     assert_place(rt, 0, alice, answer, server);
     assert_place(rt, 1, bob, answer, server);
     answer

@@ -1,8 +1,8 @@
 use crate::course::{
     ALICE, VERSION, assert_each, assert_whole, disks, logs, lost_bots, no_outages,
-    outages_before_the_leader, server_that,
+    outages_before_the_leader, server_that, turn,
 };
-use crate::samples::{assert_bytes, assert_holds, assert_same};
+use crate::samples::{assert_bytes, assert_holds, assert_same, holds};
 use dealer_node::NodeFault;
 use dealer_world::Cluster;
 use match_file::Absent;
@@ -73,10 +73,10 @@ fn put_word(
 
 /// One turn; it is put behind a text. Whether the server goes on: not where all is over, or a fault came.
 fn goes_on(server: &mut Match, text: &mut Vec<u8>) -> Result<bool, AllocError> {
-    match server.turn() {
+    match turn(server) {
         Ok(Turn::Over) => Ok(false),
-        Ok(turn) => {
-            put_turn(text, turn)?;
+        Ok(taken) => {
+            put_turn(text, taken)?;
             Ok(true)
         }
         Err(ServeFault::Node(NodeFault::OutOfMemory)) => Ok(true),
@@ -135,7 +135,7 @@ fn assert_frame<D: Disk + Drop>(
     due: (u8, u8, &[u8]),
 ) {
     let frame = cluster.frame(number).expect(rt, "a frame");
-    assert!(rt; frame.from == due.0 && frame.to == due.1);
+    holds!(rt; frame.from == due.0 && frame.to == due.1);
     assert_bytes(rt, frame.bytes, due.2);
 }
 

@@ -2,7 +2,8 @@ use crate::rounds::{Course, Step, assert_course};
 use crate::samples::{ACCEPT, ACCEPTED, PREPARE, PROMISE};
 use std::test::Fail;
 
-/// The first round of node 0 with node 1: its frames by their numbers among all that are sent.
+/// The first round of node 0 with node 1: its frames by their numbers among all that are sent, and among those that reach
+/// a node, each with how many had been sent before.
 static STEPWISE: Course<'_> = Course {
     nodes: 3,
     steps: &[Step::Round(0, &[1])],
@@ -12,17 +13,6 @@ static STEPWISE: Course<'_> = Course {
         (3, (0, 1), ACCEPT, 0),
         (7, (1, 0), ACCEPTED, 0),
     ],
-    arrived: &[],
-    arrivals: 4,
-    fronts: &[(0, 1, Some(0)), (1, 0, None)],
-};
-
-/// The same given at once: its frames by their numbers among those that reach a node, each with how many had been sent
-/// before.
-static AT_ONCE: Course<'_> = Course {
-    nodes: 3,
-    steps: &[Step::FirstRound],
-    sent: &[],
     arrived: &[
         (0, (0, 1), PREPARE, 2),
         (1, (1, 0), PROMISE, 3),
@@ -30,7 +20,7 @@ static AT_ONCE: Course<'_> = Course {
         (3, (1, 0), ACCEPTED, 9),
     ],
     arrivals: 4,
-    fronts: &[(0, 1, Some(0))],
+    fronts: &[(0, 1, Some(0)), (1, 0, None)],
 };
 
 /// What is done with a new cluster, and what comes of it.
@@ -141,16 +131,11 @@ static COURSES: [Course<'_>; 7] = [
     },
 ];
 
-/// On three nodes at rest a tick and four deliveries move the ticking node one slot on.
+/// On three nodes at rest a tick and four deliveries move the ticking node one slot on. The record says what reached the
+/// nodes, and how many frames had been sent before.
 #[test]
 fn a_tick_and_four_deliveries_deal(rt: HostRuntime) -> Result<(), Fail> {
     assert_course(&rt, rt.alloc(), &STEPWISE)
-}
-
-/// The record says what reached the nodes, and how many frames had been sent before.
-#[test]
-fn a_round_is_run_at_once(rt: HostRuntime) -> Result<(), Fail> {
-    assert_course(&rt, rt.alloc(), &AT_ONCE)
 }
 
 /// Each course is as it is due.

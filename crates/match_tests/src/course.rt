@@ -1,6 +1,6 @@
 //! A match of two hands that is served, and what came of it.
 
-use crate::samples::{assert_bytes, assert_bytes_of, assert_holds, two_hands};
+use crate::samples::{assert_bytes, assert_bytes_of, assert_holds, holds, two_hands};
 use dealer_node::NodeFault;
 use dealer_world::Cluster;
 use match_file::{Absent, Outage};
@@ -57,8 +57,8 @@ pub(crate) fn assert_places<D: Disk + Drop, L: Links + Drop>(
     rt: &impl Abort,
     server: &Server<D, L>,
 ) {
-    assert!(rt; server.place(0) == Some(Place::Awaited(0)));
-    assert!(rt; server.place(2).is_none());
+    holds!(rt; server.place(0) == Some(Place::Awaited(0)));
+    holds!(rt; server.place(2).is_none());
 }
 
 /// A server of a new cluster over these disks, which waits for seats that were dropped; none where a node or a log
@@ -93,6 +93,11 @@ pub(crate) fn server_that<D: Disk + Drop, L: Links + Drop>(
 /// What a turn answers.
 pub(crate) type Answer = Result<Turn, ServeFault>;
 
+/// A turn of a server. Here alone one is taken, so that its contract is read once.
+pub(crate) fn turn<D: Disk + Drop, L: Links + Drop>(server: &mut Server<D, L>) -> Answer {
+    server.turn()
+}
+
 /// How a match ended by a turn that was answered so, before which so many started a node; none where it goes on. A turn
 /// that found no memory is taken again.
 pub(crate) fn ending_by(answer: Answer, starts: &mut u64) -> Option<Ending> {
@@ -111,7 +116,7 @@ pub(crate) fn ending_by(answer: Answer, starts: &mut u64) -> Option<Ending> {
 pub(crate) fn serve<D: Disk + Drop, L: Links + Drop>(server: &mut Server<D, L>) -> Ending {
     let mut starts = 0u64;
     for _ in 0..TURNS {
-        if let Some(ending) = ending_by(server.turn(), &mut starts) {
+        if let Some(ending) = ending_by(turn(server), &mut starts) {
             return ending;
         }
     }

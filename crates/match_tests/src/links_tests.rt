@@ -1,7 +1,7 @@
 //! Links over sockets, and the waits of links in memory: what no clause can say. Silent clients, ends within a line and who is
 //! turned away are told by `tests/waits`.
 
-use crate::samples::assert_bytes;
+use crate::samples::{assert_bytes, holds};
 use match_links::limits::PIECE;
 use match_links::{LinkFault, Links, MemoryLinks, Reached, TcpLinks};
 use std::alloc::{AllocError, Global};
@@ -43,7 +43,7 @@ fn call(
 
 /// Asserts that nobody can be seated at a node.
 fn assert_nobody(rt: &impl Abort, links: &mut impl Links, node: u8, seat: u8) {
-    assert!(rt; accept(links, node, seat) == Err(LinkFault::Slow));
+    holds!(rt; accept(links, node, seat) == Err(LinkFault::Slow));
 }
 
 /// Waits for somebody at a node. Want of memory takes nothing: the call is made again.
@@ -56,7 +56,7 @@ fn accept(links: &mut impl Links, node: u8, seat: u8) -> Result<(), LinkFault> {
 
 /// Asserts that somebody is seated at a node, and that this is the first piece of it.
 fn assert_seated(rt: &impl Abort, links: &mut impl Links, (node, seat): (u8, u8), piece: &[u8]) {
-    assert!(rt; accept(links, node, seat) == Ok(()));
+    holds!(rt; accept(links, node, seat) == Ok(()));
     assert_piece(rt, links, (node, seat), piece);
 }
 
@@ -70,14 +70,14 @@ fn assert_piece(rt: &impl Abort, links: &mut impl Links, (node, seat): (u8, u8),
 /// Asserts that no piece of a seat at a node comes.
 fn assert_slow(rt: &impl Abort, links: &mut impl Links, node: u8, seat: u8) {
     let mut buffer = [0u8; PIECE];
-    assert!(rt; links.read(node, seat, &mut buffer) == Err(LinkFault::Slow));
+    holds!(rt; links.read(node, seat, &mut buffer) == Err(LinkFault::Slow));
 }
 
 /// Asserts that a client's connection has ended, and that it got nothing.
 fn assert_ended(rt: &impl Abort, client: &mut TcpStream) -> Result<(), Fail> {
     let mut buffer = [0u8; 1];
     client.set_read_timeout(Some(Duration::from_millis(50)))?;
-    assert!(rt; matches!(client.read(&mut buffer), Ok(0)));
+    holds!(rt; matches!(client.read(&mut buffer), Ok(0)));
     Ok(())
 }
 
@@ -86,7 +86,7 @@ fn assert_goes_on(rt: &impl Abort, client: &mut TcpStream) -> Result<(), Fail> {
     let mut buffer = [0u8; 1];
     client.set_read_timeout(Some(Duration::from_millis(50)))?;
     let answer = client.read(&mut buffer);
-    assert!(rt; answer.is_err());
+    holds!(rt; answer.is_err());
     Ok(())
 }
 
@@ -97,8 +97,8 @@ fn an_accept_may_be_slow(rt: HostRuntime) -> Result<(), Fail> {
     let begun = Instant::now(&rt)?;
     assert_nobody(&rt, &mut links, 0, 0);
     let waited = begun.elapsed(&rt)?;
-    assert!(rt; waited >= Duration::from_millis(WAIT_MILLISECONDS));
-    assert!(rt; waited < Duration::from_millis(4 * WAIT_MILLISECONDS));
+    holds!(&rt; waited >= Duration::from_millis(WAIT_MILLISECONDS));
+    holds!(&rt; waited < Duration::from_millis(4 * WAIT_MILLISECONDS));
     let mut client = call(&rt, &links, (0, 0), b"VERS")?;
     assert_nobody(&rt, &mut links, 0, 0);
     client.write_all(b"ION:2.0.0\r\n")?;
@@ -154,8 +154,8 @@ fn a_closed_port_lets_go_of_those_held(rt: HostRuntime) -> Result<(), Fail> {
     assert_nobody(&rt, &mut links, 0, 0);
     links.close_node(0);
     assert_ended(&rt, &mut silent)?;
-    assert!(rt; links.accept(0, 0) == Err(LinkFault::Failed));
-    assert!(rt; links.open(0) == Ok(()));
+    holds!(&rt; links.accept(0, 0) == Err(LinkFault::Failed));
+    holds!(&rt; links.open(0) == Ok(()));
     let _client = call(&rt, &links, (0, 0), VERSION)?;
     assert_seated(&rt, &mut links, (0, 0), VERSION);
     Ok(())
@@ -175,13 +175,13 @@ fn slow_links(alloc: Global, call: u64) -> Result<MemoryLinks, AllocError> {
 fn a_call_of_links_in_memory_may_be_slow(rt: HostRuntime) -> Result<(), Fail> {
     let mut links = slow_links(rt.alloc(), 1)?;
     assert_nobody(&rt, &mut links, 0, 0);
-    assert!(rt; links.slowed() == Some(Reached::Seat));
+    holds!(&rt; links.slowed() == Some(Reached::Seat));
     assert_seated(&rt, &mut links, (0, 0), b"one\n");
     let mut links = slow_links(rt.alloc(), 2)?;
-    assert!(rt; links.accept(0, 0) == Ok(()));
+    holds!(&rt; links.accept(0, 0) == Ok(()));
     assert_slow(&rt, &mut links, 0, 0);
     assert_piece(&rt, &mut links, (0, 0), b"one\n");
     assert_piece(&rt, &mut links, (0, 0), b"two\n");
-    assert!(rt; links.failed().is_none());
+    holds!(&rt; links.failed().is_none());
     Ok(())
 }

@@ -1,6 +1,6 @@
 //! What the record has of the match in which node 0, which leads, is lost after the first deal.
 
-use crate::samples::{assert_bytes, assert_same};
+use crate::samples::{assert_bytes, assert_same, holds};
 use dealer_world::{Cluster, What};
 use promise_store::Disk;
 use std::process::Abort;
@@ -66,6 +66,6 @@ pub(crate) fn assert_forward_lost<D: Disk + Drop>(rt: &impl Abort, cluster: &Clu
     assert!(rt; number < usize::MAX - 2);
     assert_sent(rt, cluster, number + 1, 0, PREPARE_OF_NODE_1);
     assert_sent(rt, cluster, number + 2, 2, PREPARE_OF_NODE_1);
-    assert!(rt; !reached(cluster, 0, FORWARD));
-    assert!(rt; reached(cluster, 2, PREPARE_OF_NODE_1));
+    holds!(rt; !reached(cluster, 0, FORWARD));
+    holds!(rt; reached(cluster, 2, PREPARE_OF_NODE_1));
 }

@@ -1,5 +1,5 @@
-use crate::peer::{Peer, assert_sent, assert_shown};
-use crate::samples::{PREPARE, PROMISE, assert_same};
+use crate::peer::{Peer, assert_shown};
+use crate::samples::{PROMISE, assert_same, holds};
 use dealer_node::{MostShown, NodeFault, Out, Reader};
 use std::alloc::{AllocError, Global};
 use std::process::Abort;
@@ -21,40 +21,12 @@ const FOLD: &[u8] =
 
 /// Asserts that a node starts.
 fn assert_starts(rt: &impl Abort, peer: &mut Peer, out: &mut Out) {
-    assert!(rt; peer.start(out).is_ok());
+    holds!(rt; peer.start(out).is_ok());
 }
 
 /// Asserts that a node takes a frame of node 1.
 fn assert_hears_1(rt: &impl Abort, peer: &mut Peer, bytes: &[u8], out: &mut Out) {
-    assert!(rt; peer.hear_1(bytes, out).is_ok());
-}
-
-/// Asserts that a node that is down refuses a tick, and that it logs the header when it starts.
-fn assert_header(rt: &impl Abort, alloc: Global, peer: &mut Peer) {
-    let mut out = Out::new(alloc);
-    assert!(rt; peer.tick(&mut out) == Err(NodeFault::Down));
-    assert_starts(rt, peer, &mut out);
-    assert!(rt; peer.node.running());
-    assert_same(rt, peer.node.front(), 0);
-    assert_shown(rt, &out, &[(Reader::Log, HEADER)]);
-    assert_sent(rt, &out, &[]);
-}
-
-/// Asserts that a tick asks the others for promises.
-fn assert_asks(rt: &impl Abort, alloc: Global, peer: &mut Peer) {
-    let mut out = Out::new(alloc);
-    assert!(rt; peer.tick(&mut out).is_ok());
-    assert_sent(rt, &out, &[(1, PREPARE), (2, PREPARE)]);
-}
-
-/// A node that starts logs the header, and its first tick asks the others for promises.
-#[test]
-fn a_tick_asks_for_promises(rt: HostRuntime) -> Result<(), Fail> {
-    let alloc = rt.alloc();
-    let mut peer = Peer::created(&rt, alloc)?;
-    assert_header(&rt, alloc, &mut peer);
-    assert_asks(&rt, alloc, &mut peer);
-    Ok(())
+    holds!(rt; peer.hear_1(bytes, out).is_ok());
 }
 
 /// Asserts that a node that starts and hears that a deal and a fold were chosen logs the header and the hand.
@@ -78,18 +50,18 @@ fn the_header_and_the_log_of_a_fold_are_shown(rt: HostRuntime) -> Result<(), Fai
 
 /// Asserts that bob's seat can connect once a node has started, and that it isn't connected by that alone.
 fn assert_calls(rt: &impl Abort, peer: &mut Peer, out: &mut Out) {
-    assert!(rt; peer.connect_bob() == Err(NodeFault::Down));
+    holds!(rt; peer.connect_bob() == Err(NodeFault::Down));
     assert_starts(rt, peer, out);
-    assert!(rt; peer.connect_bob().is_ok());
-    assert!(rt; peer.connected() == (false, false));
+    holds!(rt; peer.connect_bob().is_ok());
+    holds!(rt; peer.connected() == (false, false));
 }
 
 /// Asserts that bob's seat is connected when it has named the version, and no longer when it is dropped.
 fn assert_connects(rt: &impl Abort, peer: &mut Peer, out: &mut Out) {
-    assert!(rt; peer.hear_bob(b"VERSION:2.0.0\r\n", out).is_ok());
-    assert!(rt; peer.connected() == (true, false));
-    assert!(rt; peer.drop_bob().is_ok());
-    assert!(rt; peer.connected() == (false, false));
+    holds!(rt; peer.hear_bob(b"VERSION:2.0.0\r\n", out).is_ok());
+    holds!(rt; peer.connected() == (true, false));
+    holds!(rt; peer.drop_bob().is_ok());
+    holds!(rt; peer.connected() == (false, false));
 }
 
 /// A seat is connected from when it has named the version until it is dropped, and the others stay as they are.
@@ -111,7 +83,7 @@ fn an_order_where_no_hand_runs_wants_no_memory(rt: HostRuntime) -> Result<(), Fa
     let mut peer = Peer::created(&rt, alloc)?;
     let mut out = Out::new(alloc);
     peer.start(&mut out)?;
-    assert!(rt; peer.away(&mut out) == Err(NodeFault::NothingToAct));
+    holds!(&rt; peer.away(&mut out) == Err(NodeFault::NothingToAct));
     Ok(())
 }
 

@@ -2,7 +2,7 @@
 //! off before, and that their match goes on.
 
 use crate::rounds::{Course, Step, opened_over, run, start_again};
-use crate::samples::assert_bytes;
+use crate::samples::{assert_bytes, holds};
 use dealer_world::Cluster;
 use promise_store::{Disk, MemoryDisk, Store};
 use std::alloc::{AllocError, Global};
@@ -157,7 +157,7 @@ fn assert_goes_on_with(rt: &impl Abort, alloc: Global, pick: u64) -> Result<(), 
         match broken_off(alloc, calls, pick)? {
             None => {
                 // A sync, a length, a reading and the four calls of an append are there to be broken off.
-                assert!(rt; calls > 6);
+                holds!(rt; calls > 6);
                 return Ok(());
             }
             Some(disk) => assert_goes_on(rt, alloc, disk)?,

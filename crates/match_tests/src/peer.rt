@@ -3,8 +3,8 @@
 ghost use Rattle.std.specs.Prelude.{◌≡◌};
 ghost use Rattle.dealer_node.specs.Seeing.{member_in};
 
-use crate::samples::one_hand;
-use dealer_node::{Node, NodeFault, Out, Reader, Reading};
+use crate::samples::{holds, one_hand};
+use dealer_node::{Node, NodeFault, Out, Reader};
 use promise_store::OnceDisk;
 use std::alloc::Global;
 use std::process::Abort;
@@ -83,24 +83,11 @@ impl Peer {
     }
 }
 
-/// Asserts that these bytes are read, each for whom it is due, and no others.
-fn assert_read<T: Copy + PartialEq + Drop>(
-    rt: &impl Abort,
-    mut read: Reading<'_, T>,
-    due: &[(T, &[u8])],
-) {
-    for (whom, bytes) in due.iter() {
-        assert!(rt; read.next() == Some((*whom, *bytes)));
-    }
-    assert!(rt; read.next().is_none());
-}
-
-/// Asserts that these frames were sent, each to its node, and no others.
-pub(crate) fn assert_sent(rt: &impl Abort, out: &Out, due: &[(u8, &[u8])]) {
-    assert_read(rt, out.frames(), due);
-}
-
 /// Asserts that these texts were shown, each to its reader, and no others.
 pub(crate) fn assert_shown(rt: &impl Abort, out: &Out, due: &[(Reader, &[u8])]) {
-    assert_read(rt, out.shown(), due);
+    let mut shown = out.shown();
+    for (reader, text) in due.iter() {
+        holds!(rt; shown.next() == Some((*reader, *text)));
+    }
+    holds!(rt; shown.next().is_none());
 }

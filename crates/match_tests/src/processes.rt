@@ -9,7 +9,7 @@ ghost use Rattle.std.specs.Prelude.{◌≡◌, ◌<◌, ℕ};
 ghost use Rattle.dealer_world.specs.Events.{node_of};
 ghost use Rattle.dealer_world.specs.Stepping.{IsFor};
 
-use crate::samples::{assert_bytes_of, assert_holds, own_deals};
+use crate::samples::{assert_bytes_of, assert_holds, holds, own_deals};
 use dealer_node::{NodeFault, Out, Reader};
 use dealer_world::Event;
 use promise_store::{Disk, MemoryDisk};
@@ -249,7 +249,7 @@ fn settle(
         Ok(()) => hand_on(rt, all, number),
         Err(NodeFault::Store(_)) => bury(rt, all, number),
         Err(fault) => {
-            assert!(rt; fault == NodeFault::NothingToAct);
+            holds!(rt; fault == NodeFault::NothingToAct);
             Ok(())
         }
     }
@@ -387,7 +387,7 @@ fn are_over(all: &Processes) -> bool {
 /// Asserts that a log is that of the whole match.
 fn assert_whole(rt: &impl Abort, alloc: Global, log: &[u8]) -> Result<(), AllocError> {
     let config = own_deals(rt, alloc, 3)?;
-    assert!(rt; match_log::check(log, config.game()).is_ok());
+    holds!(rt; match_log::check(log, config.game()).is_ok());
     Ok(())
 }
 

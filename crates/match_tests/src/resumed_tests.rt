@@ -2,9 +2,9 @@
 //! before one does. Then all commands are learned by one call, and the seats are told all of them in one turn.
 
 use crate::course::{
-    Course, Ending, TURNS, VERSION, assert_places, course_after, ending_by, no_outages,
+    Course, Ending, TURNS, VERSION, assert_places, course_after, ending_by, no_outages, turn,
 };
-use crate::samples::{assert_bytes, assert_same, same_deals};
+use crate::samples::{assert_bytes, assert_same, holds, same_deals};
 use dealer_node::NodeFault;
 use dealer_world::Cluster;
 use match_file::Absent;
@@ -127,7 +127,7 @@ fn serve<D: Disk + Drop>(server: &mut Server<D, MemoryLinks>) -> (Ending, usize)
     let mut most = 0usize;
     for _ in 0..TURNS {
         let before = line_count(server);
-        let ending = ending_by(server.turn(), &mut starts);
+        let ending = ending_by(turn(server), &mut starts);
         most = most.max(line_count(server).saturating_sub(before));
         if let Some(ending) = ending {
             return (ending, most);
@@ -138,7 +138,7 @@ fn serve<D: Disk + Drop>(server: &mut Server<D, MemoryLinks>) -> (Ending, usize)
 
 /// Asserts that the match came to its end, and where no disk failed that both seats were told all of it in one turn.
 fn assert_told(rt: &impl Abort, course: &Course, most: usize) {
-    assert!(rt; matches!(course.ending, Ending::Over { starts } if starts == course.failures));
+    holds!(rt; matches!(course.ending, Ending::Over { starts } if starts == course.failures));
     if course.failures == 0 {
         assert_bytes(rt, course.told.as_slice(), TOLD);
         assert_same(rt, most, LINES);

@@ -1,7 +1,10 @@
 //! A match of one hand, played on a cluster one step at a time, and what is due of it then.
 
-use crate::samples;
-use crate::samples::{assert_bytes, assert_same, deal, one_hand};
+ghost use Rattle.std.specs.Prelude.{IsTrue};
+ghost use Rattle.dealer_world.specs.Promise.{IsForMatch};
+ghost use Rattle.dealer_world.specs.Viewing.{view_of};
+
+use crate::samples::{assert_bytes, assert_same, deal, holds, one_hand};
 use card_core::Deal;
 use dealer_node::NodeFault;
 use dealer_world::{Begun, Cluster, Event, What};
@@ -20,8 +23,6 @@ pub(crate) enum Step<'a> {
     /// A round of a leader and others who together are a majority: its tick, then all Prepares, all Promises, all
     /// Accepts and all Accepteds between it and the others.
     Round(u8, &'a [u8]),
-    /// A tick of node 0 and the first round of it with node 1, given at once.
-    FirstRound,
     /// The node stops.
     Stop(u8),
     /// A new session of a seat begins at the node.
@@ -57,61 +58,39 @@ const ACCEPT: u8 = 4;
 
 const ACCEPTED: u8 = 5;
 
-/// Gives a node a tick.
-fn tick<D: Disk + Drop>(
-    rt: &impl Abort,
-    cluster: &mut Cluster<D>,
-    node: u8,
-) -> Result<(), NodeFault> {
-    assert!(rt; (node as usize) < cluster.node_count());
-    cluster.step(&Event::Tick { node })
+/// Whether the nodes and the seat of an event are of a cluster's match.
+fn is_for<D: Disk + Drop>(cluster: &Cluster<D>, event: &Event) -> bool
+    ensures { IsTrue result → IsForMatch (view_of cluster.now).config event.now }
+{
+    let nodes = cluster.node_count();
+    let players = cluster.config().game().players();
+    match event {
+        Event::Frame { from, to, .. } => (*from as usize) < nodes && (*to as usize) < nodes,
+        Event::Line { node, seat, .. }
+        | Event::Connect { node, seat }
+        | Event::Drop { node, seat } => (*node as usize) < nodes && (*seat as usize) < players,
+        Event::Tick { node }
+        | Event::Away { node }
+        | Event::Stop { node, .. }
+        | Event::Start { node } => (*node as usize) < nodes,
+    }
 }
 
-/// Stops a node.
-fn stop<D: Disk + Drop>(
-    rt: &impl Abort,
-    cluster: &mut Cluster<D>,
-    node: u8,
-) -> Result<(), NodeFault> {
-    assert!(rt; (node as usize) < cluster.node_count());
-    cluster.step(&Event::Stop { node, pick: 0 })
+/// Asserts that an event is of a cluster's match.
+pub(crate) fn assert_for<D: Disk + Drop>(rt: &impl Abort, cluster: &Cluster<D>, event: &Event)
+    ensures { IsForMatch (view_of cluster.now).config event.now }
+{
+    assert!(rt; is_for(cluster, event));
 }
 
-/// Starts a node.
-fn start<D: Disk + Drop>(
+/// Gives an event to its node. Here alone a step is taken, so that its contract is read once.
+pub(crate) fn give<D: Disk + Drop>(
     rt: &impl Abort,
     cluster: &mut Cluster<D>,
-    node: u8,
+    event: &Event,
 ) -> Result<(), NodeFault> {
-    assert!(rt; (node as usize) < cluster.node_count());
-    cluster.step(&Event::Start { node })
-}
-
-/// Begins a session of a seat at a node.
-fn connect<D: Disk + Drop>(
-    rt: &impl Abort,
-    cluster: &mut Cluster<D>,
-    node: u8,
-    seat: u8,
-) -> Result<(), NodeFault> {
-    assert!(rt; (node as usize) < cluster.node_count());
-    assert!(rt; (seat as usize) < cluster.config().game().players());
-    cluster.step(&Event::Connect { node, seat })
-}
-
-/// Brings a node bytes of a seat.
-fn say<D: Disk + Drop>(
-    rt: &impl Abort,
-    alloc: Global,
-    cluster: &mut Cluster<D>,
-    node: u8,
-    seat: u8,
-    bytes: &[u8],
-) -> Result<(), NodeFault> {
-    let bytes = bytes.to_vec(alloc)?;
-    assert!(rt; (node as usize) < cluster.node_count());
-    assert!(rt; (seat as usize) < cluster.config().game().players());
-    cluster.step(&Event::Line { node, seat, bytes })
+    assert_for(rt, cluster, event);
+    cluster.step(event)
 }
 
 /// Stops a node and starts it.
@@ -120,24 +99,45 @@ pub(crate) fn start_again<D: Disk + Drop>(
     cluster: &mut Cluster<D>,
     node: u8,
 ) -> Result<(), NodeFault> {
-    stop(rt, cluster, node)?;
-    start(rt, cluster, node)
+    give(rt, cluster, &Event::Stop { node, pick: 0 })?;
+    give(rt, cluster, &Event::Start { node })
 }
 
-/// Delivers the frame of this number, counted from 0 in the order of sending.
+/// The delivery of the frame of this number, counted from 0 in the order of sending.
+fn delivery<D: Disk + Drop>(
+    rt: &impl Abort,
+    alloc: Global,
+    cluster: &Cluster<D>,
+    number: usize,
+) -> Result<Event, AllocError> {
+    let frame = cluster.frame(number).expect(rt, "a frame that was sent");
+    Ok(Event::Frame {
+        from: frame.from,
+        to: frame.to,
+        bytes: frame.bytes.to_vec(alloc)?,
+    })
+}
+
+/// Delivers the frame of this number.
 fn deliver<D: Disk + Drop>(
     rt: &impl Abort,
     alloc: Global,
     cluster: &mut Cluster<D>,
     number: usize,
 ) -> Result<(), NodeFault> {
-    let frame = cluster.frame(number).expect(rt, "a frame that was sent");
-    let from = frame.from;
-    let to = frame.to;
-    let bytes = frame.bytes.to_vec(alloc)?;
-    assert!(rt; (from as usize) < cluster.node_count());
-    assert!(rt; (to as usize) < cluster.node_count());
-    cluster.step(&Event::Frame { from, to, bytes })
+    let event = delivery(rt, alloc, cluster, number)?;
+    give(rt, cluster, &event)
+}
+
+/// Brings a node bytes of a seat.
+fn say<D: Disk + Drop>(
+    rt: &impl Abort,
+    cluster: &mut Cluster<D>,
+    node: u8,
+    seat: u8,
+    bytes: Vec<u8>,
+) -> Result<(), NodeFault> {
+    give(rt, cluster, &Event::Line { node, seat, bytes })
 }
 
 /// The number of the newest frame of a kind from a node to another; none where there is none.
@@ -173,7 +173,7 @@ fn round<D: Disk + Drop>(
     leader: u8,
     others: &[u8],
 ) -> Result<(), NodeFault> {
-    tick(rt, cluster, leader)?;
+    give(rt, cluster, &Event::Tick { node: leader })?;
     for kind in [PREPARE, PROMISE, ACCEPT, ACCEPTED] {
         let leads = kind == PREPARE || kind == ACCEPT;
         for other in others.iter() {
@@ -188,56 +188,6 @@ fn round<D: Disk + Drop>(
     Ok(())
 }
 
-/// The frames of the first round of node 0 with node 1.
-fn frames_of_first_round(alloc: Global) -> Result<[Vec<u8>; 4], AllocError> {
-    Ok([
-        samples::PREPARE.to_vec(alloc)?,
-        samples::PROMISE.to_vec(alloc)?,
-        samples::ACCEPT.to_vec(alloc)?,
-        samples::ACCEPTED.to_vec(alloc)?,
-    ])
-}
-
-/// Gives a tick of node 0 and the frames of its first round with node 1 at once.
-fn run_at_once<D: Disk + Drop>(rt: &impl Abort, cluster: &mut Cluster<D>, frames: [Vec<u8>; 4]) {
-    assert!(rt; cluster.node_count() == 3);
-    let [prepare, promise, accept, accepted] = frames;
-    let events = [
-        Event::Tick { node: 0 },
-        Event::Frame {
-            from: 0,
-            to: 1,
-            bytes: prepare,
-        },
-        Event::Frame {
-            from: 1,
-            to: 0,
-            bytes: promise,
-        },
-        Event::Frame {
-            from: 0,
-            to: 1,
-            bytes: accept,
-        },
-        Event::Frame {
-            from: 1,
-            to: 0,
-            bytes: accepted,
-        },
-    ];
-    assert!(rt; cluster.run(&events).is_ok());
-}
-
-/// Gives a tick of node 0 and its first round with node 1 at once.
-fn run_first_round<D: Disk + Drop>(
-    rt: &impl Abort,
-    alloc: Global,
-    cluster: &mut Cluster<D>,
-) -> Result<(), NodeFault> {
-    run_at_once(rt, cluster, frames_of_first_round(alloc)?);
-    Ok(())
-}
-
 /// Does a step.
 fn do_step<D: Disk + Drop>(
     rt: &impl Abort,
@@ -246,13 +196,12 @@ fn do_step<D: Disk + Drop>(
     step: Step<'_>,
 ) -> Result<(), NodeFault> {
     match step {
-        Step::Tick(node) => tick(rt, cluster, node),
+        Step::Tick(node) => give(rt, cluster, &Event::Tick { node }),
         Step::Deliver(number) => deliver(rt, alloc, cluster, number),
         Step::Round(leader, others) => round(rt, alloc, cluster, leader, others),
-        Step::FirstRound => run_first_round(rt, alloc, cluster),
-        Step::Stop(node) => stop(rt, cluster, node),
-        Step::Connect(node, seat) => connect(rt, cluster, node, seat),
-        Step::Say(node, seat, bytes) => say(rt, alloc, cluster, node, seat, bytes),
+        Step::Stop(node) => give(rt, cluster, &Event::Stop { node, pick: 0 }),
+        Step::Connect(node, seat) => give(rt, cluster, &Event::Connect { node, seat }),
+        Step::Say(node, seat, bytes) => say(rt, cluster, node, seat, bytes.to_vec(alloc)?),
     }
 }
 
@@ -281,7 +230,7 @@ fn assert_sent<D: Disk + Drop>(rt: &impl Abort, cluster: &Cluster<D>, due: &Due<
 fn assert_arrived<D: Disk + Drop>(rt: &impl Abort, cluster: &Cluster<D>, due: &Due<'_>) {
     let (number, (sender, receiver), bytes, sent_before) = *due;
     let arrival = cluster.arrival(number).expect(rt, "a frame that came");
-    assert!(rt;
+    holds!(rt;
         matches!(arrival.what, What::Frame { from, to } if from == sender && to == receiver)
     );
     assert_bytes(rt, arrival.bytes, bytes);
@@ -292,7 +241,7 @@ fn assert_arrived<D: Disk + Drop>(rt: &impl Abort, cluster: &Cluster<D>, due: &D
 fn assert_deal(rt: &impl Abort, dealt: Option<&Deal>, owner: Option<usize>) {
     match (dealt, owner) {
         (None, None) => {}
-        (Some(dealt), Some(owner)) => assert!(rt; dealt.is_same(&deal(rt, owner))),
+        (Some(dealt), Some(owner)) => holds!(rt; dealt.is_same(&deal(rt, owner))),
         _ => assert!(rt; false),
     }
 }

@@ -1,12 +1,11 @@
 //! Events that a cluster is given at once, and the rest of them once more where it found no memory.
 
-ghost use Rattle.std.specs.Prelude.{IsTrue};
 ghost use Rattle.std.specs.List.{All};
 ghost use Rattle.dealer_world.specs.Promise.{IsForMatch};
 ghost use Rattle.dealer_world.specs.Viewing.{view_of};
 
-use crate::rounds::{cluster_over, disks};
-use crate::samples::{ACCEPT, ACCEPTED, PREPARE, PROMISE, assert_bytes, assert_same};
+use crate::rounds::{assert_for, cluster_over, disks, give};
+use crate::samples::{ACCEPT, ACCEPTED, PREPARE, PROMISE, assert_bytes, assert_same, holds};
 use dealer_node::{NodeFault, is_out_of_memory};
 use dealer_world::{Arrival, Cluster, Event, Frame, Piece, Stopped, What};
 use promise_store::Disk;
@@ -59,32 +58,7 @@ fn match_of_a_fold(alloc: Global) -> Result<[Event; 10], AllocError> {
     ])
 }
 
-/// Whether the nodes and the seat of an event are of a cluster's match.
-fn is_for<D: Disk + Drop>(cluster: &Cluster<D>, event: &Event) -> bool
-    ensures { IsTrue result → IsForMatch (view_of cluster.now).config event.now }
-{
-    let nodes = cluster.node_count();
-    let players = cluster.config().game().players();
-    match event {
-        Event::Frame { from, to, .. } => (*from as usize) < nodes && (*to as usize) < nodes,
-        Event::Line { node, seat, .. }
-        | Event::Connect { node, seat }
-        | Event::Drop { node, seat } => (*node as usize) < nodes && (*seat as usize) < players,
-        Event::Tick { node }
-        | Event::Away { node }
-        | Event::Stop { node, .. }
-        | Event::Start { node } => (*node as usize) < nodes,
-    }
-}
-
-/// Asserts that an event is of a cluster's match.
-fn assert_for<D: Disk + Drop>(rt: &impl Abort, cluster: &Cluster<D>, event: &Event)
-    ensures { IsForMatch (view_of cluster.now).config event.now }
-{
-    assert!(rt; is_for(cluster, event));
-}
-
-/// Asserts the same of events.
+/// Asserts that events are of a cluster's match.
 fn assert_all_for<D: Disk + Drop>(rt: &impl Abort, cluster: &Cluster<D>, events: &[Event])
     ensures { All (IsForMatch (view_of cluster.now).config) events.now }
 {
@@ -93,21 +67,11 @@ fn assert_all_for<D: Disk + Drop>(rt: &impl Abort, cluster: &Cluster<D>, events:
     }
 }
 
-/// Gives an event to its node.
-fn step<D: Disk + Drop>(
-    rt: &impl Abort,
-    cluster: &mut Cluster<D>,
-    event: &Event,
-) -> Result<(), NodeFault> {
-    assert_for(rt, cluster, event);
-    cluster.step(event)
-}
-
 /// Gives events to their nodes one by one; an event that finds no memory is given once more.
 fn step_all<D: Disk + Drop>(rt: &impl Abort, cluster: &mut Cluster<D>, events: &[Event]) {
     for event in events.iter() {
-        if is_out_of_memory(step(rt, cluster, event)) {
-            let _ = step(rt, cluster, event);
+        if is_out_of_memory(give(rt, cluster, event)) {
+            let _ = give(rt, cluster, event);
         }
     }
 }
@@ -133,7 +97,7 @@ fn run_on<D: Disk + Drop>(
         Ok(()) => None,
         Err(stop) => {
             let rest = events.get(stop.at..).expect(rt, "it stopped at an event");
-            assert!(rt; run(rt, cluster, rest).is_ok());
+            holds!(rt; run(rt, cluster, rest).is_ok());
             Some(stop.at)
         }
     }
@@ -153,7 +117,7 @@ fn assert_same_frame(rt: &impl Abort, found: Frame<'_>, due: Frame<'_>) {
 /// Asserts that two pieces are one.
 fn assert_same_piece(rt: &impl Abort, found: Piece<'_>, due: Piece<'_>) {
     assert_same(rt, (found.node, found.start), (due.node, due.start));
-    assert!(rt; found.reader == due.reader);
+    holds!(rt; found.reader == due.reader);
     assert_bytes(rt, found.text, due.text);
 }
 

@@ -137,6 +137,20 @@ pub(crate) fn assert_bytes_of(rt: &impl Abort, number: u64, found: &[u8], due: &
     assert_eq!(rt; found, due, "number {number}");
 }
 
+/// Sees that a condition holds.
+pub(crate) fn assert_that(rt: &impl Abort, asked: &str, holds: bool) {
+    assert!(rt; holds, "{asked}");
+}
+
+/// As `assert!`, for whatever nothing behind it rests on: that is dear to prove wherever it stands.
+macro_rules! holds {
+    ($rt:expr; $condition:expr) => {
+        $crate::samples::assert_that($rt, stringify!($condition), $condition)
+    };
+}
+
+pub(crate) use holds;
+
 /// This holds of the match of this number.
 pub(crate) fn assert_holds(rt: &impl Abort, number: u64, holds: bool) {
     assert!(rt; holds, "number {number}");

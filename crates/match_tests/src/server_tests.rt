@@ -3,7 +3,7 @@ use crate::course::{
     logs_without, no_outages, outage, play, server,
 };
 use crate::lost_leader::assert_forward_lost;
-use crate::samples::{assert_bytes, assert_holds, assert_same};
+use crate::samples::{assert_bytes, assert_holds, assert_same, holds};
 use dealer_node::NodeFault;
 use match_links::{MemoryLinks, Reached};
 use promise_store::{MemoryDisk, OnceDisk, StoreFault};
@@ -141,7 +141,7 @@ fn played_without_node_0(rt: &impl Abort, alloc: Global) -> Result<Option<Course
 
 /// Asserts that the match is over without a start, and that it was told and logged as it is without node 0.
 fn assert_outlived(rt: &impl Abort, alloc: Global, course: &Course) -> Result<(), AllocError> {
-    assert!(rt; matches!(course.ending, Ending::Over { starts: 0 }));
+    holds!(rt; matches!(course.ending, Ending::Over { starts: 0 }));
     assert_bytes(rt, course.told.as_slice(), TOLD);
     assert_bytes(
         rt,
@@ -292,7 +292,7 @@ fn goes_on(rt: &impl Abort, failing: Failing, within: &mut u32) -> bool {
             true
         }
         Failing::Nowhere => {
-            assert!(rt; *within >= 4);
+            holds!(rt; *within >= 4);
             false
         }
     }
@@ -382,7 +382,7 @@ fn a_disk_that_stays_broken_is_told(rt: HostRuntime) -> Result<(), Fail> {
     let alloc = rt.alloc();
     for calls in 0..200u64 {
         if !stays_broken(&rt, alloc, calls)? {
-            assert!(rt; calls >= 20);
+            holds!(&rt; calls >= 20);
             return Ok(());
         }
     }

@@ -1,7 +1,7 @@
 //! The match about an outage, one call of a link of which is slow.
 
-use crate::course::{Answer, TURNS, bots_everywhere, disks, logs, outage, server, told};
-use crate::samples::{assert_bytes_of, assert_holds, assert_same};
+use crate::course::{Answer, TURNS, bots_everywhere, disks, logs, outage, server, told, turn};
+use crate::samples::{assert_bytes_of, assert_holds, assert_same, holds};
 use match_links::{Links, MemoryLinks, Reached};
 use promise_store::Disk;
 use serving::{Server, Turn};
@@ -31,7 +31,7 @@ fn answers<D: Disk + Drop, L: Links + Drop>(
 ) -> Result<Vec<Answer>, AllocError> {
     let mut answers = Vec::new(alloc);
     for _ in 0..TURNS {
-        let answer = server.turn();
+        let answer = turn(server);
         answers.push(answer)?;
         if is_last(answer) {
             break;
@@ -175,7 +175,7 @@ fn slows_at(
 ) -> Result<Slowness, AllocError> {
     match served(rt, alloc, 0, call)? {
         None => {
-            assert!(rt; served(rt, alloc, call, 0)?.is_none());
+            holds!(rt; served(rt, alloc, call, 0)?.is_none());
             Ok(Slowness::Failed)
         }
         Some(found) => assert_slow(rt, alloc, call, found, calm),

@@ -2,8 +2,10 @@
 
 ghost use Rattle.std.specs.Prelude.{◌≡◌};
 
-use crate::course::{TURNS, assert_whole, bots_everywhere, disks, logs, no_outages, server, told};
-use crate::samples::{assert_bytes_of, assert_same};
+use crate::course::{
+    TURNS, assert_whole, bots_everywhere, disks, logs, no_outages, server, told, turn,
+};
+use crate::samples::{assert_bytes_of, assert_same, holds};
 use crate::server_tests::TOLD_AT_NODE_0;
 use dealer_node::NodeFault;
 use match_links::{LinkFault, Links, MemoryLinks};
@@ -105,7 +107,7 @@ fn wants_until_over<D: Disk + Drop, L: Links + Drop>(
 ) -> u32 {
     let mut wants = 0u32;
     for _ in 0..TURNS {
-        match server.turn() {
+        match turn(server) {
             Ok(Turn::Over) => return wants,
             Ok(_) => {}
             Err(ServeFault::Node(NodeFault::OutOfMemory)) => wants = wants.saturating_add(1),
@@ -149,7 +151,7 @@ fn each_wait_finds_no_memory_in_turn(rt: HostRuntime) -> Result<(), Fail> {
     for wait in 0..1_000u64 {
         let wants = wants_at(&rt, alloc, wait)?;
         if wants == 0 {
-            assert!(rt; wait >= 6);
+            holds!(&rt; wait >= 6);
             return Ok(());
         }
         assert_same(&rt, wants, 1);
