@@ -5,7 +5,7 @@ ghost use Rattle.paxos_wire.specs.Fits.{IsBallot};
 
 use crate::acceptors::{THIRD, accepts, created_in_memory, opened, prepare, prepares};
 use crate::journal::{FIRST, commands, written_and_synced};
-use crate::samples::{CALL, assert_same};
+use crate::samples::{CALL, assert_same, holds};
 use acceptor::{AcceptAnswer, Acceptor, PrepareAnswer, RunAnswer};
 use paxos_wire::{Ballot, CommandList, Entries, Entry};
 use promise_store::{Disk, MemoryDisk, StoreFault};
@@ -47,7 +47,7 @@ fn are_accepted(
     assert_same(rt, (of, at), (ballot, slot));
     assert!(rt; count <= 64);
     let expected = commands(rt, bytes, count);
-    assert!(rt; found == expected.as_slice());
+    holds!(rt; found == expected.as_slice());
 }
 
 /// Sees what is answered to a run of proposals in a ballot from a slot on.
@@ -301,7 +301,7 @@ fn a_run_over_what_is_stored_in_part(rt: HostRuntime) -> Result<(), Fail> {
 
 /// Promises the third ballot.
 fn promises_third<D: Disk>(rt: &impl Abort, acceptor: &mut Acceptor<D>) {
-    assert!(rt; prepare(acceptor, THIRD, 0).is_ok());
+    holds!(rt; prepare(acceptor, THIRD, 0).is_ok());
 }
 
 /// Below the third ballot the five are refused, by their first slot; in it the disk fails, and the store is closed then.

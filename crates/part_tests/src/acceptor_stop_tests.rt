@@ -1,6 +1,6 @@
 use crate::acceptors::{THIRD, accept, accepts, created, opened, prepare, prepares, promised};
 use crate::journal::{self, FIRST};
-use crate::samples::{CALL, FOLD, assert_same};
+use crate::samples::{CALL, FOLD, assert_same, holds};
 use acceptor::{AcceptAnswer, Acceptor, PrepareAnswer};
 use paxos_wire::Ballot;
 use promise_store::{Disk, MemoryDisk, OnceDisk, StoreFault};
@@ -104,7 +104,7 @@ fn is_left_for_certain(rt: &impl Abort, alloc: Global, pick: u64) -> Result<(), 
 fn is_kept(rt: &impl Abort, alloc: Global, calls: u64, pick: u64) -> Result<bool, Fail> {
     match left_of_a_prepare(rt, alloc, calls, pick)? {
         Some((false, is_there, is_accepted)) => {
-            assert!(rt; is_there != is_accepted);
+            holds!(rt; is_there != is_accepted);
             Ok(is_there)
         }
         _ => panic!(rt; "a promise that isn't stored"),
@@ -127,8 +127,8 @@ fn stops_in_a_promise(rt: HostRuntime) -> Result<(), Fail> {
             }
         }
     }
-    assert!(rt; kept);
-    assert!(rt; lost);
+    holds!(&rt; kept);
+    holds!(&rt; lost);
     Ok(())
 }
 
@@ -222,7 +222,7 @@ fn refuses_below<D: Disk>(rt: &impl Abort, acceptor: &mut Acceptor<D>) {
 
 /// An Accept in the third ballot is answered.
 fn accepts_again<D: Disk>(rt: &impl Abort, acceptor: &mut Acceptor<D>) {
-    assert!(rt; accept(acceptor, THIRD, 0, CALL).is_ok());
+    holds!(rt; accept(acceptor, THIRD, 0, CALL).is_ok());
 }
 
 /// Whether a call is accepted in the third ballot; where a call of the disk fails, that is counted, and a ballot below is
@@ -293,7 +293,7 @@ fn keeps_both(
 fn fails_once(rt: &impl Abort, alloc: Global, call: u64) -> Result<u32, StoreFault> {
     let mut faults = 0;
     let disk = OnceDisk::new(alloc, call);
-    assert!(rt; disk.bytes().is_empty());
+    holds!(rt; disk.bytes().is_empty());
     let acceptor = created_at_last(rt, alloc, disk, &mut faults);
     let acceptor = opened_at_last(rt, alloc, acceptor, &mut faults);
     let acceptor = promised_at_last(rt, alloc, acceptor, &mut faults)?;
@@ -312,7 +312,7 @@ fn each_call_fails_once(rt: HostRuntime) -> Result<(), Fail> {
     for call in 1..1_000u64 {
         let faults = fails_once(&rt, alloc, call)?;
         if faults == 0 {
-            assert!(rt; call > 13);
+            holds!(&rt; call > 13);
             return Ok(());
         }
         assert_same(&rt, faults, 1);

@@ -4,7 +4,7 @@ use crate::acceptors::{
     THIRD, accept, accepts, created_in_memory, opened, prepare, prepares, promised,
 };
 use crate::journal::FIRST;
-use crate::samples::{CALL, FOLD, assert_bytes, assert_same};
+use crate::samples::{CALL, FOLD, assert_bytes, assert_same, holds};
 use acceptor::{AcceptAnswer, Acceptor, PrepareAnswer};
 use paxos_wire::{Ballot, Entries, Entry};
 use promise_store::{Disk, MemoryDisk, StoreFault};
@@ -175,7 +175,7 @@ fn accepts_above<D: Disk>(rt: &impl Abort, acceptor: &mut Acceptor<D>) {
 
 /// The second ballot is promised, and what isn't above it refused.
 fn promises_and_refuses<D: Disk>(rt: &impl Abort, acceptor: &mut Acceptor<D>) -> Result<(), Fail> {
-    assert!(rt; prepare(acceptor, SECOND, 0).is_ok());
+    holds!(rt; prepare(acceptor, SECOND, 0).is_ok());
     refuses(rt, acceptor, FIRST);
     refuses(rt, acceptor, SECOND);
     refuses_accepts(rt, acceptor)

@@ -1,6 +1,6 @@
 ghost use Rattle.std.specs.Prelude.{◌≡◌, ◌<◌, ◌≤◌, IfOk};
 
-use crate::samples::{CALL, FOLD, assert_same};
+use crate::samples::{CALL, FOLD, assert_same, holds};
 use betting::Action;
 use learner::Learner;
 use paxos_wire::{Ballot, CommandList, Entries, Entry};
@@ -73,7 +73,7 @@ fn begins(rt: &impl Abort, proposer: &mut Proposer, first: u32)
     ensures { proposer.new.nodes ≡ proposer.old.nodes }
 {
     let begun = proposer.begin(Ballot { round: 0, node: 0 }, first);
-    assert!(rt; begun.is_ok());
+    holds!(rt; begun.is_ok());
 }
 
 /// Counts a node's promise of it, which tells of these votes.
@@ -113,7 +113,7 @@ fn proposes(
     match proposer.propose_run(slot, Some(RAISE), list) {
         Ok(Some(run)) => {
             assert_same(rt, (run.ballot, run.slot), (BALLOT, slot));
-            assert!(rt; run.commands.as_slice() == list_of(letters).as_slice());
+            holds!(rt; run.commands.as_slice() == list_of(letters).as_slice());
         }
         Ok(None) => assert_same(rt, (letters.len(), fault), (0, None)),
         Err(found) => assert_same(rt, Some(found), fault),
@@ -164,7 +164,7 @@ fn told_commands_go_together(rt: HostRuntime) -> Result<(), Fail> {
 fn told_commands_end_at_a_mark(rt: HostRuntime) -> Result<(), Fail> {
     let mut proposer = leader(&rt, 0, &SOME, &REST);
     let proposed = proposer.propose(1, None);
-    assert!(&rt; proposed.is_ok());
+    holds!(&rt; proposed.is_ok());
     proposes_each(&rt, &mut proposer, &[(0, b"f", None)]);
     Ok(())
 }
@@ -263,7 +263,7 @@ fn learner_of(
     let mut learner = Learner::new(alloc, nodes)?;
     if knows_fold {
         let believed = learner.on_chosen(1, FOLD)?;
-        assert!(rt; believed.is_ok());
+        holds!(rt; believed.is_ok());
     }
     Ok(learner)
 }
@@ -320,7 +320,7 @@ fn is_course(rt: &impl Abort, alloc: Global, course: Course) -> Result<(), Alloc
     for answered in answers {
         chooses(rt, &mut learner, nodes, *answered)?;
     }
-    assert!(rt; learner.log().get(64).is_none());
+    holds!(rt; learner.log().get(64).is_none());
     Ok(())
 }
 

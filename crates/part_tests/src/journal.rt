@@ -4,7 +4,7 @@ ghost use Rattle.std.specs.Prelude.{◌≡◌, ◌+◌, ◌<◌, ◌≤◌, ◌^
 ghost use Rattle.std.specs.List.{AllByRecursion};
 ghost use Rattle.paxos_wire.specs.Fits.{IsBallot, IsCommandRun, IsInRange};
 
-use crate::samples::assert_same;
+use crate::samples::{assert_same, holds};
 use paxos_wire::{Ballot, CommandList, read_command, read_commands};
 use promise_store::{Call, Disk, MemoryDisk, Placed, Store, StoreFault};
 use slot_log::Command;
@@ -146,7 +146,7 @@ pub(crate) fn are_found<D: Disk>(
 {
     for place in 0..commands.len() {
         let found = entry(store, slot + place as u32)?;
-        assert!(rt; found == Some((ballot, commands[place])));
+        holds!(rt; found == Some((ballot, commands[place])));
     }
     Ok(())
 }
@@ -205,7 +205,7 @@ pub(crate) fn keeps_both<D: Disk + Drop>(
     disk: D,
 ) -> Result<(), Fail> {
     let mut store = opened(rt, alloc, disk);
-    assert!(rt; has_both(rt, &mut store)?);
+    holds!(rt; has_both(rt, &mut store)?);
     Ok(())
 }
 
@@ -215,11 +215,6 @@ pub(crate) fn opening<D: Disk + Drop>(alloc: Global, disk: D) -> u8 {
         Ok(_) => 0,
         Err((_, fault)) => fault.code(),
     }
-}
-
-/// What opening a file of these bytes answers.
-pub(crate) fn answer(alloc: Global, bytes: &[u8]) -> Result<u8, Fail> {
-    Ok(opening(alloc, disk_with(alloc, bytes, &[])?))
 }
 
 /// A next number of the generator of Lehmer (multiplier 48271 modulo 2^31 - 1).

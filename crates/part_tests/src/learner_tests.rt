@@ -1,6 +1,6 @@
 ghost use Rattle.std.specs.Prelude.{◌≡◌};
 
-use crate::samples::{act, assert_same};
+use crate::samples::{act, assert_same, holds};
 use betting::Action;
 use learner::{Chosen, Learner};
 use paxos_wire::Ballot;
@@ -107,7 +107,7 @@ fn is_answer(
         Ok(Some(chosen)) => {
             assert_same(rt, completes, Ok(true));
             assert_same(rt, chosen.slot, slot);
-            assert!(rt; chosen.command == act(action));
+            holds!(rt; chosen.command == act(action));
         }
         Ok(None) => assert_same(rt, completes, Ok(false)),
         Err(fault) => assert_same(rt, completes, Err(*fault)),
@@ -167,7 +167,7 @@ fn learns(
 fn knows(rt: &impl Abort, learner: &Learner, known: (u32, Option<Action>)) {
     let (slot, action) = known;
     match (learner.log().get(slot), action) {
-        (Some(command), Some(action)) => assert!(rt; *command == act(action)),
+        (Some(command), Some(action)) => holds!(rt; *command == act(action)),
         (found, _) => assert_same(rt, (found.is_some(), action.is_some()), (false, false)),
     }
 }

@@ -1,8 +1,9 @@
 //! Tests of the parts of a node (`proposer`, `acceptor`, `learner`) and of the journal on its disk (`promise_store`), by
 //! their public calls alone.
 //!
-//! - `store_tests`: journals byte by byte, cut short, changed and random; `opening_tests`: journals of both versions, what
-//!   opening and looking answer and leave; `store_run_tests`: commands that are accepted together; `disk_tests`: disks.
+//! - `store_tests`: journals byte by byte; `opening_tests`: what opening leaves of journals of version 1; `store_run_tests`:
+//!   commands that are accepted together; `disk_tests`: disks. Journals that are cut short, changed or drawn are opened by
+//!   `tests/inputs`, through a program.
 //! - `acceptor_tests`: what is answered to single proposals; `acceptor_run_tests`: to those for slots that follow one
 //!   another; `acceptor_stop_tests`: where the disk stops.
 //! - `proposer_tests`, `learner_tests`, and of both for slots that follow one another `command_run_tests`.

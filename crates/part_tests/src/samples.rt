@@ -44,6 +44,20 @@ pub(crate) fn assert_text(rt: &impl Abort, found: &str, expected: &str) {
     assert_eq!(rt; found, expected);
 }
 
+/// Sees that a condition holds.
+pub(crate) fn assert_holds(rt: &impl Abort, asked: &str, holds: bool) {
+    assert!(rt; holds, "{asked}");
+}
+
+/// As `assert!`, for whatever nothing behind it rests on: that is dear to prove wherever it stands.
+macro_rules! holds {
+    ($rt:expr; $condition:expr) => {
+        $crate::samples::assert_holds($rt, stringify!($condition), $condition)
+    };
+}
+
+pub(crate) use holds;
+
 /// A fault prints as this text.
 pub(crate) fn prints<F: Display>(
     rt: &impl Abort,

@@ -8,7 +8,7 @@ use crate::journal::{
     FIRST, JOURNAL, accept_run, are_found, commands, created_in_memory, disk_with, entry, has_both,
     is_placed, opened, store_both, written,
 };
-use crate::samples::{assert_bytes, assert_same};
+use crate::samples::{assert_bytes, assert_same, holds};
 use paxos_wire::{Ballot, CommandList, slot_bytes};
 use promise_store::{Disk, MemoryDisk, Store, StoreFault};
 use slot_log::Command;
@@ -59,7 +59,7 @@ fn are_two<D: Disk>(rt: &impl Abort, store: &mut Store<D>) -> Result<(), Fail> {
     is_placed(rt, store, 0, THIRD_NODE, (11, 38, 11));
     is_placed(rt, store, 1, THIRD_NODE, (11, 38, 26));
     are_found(rt, store, THIRD_NODE, 0, two.as_slice())?;
-    assert!(rt; entry(store, 2)?.is_none());
+    holds!(rt; entry(store, 2)?.is_none());
     assert_same(rt, store.held().promised(), THIRD_NODE);
     Ok(())
 }
@@ -139,7 +139,7 @@ fn has_them<D: Disk>(rt: &impl Abort, store: &mut Store<D>, run: &[Command]) -> 
 /// The store has nothing at the first 64 slots.
 fn are_missing<D: Disk>(rt: &impl Abort, store: &Store<D>) {
     for slot in 0..64u32 {
-        assert!(rt; store.held().find(slot).is_none());
+        holds!(rt; store.held().find(slot).is_none());
     }
 }
 
@@ -156,7 +156,7 @@ fn stopped(
     // Of a create there are two.
     let mut store = created_in_memory(rt, alloc, &[calls.saturating_add(2)])?;
     let answer = accept_run(&mut store, FIRST, 0, run);
-    assert!(rt; matches!(answer, Ok(()) | Err(StoreFault::Disk)));
+    holds!(rt; matches!(answer, Ok(()) | Err(StoreFault::Disk)));
     assert_same(rt, store.is_closed(), answer.is_err());
     let mut disk = store.into_disk();
     disk.stop(pick);
@@ -223,7 +223,7 @@ fn the_longest_run(rt: HostRuntime) -> Result<(), Fail> {
 /// A journal of that record alone.
 fn same_length(rt: &impl Abort, journal: &[u8]) {
     assert_same(rt, journal.len(), 8 + 3 + 1995 + 1);
-    assert!(rt; journal.starts_with(&[0x48, 0x44, 0x4a, 0x32, 0, 3, 0, 0, 1, 0x07, 0xcb, 4]));
+    holds!(rt; journal.starts_with(&[0x48, 0x44, 0x4a, 0x32, 0, 3, 0, 0, 1, 0x07, 0xcb, 4]));
 }
 
 // ---- what else a write may leave
@@ -241,7 +241,7 @@ fn disk_behind_both(rt: &impl Abort, alloc: Global) -> Result<MemoryDisk, Fail> 
 fn has_the_three<D: Disk>(rt: &impl Abort, store: &mut Store<D>) -> Result<(), Fail> {
     let three = commands(rt, &THREE, 3);
     are_found(rt, store, FIRST, 1, three.as_slice())?;
-    assert!(rt; store.held().find(4).is_none());
+    holds!(rt; store.held().find(4).is_none());
     Ok(())
 }
 
@@ -251,11 +251,11 @@ fn has_both_and<D: Disk>(
     store: &mut Store<D>,
     are_there: bool,
 ) -> Result<(), Fail> {
-    assert!(rt; has_both(rt, store)?);
+    holds!(rt; has_both(rt, store)?);
     if are_there {
         return has_the_three(rt, store);
     }
-    assert!(rt; store.held().find(1).is_none() && store.held().find(3).is_none());
+    holds!(rt; store.held().find(1).is_none() && store.held().find(3).is_none());
     Ok(())
 }
 
@@ -405,7 +405,7 @@ fn has_a_million<D: Disk>(
     are_found(rt, store, FIRST, 499_968, run)?;
     are_found(rt, store, FIRST, 999_936, run)?;
     is_placed(rt, store, 999_999, FIRST, (12_217_979, 779, 767));
-    assert!(rt; store.held().find(end).is_none());
+    holds!(rt; store.held().find(end).is_none());
     Ok(())
 }
 
