@@ -5,9 +5,9 @@
 //! nodes, 16 bytes each and for each deal 15 more, for each fold 12. So 1003 commands take 16 ticks and 80 deliveries,
 //! of 16 * 31 + 502 * 24 + 501 * 21 + 3 * (16 * 16 + 502 * 15 + 501 * 12) bytes, which is 64,459.
 
+use crate::counts::Counts;
 use crate::group::{Course, Group};
 use crate::peer::config;
-use crate::taking::Counts;
 use dealer_kind::Config;
 use std::alloc::{AllocError, Global};
 use std::io;

@@ -1,23 +1,22 @@
 //! The nodes of a match, whose frames are handed on in the order of sending.
 
+use crate::counts::Counts;
+use crate::mail::Mail;
 use crate::peer::{Event, Peer, VERSION};
-use crate::taking::{Counts, take_event};
 use dealer_kind::Config;
-use dealer_node::{Out, Reader};
+use dealer_node::Out;
 use paxos_wire::limits::NODES;
 use std::alloc::{AllocError, Global};
 
 /// How many turns a match takes at most: a turn is an answer of a seat, or a tick.
 const TURNS: u32 = 1_000_000;
 
-/// How a match is played.
+/// How a match is played, whose seats both sit at node 0.
 #[derive(Clone, Copy)]
 pub enum Course {
-    /// Both seats sit at node 0, and all nodes run throughout.
+    /// All nodes hear one another.
     Plain,
-    /// Both seats sit at nodes 0 and 1 and act at either, and node 2 is down for a while.
-    Varied,
-    /// Both seats sit at node 0, and no frame comes to node 1 or from there.
+    /// No frame comes to node 1 or from there.
     Parted,
 }
 
@@ -26,32 +25,13 @@ const CALL: &[u8] = b":c\r\n";
 
 const FOLD: &[u8] = b":f\r\n";
 
-/// In a varied match, the turns at which node 2 is stopped and started.
-const OUT: u32 = 20;
-
-const BACK: u32 = 60;
-
-/// A frame on its way: whence, whereto, and where its bytes stand.
-#[derive(Clone, Copy, Drop)]
-struct Sent {
-    from: u8,
-    to: u8,
-    start: usize,
-    end: usize,
-}
-
 /// The nodes of a match, and the frames between them.
 pub struct Group {
     alloc: Global,
-    course: Course,
     peers: Vec<Peer>,
-    /// The frames that weren't delivered yet, and those before them, in order of sending.
-    sent: Vec<Sent>,
-    bytes: Vec<u8>,
-    /// The newest line of each seat.
-    lines: [Vec<u8>; 2],
-    /// Where an earlier call put what it made.
-    out: Option<Out>,
+    mail: Mail,
+    /// What the newest call made.
+    out: Out,
     pub counts: Counts,
 }
 
@@ -60,11 +40,8 @@ impl Drop for Group {
     fn drop(self) {
         let Group {
             alloc: _,
-            course: _,
             peers: _,
-            sent: _,
-            bytes: _,
-            lines: _,
+            mail: _,
             out: _,
             counts: _,
         } = self;
@@ -76,12 +53,9 @@ impl Group {
     pub fn new(alloc: Global, course: Course, counts: Counts) -> Group {
         Group {
             alloc,
-            course,
             peers: Vec::new(alloc),
-            sent: Vec::new(alloc),
-            bytes: Vec::new(alloc),
-            lines: [Vec::new(alloc), Vec::new(alloc)],
-            out: None,
+            mail: Mail::new(alloc, matches!(course, Course::Parted)),
+            out: Out::new(alloc),
             counts,
         }
     }
@@ -96,31 +70,16 @@ impl Group {
         Ok(true)
     }
 
-    /// Makes room for all that waits at once in a match.
-    fn make_room(&mut self) -> Result<(), AllocError> {
-        self.peers.reserve(usize::from(NODES))?;
-        self.sent.reserve(4096)?;
-        self.bytes.reserve(1 << 20)?;
-        for line in &mut self.lines {
-            line.reserve(8192)?;
-        }
-        Ok(())
-    }
-
     /// Adds the nodes of a match, over new stores, and starts them; seats sit down. An `Ok` of false: one of the nodes
     /// wasn't made.
     pub fn begin(&mut self, config: &Config) -> Result<bool, AllocError> {
-        self.make_room()?;
+        self.mail.make_room()?;
         for number in 0..config.nodes() {
             if !self.add_peer(config, number)? {
                 return Ok(false);
             }
         }
-        for node in 0..NODES {
-            if self.is_seated(node) {
-                self.seat_at(node)?;
-            }
-        }
+        self.seat_all()?;
         Ok(true)
     }
 
@@ -137,122 +96,47 @@ impl Group {
     /// Makes the newest node's store and starts it; false where that fails.
     fn start_newest(&mut self) -> bool {
         match self.peers.last_mut() {
-            Some(peer) => peer.create().is_ok() && peer.start(&mut Out::new(self.alloc)).is_ok(),
+            Some(peer) => peer.create().is_ok() && peer.step(Event::Start, &mut self.out).is_ok(),
             None => false,
         }
     }
 
-    /// Lets both seats sit down at a node.
-    fn seat_at(&mut self, node: u8) -> Result<(), AllocError> {
+    /// Lets both seats sit down at node 0.
+    fn seat_all(&mut self) -> Result<(), AllocError> {
         for seat in 0..2 {
-            self.call(node, Event::Connect(seat))?;
-            self.call(node, Event::Line(seat, VERSION))?;
+            self.call(0, Event::Connect(seat))?;
+            self.call(0, Event::Line(seat, VERSION))?;
         }
         Ok(())
-    }
-
-    /// Whether seats sit at a node.
-    fn is_seated(&self, node: u8) -> bool {
-        node == 0 || node == 1 && self.is_varied()
-    }
-
-    /// Whether the match is played in the varied way.
-    fn is_varied(&self) -> bool {
-        matches!(self.course, Course::Varied)
     }
 
     /// Lets a node take an event, and keeps what it made.
     fn call(&mut self, node: u8, event: Event<'_>) -> Result<(), AllocError> {
-        let is_seated = self.is_seated(node);
-        let mut out = self.emptied();
         let Some(peer) = self.peers.get_mut(usize::from(node)) else {
             return Ok(());
         };
-        take_event(peer, event, is_seated, &mut out, &mut self.counts);
-        self.keep(node, &out)?;
-        self.out = Some(out);
-        Ok(())
-    }
-
-    /// Where a call may put what it makes.
-    fn emptied(&mut self) -> Out {
-        match self.out.take() {
-            Some(mut out) => {
-                out.clear();
-                out
-            }
-            None => Out::new(self.alloc),
-        }
-    }
-
-    /// Whether no frame comes to a node or from there.
-    fn is_cut_off(&self, node: u8) -> bool {
-        node == 1 && matches!(self.course, Course::Parted)
-    }
-
-    /// Keeps the frames that a node sent, but for those that are lost, and the newest lines of its seats.
-    fn keep(&mut self, node: u8, out: &Out) -> Result<(), AllocError> {
-        for (to, bytes) in out.frames() {
-            if !self.is_cut_off(node) && !self.is_cut_off(to) {
-                self.keep_frame(node, to, bytes)?;
-            }
-        }
-        for (reader, text) in out.shown() {
-            if let Reader::Seat(seat) = reader {
-                self.keep_line(seat, text)?;
-            }
-        }
-        Ok(())
-    }
-
-    /// Keeps a frame that was sent.
-    fn keep_frame(&mut self, from: u8, to: u8, bytes: &[u8]) -> Result<(), AllocError> {
-        let start = self.bytes.len();
-        self.bytes.extend_from_slice(bytes)?;
-        let end = self.bytes.len();
-        self.sent.push(Sent {
-            from,
-            to,
-            start,
-            end,
-        })?;
-        Ok(())
-    }
-
-    /// Keeps the newest line of a seat.
-    fn keep_line(&mut self, seat: usize, text: &[u8]) -> Result<(), AllocError> {
-        if let Some(line) = self.lines.get_mut(seat) {
-            line.clear();
-            line.extend_from_slice(text)?;
-        }
-        Ok(())
+        self.out.clear();
+        self.counts
+            .count_call(peer.step(event, &mut self.out).is_err());
+        self.mail.keep(node, &self.out)
     }
 
     /// Delivers the frame of this number; to a node that is down it is lost. An `Ok` of false: there is none.
     fn deliver(&mut self, number: usize) -> Result<bool, AllocError> {
-        match self.sent.get(number).copied() {
-            Some(sent) => self.hand_on(sent),
-            None => Ok(false),
-        }
-    }
-
-    /// Delivers a frame that was sent.
-    fn hand_on(&mut self, sent: Sent) -> Result<bool, AllocError> {
-        let is_seated = self.is_seated(sent.to);
-        let mut out = self.emptied();
-        let Some(bytes) = self.bytes.get(sent.start..sent.end) else {
+        let Some((sent, bytes)) = self.mail.frame(number) else {
             return Ok(false);
         };
-        self.counts.count_frame(bytes);
         let Some(peer) = self.peers.get_mut(usize::from(sent.to)) else {
             return Ok(false);
         };
+        self.counts.count_frame(bytes);
+        self.out.clear();
         if peer.node.running() {
             let event = Event::Frame(sent.from, bytes);
-            take_event(peer, event, is_seated, &mut out, &mut self.counts);
+            self.counts
+                .count_call(peer.step(event, &mut self.out).is_err());
         }
-        self.keep(sent.to, &out)?;
-        self.out = Some(out);
+        self.mail.keep(sent.to, &self.out)?;
         Ok(true)
     }
 
@@ -263,14 +147,8 @@ impl Group {
                 break;
             }
         }
-        self.forget_frames();
+        self.mail.forget_frames();
         Ok(())
-    }
-
-    /// Forgets the frames that wait.
-    fn forget_frames(&mut self) {
-        self.sent.clear();
-        self.bytes.clear();
     }
 
     /// Lets a node tick, and delivers all frames that come of it.
@@ -297,64 +175,31 @@ impl Group {
         None
     }
 
-    /// Lets the seat that is to act at a node call or fold. Where none is, nothing comes of it.
-    fn answer(&mut self, node: u8, action: &[u8]) -> Result<(), AllocError> {
-        let Some(seat) = self.to_act(node) else {
+    /// Lets the seat that is to act call or fold. Where none is, nothing comes of it.
+    fn answer(&mut self, action: &[u8]) -> Result<(), AllocError> {
+        let Some(seat) = self.to_act() else {
             return Ok(());
         };
-        let mut line = Vec::new(self.alloc);
-        self.put_answer(seat, action, &mut line)?;
-        self.call(node, Event::Line(seat, &line))
+        let line = self.mail.answer(self.alloc, seat, action)?;
+        self.call(0, Event::Line(seat, &line))
     }
 
-    /// The seat that is to act at a node.
-    fn to_act(&self, node: u8) -> Option<u8> {
-        self.peers.get(usize::from(node))?.to_act()
-    }
-
-    /// Puts a seat's newest line with an action behind it.
-    fn put_answer(&self, seat: u8, action: &[u8], line: &mut Vec<u8>) -> Result<(), AllocError> {
-        if let Some(newest) = self.lines.get(usize::from(seat)) {
-            line.reserve(newest.len().saturating_add(action.len()))?;
-            line.extend_from_slice(newest)?;
-        }
-        line.extend_from_slice(action)
-    }
-
-    /// Stops and starts node 2 of a varied match at its turns.
-    fn go_out_or_back(&mut self, turn: u32) -> Result<(), AllocError> {
-        if self.is_varied() && turn == OUT {
-            if let Some(peer) = self.peers.get_mut(2) {
-                peer.stop();
-            }
-        }
-        if self.is_varied() && turn == BACK {
-            self.call(2, Event::Start)?;
-        }
-        Ok(())
-    }
-
-    /// The node at which a seat answers in a turn.
-    fn answering(&self, turn: u32) -> u8 {
-        if self.is_varied() && turn % 3 == 0 {
-            1
-        } else {
-            0
-        }
+    /// The seat that is to act at node 0.
+    fn to_act(&self) -> Option<u8> {
+        self.peers.first()?.to_act()
     }
 
     /// Plays the match to its end: all calls. Where nothing moves, a node ticks at which the match isn't over.
     fn play(&mut self) -> Result<(), AllocError> {
-        for turn in 0..TURNS {
-            self.go_out_or_back(turn)?;
+        for _ in 0..TURNS {
             self.deliver_all()?;
             let Some(node) = self.unfinished() else {
                 return Ok(());
             };
             if node == 0 {
-                self.answer(self.answering(turn), CALL)?;
+                self.answer(CALL)?;
             }
-            if self.sent.is_empty() {
+            if self.mail.is_empty() {
                 self.call(node, Event::Tick)?;
             }
         }
@@ -368,8 +213,8 @@ impl Group {
             if self.front(0) >= commands {
                 break;
             }
-            self.answer(0, FOLD)?;
-            if self.sent.is_empty() {
+            self.answer(FOLD)?;
+            if self.mail.is_empty() {
                 self.call(0, Event::Tick)?;
             }
         }
@@ -384,7 +229,7 @@ impl Group {
         for node in 0..NODES {
             self.call(node, Event::Start)?;
         }
-        self.forget_frames();
+        self.mail.forget_frames();
         Ok(())
     }
 

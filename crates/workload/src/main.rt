@@ -2,7 +2,7 @@
 //!
 //! Each argument names what to run, and prints counts and checksums: `five-card-hands`, `best-of-seven`, `draws`,
 //! `sevens-by-counts`, `sevens-by-fives`, `sevens`, `short-hands`, `long-hands`, `encode`, `decode`, `promises`,
-//! `answers`, `refusals`, `nodes`, `nodes-five`, `nodes-seven`, `nodes-short`, `creations`; `catching-up`, behind which a
+//! `answers`, `refusals`, `nodes`, `nodes-five`, `nodes-seven`, `creations`; `catching-up`, behind which a
 //! further argument says of how many commands; `decks`, which reads lines `seed hand players deal`; and `frames`, which
 //! reads lines of a frame in hexadecimal and the frame as which its message is written, or its fault.
 //! The tasks of the store work on the file `workload.journal`: `store-append`, `store-appends`, `store-short`,
@@ -14,6 +14,7 @@
 
 mod catching_up;
 mod clusters;
+mod counts;
 mod creations;
 mod decks;
 mod driving;
@@ -22,18 +23,17 @@ mod frames;
 mod group;
 mod hand_play;
 mod hands;
+mod mail;
 mod nodes;
 mod parts;
 mod peer;
 mod sevens;
 mod stores;
-mod taking;
 mod task;
 mod telling;
 mod verdicts;
 
 use clusters::Disks;
-use group::Course;
 use hand_play::Policy;
 use sevens::Body;
 use std::fs::File;
@@ -92,10 +92,9 @@ fn run(rt: &(impl Input + Print + AllocGlobal + Files<File = File>), task: Task)
         Task::Promises => parts::print_promises(rt),
         Task::Answers => parts::print_answers(rt),
         Task::Refusals => parts::print_refusals(rt),
-        Task::Nodes => nodes::print_played(rt, 3, 1000, Course::Plain),
-        Task::NodesFive => nodes::print_played(rt, 5, 1000, Course::Plain),
-        Task::NodesSeven => nodes::print_played(rt, 7, 1000, Course::Plain),
-        Task::NodesShort => nodes::print_played(rt, 3, 1, Course::Varied),
+        Task::Nodes => nodes::print_played(rt, 3),
+        Task::NodesFive => nodes::print_played(rt, 5),
+        Task::NodesSeven => nodes::print_played(rt, 7),
         Task::Creations => creations::print_created(rt),
         Task::FusedCluster => clusters::print_driven(rt, Disks::Fused),
         Task::FailingCluster => clusters::print_driven(rt, Disks::FailingOnce),

@@ -7,7 +7,6 @@ use dealer_kind::{Config, Source};
 use dealer_node::{Node, NodeFault, Out};
 use match_log::{Name, SeatNames};
 use promise_store::MemoryDisk;
-use slot_log::Command;
 use std::alloc::{AllocError, Global};
 
 /// Two players, limit.
@@ -85,9 +84,9 @@ impl Peer {
         }))
     }
 
-    /// Makes the node's store, and once more where that fails.
+    /// Makes the node's store.
     pub fn create(&mut self) -> Result<(), NodeFault> {
-        if self.node.running() || self.node.create().is_ok() {
+        if self.node.running() {
             return Ok(());
         }
         self.node.create()
@@ -106,31 +105,9 @@ impl Peer {
         }
     }
 
-    /// Starts the node, and once more where it found no memory.
-    pub fn start(&mut self, out: &mut Out) -> Result<(), NodeFault> {
-        if self.node.start(out).is_ok() {
-            return Ok(());
-        }
-        self.node.start(out)
-    }
-
     /// Stops the node. Its disk comes back as it was at the last sync.
     pub fn stop(&mut self) {
         self.node.stop(0);
-    }
-
-    /// Connects both seats, each of which names the version.
-    pub fn seat_all(&mut self, out: &mut Out) -> Result<(), NodeFault> {
-        for seat in 0..2 {
-            self.step(Event::Connect(seat), out)?;
-            self.step(Event::Line(seat, VERSION), out)?;
-        }
-        Ok(())
-    }
-
-    /// What its readers show.
-    pub fn shown(&self) -> (bool, u32, Option<Command>) {
-        (self.node.running(), self.node.front(), self.node.pending())
     }
 
     /// The seat that is to act; none where no hand runs.

@@ -37,8 +37,6 @@ pub enum Task {
     NodesFive,
     /// Plays as many on seven nodes.
     NodesSeven,
-    /// Plays a match of 10 hands on three nodes, one of which is down for a while.
-    NodesShort,
     /// Makes nodes' stores over disks that fail.
     Creations,
     /// Drives a cluster by lines, over disks in memory with fuses.
@@ -64,7 +62,7 @@ pub enum Task {
 }
 
 /// The names of all that can be run.
-static NAMES: [(&str, Task); 30] = [
+static NAMES: [(&str, Task); 29] = [
     ("five-card-hands", Task::FiveCardHands),
     ("best-of-seven", Task::BestOfSeven),
     ("sevens-by-counts", Task::SevensByCounts),
@@ -83,7 +81,6 @@ static NAMES: [(&str, Task); 30] = [
     ("nodes", Task::Nodes),
     ("nodes-five", Task::NodesFive),
     ("nodes-seven", Task::NodesSeven),
-    ("nodes-short", Task::NodesShort),
     ("creations", Task::Creations),
     ("fused-cluster", Task::FusedCluster),
     ("failing-cluster", Task::FailingCluster),
