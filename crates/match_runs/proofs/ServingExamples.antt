@@ -15,7 +15,7 @@ use Rattle.serving.specs.declared.turn.Turn.TheVariants.{Over}
 use Rattle.std.specs.declared.io.ErrorKind.TheVariants as kind
 use Rattle.match_runs.specs.declared.cause.Cause.TheVariants.{InUse, NoRoom, Failed, Unknown}
 use Rattle.match_runs.specs.Causes.{cause_of}
-use Rattle.match_runs.specs.declared.note.About.TheVariants.{Seated, Gone, Played, Faulty}
+use Rattle.match_runs.specs.declared.note.About.TheVariants.{Seated, Gone, Played, WrongToken, Faulty}
 use Rattle.match_runs.specs.declared.note.Note.TheVariants as note
 use Rattle.match_runs.specs.declared.conclusion.Conclusion.TheVariants.{Ended, Served}
 use Rattle.streamed.specs.declared.ending.Ending.TheVariants.{Done, Match, Unreadable, StreamFailed}
@@ -47,6 +47,15 @@ bob_is_gone = refl
 bob_is_played_for : note_text (note.Seat 1 (codes "bob") (Played 1 17)) ≡ codes "seat 1 (bob) at node 1, hand 17: played for"
 unfolding digits
 bob_is_played_for = refl
+
+-- how many came without alice's token is told where it was more than one
+somebody_else_came : note_text (note.Seat 0 (codes "alice") (WrongToken 1 1)) ≡ codes "seat 0 (alice) at node 1: wrong token"
+unfolding digits
+somebody_else_came = refl
+
+many_others_came : note_text (note.Seat 0 (codes "alice") (WrongToken 1 37)) ≡ codes "seat 0 (alice) at node 1: wrong token (37 times)"
+unfolding digits
+many_others_came = refl
 
 -- at node 0 three hands were dealt, at node 1 eighteen, at node 2, which is down, none
 abbrev three_and_eighteen : List ℕ

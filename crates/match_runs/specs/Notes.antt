@@ -1,5 +1,5 @@
 -- The notes of `serve`, and what standard error has of one.
-use Rattle.std.specs.Prelude.{◌≡◌, ℕ, zero, suc, ◌+◌, ◌-◌, ◌*◌, ◌%◌, ◌==◌, ◌||◌, Bool, true, false, if◌then◌else◌, List, [], ◌∷◌, ◌++◌, Option, Some, None, codes, decimal, slice_get, get_or}
+use Rattle.std.specs.Prelude.{◌≡◌, ℕ, zero, suc, ◌+◌, ◌-◌, ◌*◌, ◌%◌, ◌==◌, ◌||◌, nat_lt, Bool, true, false, if◌then◌else◌, List, [], ◌∷◌, ◌++◌, Option, Some, None, codes, decimal, slice_get, get_or}
 use Rattle.std.specs.Io.KnownBytes.{Appends, Keeps}
 use Rattle.seat_session.specs.Fault.{fault_text}
 use Rattle.seat_session.specs.declared.session_fault.SessionFault.{SessionFault}
@@ -66,13 +66,17 @@ played_text node hand = codes " at node " ++ decimal node ++ codes ", hand " ++ 
 abbrev pub there_text : ℕ → List ℕ → List ℕ
 there_text node what = codes " at node " ++ decimal node ++ codes ": " ++ what
 
+-- how many times it was, where it was more than once
+abbrev pub times_text : ℕ → List ℕ
+times_text count = if nat_lt 1 count then codes " (" ++ decimal count ++ codes " times)" else []
+
 -- what is told of a seat: at which node, and what
 abbrev pub about_text : About → List ℕ
 about_text (Seated node) = there_text node (codes "seated")
 about_text (Gone node) = there_text node (codes "gone")
 about_text (Played node hand) = played_text node hand
 about_text (Ordered node) = there_text node (codes "played for")
-about_text (WrongToken node) = there_text node (codes "wrong token")
+about_text (WrongToken node count) = there_text node (codes "wrong token") ++ times_text count
 about_text (Faulty node fault) = faulty_text node fault
 about_text (Refused node hand action fault late) = refused_text node hand action.now fault late
 

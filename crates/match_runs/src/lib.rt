@@ -36,7 +36,7 @@ pub use file_notes::{tell_file, tell_made, tell_not_kept, tell_port, tell_unlock
 pub use log_names::{kept_log_path, kept_number, stands_in};
 pub use node_files::{log_path, store_path, unmade};
 pub use node_script::{play_match, play_run};
-pub use note::{About, Note, tell_note};
+pub use note::{About, Note, put_times, tell_note};
 pub use seat_ports::SeatPorts;
 pub use served_match::serve_run;
 pub use telling::tell_ports;

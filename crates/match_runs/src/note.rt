@@ -2,7 +2,7 @@
 
 ghost use Rattle.std.specs.Prelude.{◌≡◌, ◌++◌, codes, decimal, OnOk};
 ghost use Rattle.dealer_node.specs.FaultText.{fault_text};
-ghost use Rattle.match_runs.specs.Notes.{IsNoted, seat_text, port_text, ports_text, place_text, node_text, faulty_text, played_text, refused_text, late_text, there_text, about_text, note_text, note_line};
+ghost use Rattle.match_runs.specs.Notes.{IsNoted, seat_text, port_text, ports_text, place_text, node_text, faulty_text, played_text, refused_text, late_text, there_text, times_text, about_text, note_text, note_line};
 ghost use Rattle.match_runs.specs.Causes.{cause_text};
 ghost use Rattle.match_runs.specs.declared.note.Note.TheVariants.{Waiting as NotedWaiting};
 
@@ -29,8 +29,11 @@ pub enum About<'a> {
     },
     /// The same where the hand isn't told.
     Ordered(u8),
-    /// Somebody came to its port there with another token than its own, or with none.
-    WrongToken(u8),
+    /// So many came to its port there with another token than its own, or with none.
+    WrongToken {
+        node: u8,
+        count: u32,
+    },
     /// What it sent there was refused.
     Faulty {
         node: u8,
@@ -284,7 +287,10 @@ fn put_about(out: &mut Vec<u8>, about: &About<'_>) -> Result<(), AllocError>
         About::Seated(node) => put_there(out, *node, "seated"),
         About::Gone(node) => put_there(out, *node, "gone"),
         About::Ordered(node) => put_there(out, *node, "played for"),
-        About::WrongToken(node) => put_there(out, *node, "wrong token"),
+        About::WrongToken { node, count } => {
+            put_there(out, *node, "wrong token")?;
+            put_times(out, *count)
+        }
         About::Played { node, hand } => put_played(out, *node, *hand),
         About::Faulty { node, fault } => put_faulty(out, *node, fault),
         About::Refused {
@@ -303,6 +309,17 @@ fn put_there(out: &mut Vec<u8>, node: u8, what: &str) -> Result<(), AllocError>
 {
     let text = format!(in *out.allocator(); " at node {node}: {what}")?;
     out.extend_from_slice(text.as_bytes())
+}
+
+/// Appends how many times it was, where it was more than once.
+pub fn put_times(out: &mut Vec<u8>, count: u32) -> Result<(), AllocError>
+    ensures { OnOk result (out.new.items ≡ out.old.items ++ times_text count) }
+{
+    if 1 < count {
+        let text = format!(in *out.allocator(); " ({count} times)")?;
+        out.extend_from_slice(text.as_bytes())?;
+    }
+    Ok(())
 }
 
 /// Appends that a seat is played for, and in which hand.
