@@ -40,7 +40,9 @@ impl Counts {
 
     /// Counts whether a call of a node was refused.
     pub fn count_call(&mut self, is_refused: bool) {
-        self.refused = self.refused.wrapping_add(u64::from(is_refused));
+        if is_refused {
+            self.refused = self.refused.wrapping_add(1);
+        }
     }
 }
 
