@@ -140,9 +140,13 @@ bob_is_played_for : told_lines names 1 7010 (told.Ordered 1) ≡ (codes "seat 1 
 unfolding digits
 bob_is_played_for = refl
 
-somebody_else_came_for_alice : told_lines names 1 7010 (told.WrongToken 0) ≡ (codes "seat 0 (alice) at node 1: wrong token" ++ 10 ∷ []) ∷ []
+somebody_else_came_for_alice : told_lines names 1 7010 (told.WrongToken 0 1) ≡ (codes "seat 0 (alice) at node 1: wrong token" ++ 10 ∷ []) ∷ []
 unfolding digits
 somebody_else_came_for_alice = refl
+
+many_others_came_for_alice : told_lines names 1 7010 (told.WrongToken 0 37) ≡ (codes "seat 0 (alice) at node 1: wrong token (37 times)" ++ 10 ∷ []) ∷ []
+unfolding digits
+many_others_came_for_alice = refl
 
 bob_is_waited_for : told_lines names 1 7010 (told.Waits 1) ≡ (codes "waiting for seat 1 (bob) at node 1, port 7011" ++ 10 ∷ []) ∷ []
 unfolding digits

@@ -13,7 +13,8 @@ use Rattle.stations.specs.Stations.{Look}
 use Rattle.match_runs.specs.Notes.{AreNoted}
 use Rattle.node_service.specs.Going.{GoesOn as WentOn, TurnsAreOne}
 use Rattle.node_service.specs.Served.{Served}
-use Rattle.node_service.specs.Ending.{is_well}
+use Rattle.node_service.specs.Ending.{is_well, IsOverAt}
+use Rattle.node_service.specs.Company.{IsShown, AreShown, ShownStays}
 use Rattle.node_service.specs.Serving.{served_of, told_in}
 use Rattle.node_service.specs.declared.outcome.Outcome.{Outcome}
 use Rattle.node_service.specs.declared.outcome.Outcome.TheVariants as leaves
@@ -46,6 +47,18 @@ well_ended (leaves.Failed fault) (Err why) is = tt
 well_ended leaves.LogFailed (Ok done) is = cc
 well_ended leaves.LogFailed (Err why) is = tt
 
+-- and the match is over
+pub over_ended : (outcome : Outcome) (answer : Result (Unit {0}) NodeEnd) → end_of outcome ≡ Some answer → OnOk answer (outcome ≡ leaves.Over)
+over_ended leaves.GoesOn answer is = cc
+over_ended leaves.Over (Ok done) is = refl
+over_ended leaves.Over (Err why) is = tt
+over_ended leaves.WentBack (Ok done) is = cc
+over_ended leaves.WentBack (Err why) is = tt
+over_ended (leaves.Failed fault) (Ok done) is = cc
+over_ended (leaves.Failed fault) (Err why) is = tt
+over_ended leaves.LogFailed (Ok done) is = cc
+over_ended leaves.LogFailed (Err why) is = tt
+
 -- a further turn comes only where one goes on
 goes_on_only : (outcome : Outcome) → end_of outcome ≡ None → outcome ≡ leaves.GoesOn
 goes_on_only leaves.GoesOn is = refl
@@ -73,11 +86,14 @@ module _ {D W : Type 0} {disk : Ghosts D} {wire : OfWire W} where
     pub number : (served_of now).look.number ≡ (served_of started).look.number
     pub whole : GoesOnTo disk (served_of started) (served_of now)
     pub log : is_well outcome ≡ true → (served_of now).log_failed ≡ false
+    pub over : outcome ≡ leaves.Over → IsOverAt disk (served_of now).look.node
+    pub shown : AreShown (served_of now).own (served_of now).lines told
 
   module _ {K : Type 0} (kept : K → ℕ → Life → K → Type 0) (port : ℕ) (started : NodeServer D W disk wire) (first : Outcome) (start : Option (List ℕ)) (lives_first : K) where
     -- nothing is done yet
-    pub begun : (is_well first ≡ true → (served_of started).log_failed ≡ false) → SoFar kept port started first start lives_first started first 0 start lives_first
-    begun log = record {
+    pub begun : (is_well first ≡ true → (served_of started).log_failed ≡ false) → (first ≡ leaves.Over → IsOverAt disk (served_of started).look.node)
+        → SoFar kept port started first start lives_first started first 0 start lives_first
+    begun log over = record {
       count = 0;
       told = [];
       last = started;
@@ -89,14 +105,16 @@ module _ {D W : Type 0} {disk : Ghosts D} {wire : OfWire W} where
       number = refl;
       whole = λ before goes. goes;
       log = log;
+      over = over;
+      shown = tt;
     }
 
     -- one thing more was told
-    pub told_one : (now next : NodeServer D W disk wire) (outcome : Outcome) (steps : ℕ) (thing : Told) (held held_after : Option (List ℕ)) (lives lives_after : K)
+    pub told_one : ShownStays → (now next : NodeServer D W disk wire) (outcome : Outcome) (steps : ℕ) (thing : Told) (held held_after : Option (List ℕ)) (lives lives_after : K)
         → SoFar kept port started first start lives_first now outcome steps held lives → told_in now ≡ thing ∷ told_in next → served_of next ≡ served_of now
-        → TellsOne kept (served_of next).look port thing held held_after lives lives_after
+        → TellsOne kept (served_of next).look port thing held held_after lives lives_after → IsShown (served_of now).own (served_of now).lines thing
         → SoFar kept port started first start lives_first next outcome (steps + 1) held_after lives_after
-    told_one now next outcome steps thing held held_after lives lives_after so is same one = record {
+    told_one law now next outcome steps thing held held_after lives lives_after so is same one shown = record {
       count = so.count;
       told = so.told ++ thing ∷ [];
       last = so.last;
@@ -111,14 +129,18 @@ module _ {D W : Type 0} {disk : Ghosts D} {wire : OfWire W} where
       number = ap (λ (s : Served (Node D)). s.look.number) same ∙ so.number;
       whole = λ before goes. subst (λ (s : Served (Node D)). WentOn disk [] before s) (sym same) (so.whole before goes);
       log = λ well. ap (λ (s : Served (Node D)). s.log_failed) same ∙ so.log well;
+      over = λ ends. subst (λ (s : Served (Node D)). IsOverAt disk s.look.node) (sym same) (so.over ends);
+      shown = subst (λ (s : Served (Node D)). AreShown s.own s.lines (so.told ++ thing ∷ [])) (sym same)
+          (law.and_one (served_of now).own (served_of now).lines so.told thing so.shown shown);
     }
 
     -- one turn more was taken
-    pub turned : TurnsAreOne disk → (now emptied next : NodeServer D W disk wire) (before outcome : Outcome) (steps : ℕ) (held : Option (List ℕ)) (lives : K)
+    pub turned : TurnsAreOne disk → ShownStays → (now emptied next : NodeServer D W disk wire) (before outcome : Outcome) (steps : ℕ) (held : Option (List ℕ)) (lives : K)
         → SoFar kept port started first start lives_first now before steps held lives → end_of before ≡ None → told_in now ≡ [] → served_of emptied ≡ served_of now
         → WentOn disk [] (served_of emptied) (served_of next) → (is_well outcome ≡ true → (served_of next).log_failed ≡ false)
+        → (outcome ≡ leaves.Over → IsOverAt disk (served_of next).look.node)
         → SoFar kept port started first start lives_first next outcome (steps + 1) held lives
-    turned law now emptied next before outcome steps held lives so on is same goes log =
+    turned law shown now emptied next before outcome steps held lives so on is same goes log over =
         let onwards : WentOn disk [] (served_of now) (served_of next) = subst (λ (s : Served (Node D)). WentOn disk [] s (served_of next)) same goes in
         record {
           count = so.count + 1;
@@ -136,6 +158,8 @@ module _ {D W : Type 0} {disk : Ghosts D} {wire : OfWire W} where
           number = onwards.number ∙ so.number;
           whole = λ earlier going. law [] earlier (served_of now) (served_of next) (so.whole earlier going) onwards;
           log = log;
+          over = over;
+          shown = shown.on (served_of now).own (served_of next).own (served_of now).lines (served_of next).lines so.told onwards.hears so.shown;
         }
 
     -- how it ends: by a turn
@@ -153,6 +177,7 @@ module _ {D W : Type 0} {disk : Ghosts D} {wire : OfWire W} where
       told = so.told;
       lives_then = lives;
       noted = so.noted;
+      shown = subst (λ (s : Served (Node D)). AreShown s.own s.lines so.told) (sym same) so.shown;
       keeper = inl refl;
       ends = by_turn so.told answer ends;
     }
@@ -160,8 +185,8 @@ module _ {D W : Type 0} {disk : Ghosts D} {wire : OfWire W} where
     -- by a life that couldn't be kept
     pub stopped : (now next : NodeServer D W disk wire) (outcome : Outcome) (steps : ℕ) (thing : Told) (fault : NodeFault) (held held_after : Option (List ℕ)) (lives lives_after : K)
         → SoFar kept port started first start lives_first now outcome steps held lives → told_in now ≡ thing ∷ told_in next → served_of next ≡ served_of now → HasLife thing → held_after ≡ held
-        → Went kept port started first (Err (by_fault fault)) next start held_after lives_first lives_after
-    stopped now next outcome steps thing fault held held_after lives lives_after so is same has noted = record {
+        → IsShown (served_of now).own (served_of now).lines thing → Went kept port started first (Err (by_fault fault)) next start held_after lives_first lives_after
+    stopped now next outcome steps thing fault held held_after lives lives_after so is same has noted shown = record {
       count = so.count;
       outcome = outcome;
       last = so.last;
@@ -172,7 +197,21 @@ module _ {D W : Type 0} {disk : Ghosts D} {wire : OfWire W} where
       told = so.told;
       lives_then = lives;
       noted = subst (λ (h : Option (List ℕ)). Tells kept (served_of started).look port start lives_first so.told h lives) (sym noted) so.noted;
-      keeper = inr (has.0, (has.1.0, (told_in next, refl)));
+      shown = subst (λ (s : Served (Node D)). AreShown s.own s.lines so.told) (sym same) so.shown;
+      keeper = inr (
+        has.0,
+        (
+          has.1.0,
+          (
+            told_in next,
+            (
+              refl,
+              subst (λ (s : Served (Node D)). IsShown s.own s.lines (tells.Joined has.0 (Some has.1.0))) (sym same)
+                  (subst (λ (t : Told). IsShown (served_of now).own (served_of now).lines t) has.1.1 shown),
+            ),
+          ),
+        ),
+      );
       ends = unkept so.told (told_in next) has.0 has.1.0 fault;
     }
 
@@ -190,6 +229,7 @@ module _ {D W : Type 0} {disk : Ghosts D} {wire : OfWire W} where
       told = so.told;
       lives_then = lives;
       noted = so.noted;
+      shown = so.shown;
       keeper = inl refl;
       ends = by_count so.told (told_in now) (so.counted ∙ all);
     }

@@ -1,9 +1,10 @@
 -- The notes of a node's process, and what standard error has of one.
-use Rattle.std.specs.Prelude.{ℕ, nat_lt, if◌then◌else◌, List, [], ◌∷◌, ◌++◌, Option, Some, None, codes, decimal}
+use Rattle.std.specs.Prelude.{ℕ, List, [], ◌∷◌, ◌++◌, Option, Some, None, codes, decimal}
 use Rattle.std.specs.Net.Text.{ip_text, socket_text}
 use Rattle.std.specs.declared.net.ip_addr.IpAddr.{IpAddr}
 use Rattle.node_links.specs.Lines.{link_fault_line}
 use Rattle.paxos_wire.specs.Lines.{ballot_line}
+use Rattle.match_runs.specs.Notes.{times_text}
 use Rattle.node_runs.specs.KeyFiles.{fault_line}
 use Rattle.node_runs.specs.declared.node_note.NodeNote.{NodeNote}
 use Rattle.node_runs.specs.declared.node_note.NodeNote.TheVariants as note
@@ -11,10 +12,6 @@ use Rattle.node_runs.specs.declared.node_note.NodeNote.TheVariants as note
 -- something of a peer
 abbrev pub peer_text : ℕ → List ℕ → List ℕ
 peer_text peer what = codes "peer " ++ decimal peer ++ codes ": " ++ what
-
--- how many connections were closed so, where it is more than one
-abbrev pub times_text : ℕ → List ℕ
-times_text count = if nat_lt 1 count then codes " (" ++ decimal count ++ codes " times)" else []
 
 -- where a connection came from or went to, where that is known
 abbrev pub source_text : Option IpAddr → List ℕ

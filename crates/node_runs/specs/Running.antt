@@ -11,6 +11,9 @@ use Rattle.serving.specs.declared.serve_fault.ServeFault.TheVariants as serve
 use Rattle.stations.specs.Stations.{Look}
 use Rattle.match_runs.specs.Notes.{IsNoted, AreNoted}
 use Rattle.match_runs.specs.declared.unserved.Unserved.TheVariants as unserved
+use Rattle.node_links.specs.declared.own.Own.{Own}
+use Rattle.node_wires.specs.Passages.{Passage}
+use Rattle.node_service.specs.Company.{IsShown, AreShown}
 use Rattle.node_service.specs.Going.{GoesOn as WentOn}
 use Rattle.node_service.specs.Served.{Served}
 use Rattle.node_service.specs.Serving.{served_of, told_in}
@@ -74,9 +77,10 @@ pub data EndsBy (outcome : Outcome) (count : ℕ) : (waiting told : List Told) �
   -- as much as there were steps left
   by_count : (told more : List Told) → count + length told ≡ 2 ^ 64 - 1 → EndsBy outcome count (told ++ more) told (Err (by_fault Spent))
 
--- a life stands behind what was told
-abbrev pub StopsAtLife : (waiting told : List Told) → Type 0
-StopsAtLife waiting told = (peer : ℕ) × ((life : Life) × ((more : List Told) × (waiting ≡ told ++ tells.Joined peer (Some life) ∷ more)))
+-- a life stands behind what was told, which its node showed
+abbrev pub StopsAtLife : Own → List Passage → (waiting told : List Told) → Type 0
+StopsAtLife own lines waiting told =
+    (peer : ℕ) × ((life : Life) × ((more : List Told) × ((waiting ≡ told ++ tells.Joined peer (Some life) ∷ more) × IsShown own lines (tells.Joined peer (Some life)))))
 
 -- ---- turns
 
@@ -92,7 +96,7 @@ module _ {D W : Type 0} {disk : Ghosts D} {wire : OfWire W} where
     one : (count : ℕ) (waiting : List Told) (before next : NodeServer D W disk wire) (outcome : Outcome) → Turns started first count waiting leaves.GoesOn before
         → WentOn disk [] (served_of before) (served_of next) → Turns started first (count + 1) (waiting ++ told_in next) outcome next
 
-  -- turns were taken and told until it ended so; the keeper is as it was when the last thing was told, unless a life couldn't be kept then
+  -- turns were taken and told until it ended so; the keeper is as it was when the last thing was told, unless a life couldn't be kept then; each life is one that its node showed
   pub record Went {K : Type 0} (kept : K → ℕ → Life → K → Type 0) (port : ℕ) (started : NodeServer D W disk wire) (first : Outcome) (answer : Result (Unit {0}) NodeEnd)
       (new : NodeServer D W disk wire) (held held_after : Option (List ℕ)) (lives lives_after : K) : Type 0 where
     pub count : ℕ
@@ -104,7 +108,8 @@ module _ {D W : Type 0} {disk : Ghosts D} {wire : OfWire W} where
     pub told : List Told
     pub lives_then : K
     pub noted : Tells kept (served_of started).look port held lives told held_after lives_then
-    pub keeper : (lives_after ≡ lives_then) ⊎ StopsAtLife waiting told
+    pub shown : AreShown (served_of new).own (served_of new).lines told
+    pub keeper : (lives_after ≡ lives_then) ⊎ StopsAtLife (served_of new).own (served_of new).lines waiting told
     pub ends : EndsBy outcome count waiting told answer
 
   -- the node was started, which was told first, and then turns were taken

@@ -3,13 +3,14 @@
 ghost use Rattle.std.specs.Prelude.{◌≡◌, ◌++◌, codes, decimal, OnOk};
 ghost use Rattle.node_links.specs.Lines.{link_fault_line};
 ghost use Rattle.paxos_wire.specs.Lines.{ballot_line};
-ghost use Rattle.match_runs.specs.Notes.{IsNoted};
+ghost use Rattle.match_runs.specs.Notes.{IsNoted, times_text};
 ghost use Rattle.std.specs.Net.Text.{socket_text};
 ghost use Rattle.node_runs.specs.KeyFiles.{fault_line};
-ghost use Rattle.node_runs.specs.NodeNotes.{note_line, note_text, peer_text, source_text, times_text};
+ghost use Rattle.node_runs.specs.NodeNotes.{note_line, note_text, peer_text, source_text};
 
 use crate::key_file::KeyFault;
 use match_log::Name;
+use match_runs::put_times;
 use node_links::LinkFault;
 use paxos_wire::Ballot;
 use std::alloc::{AllocError, Global};
@@ -196,17 +197,6 @@ fn put_callers(out: &mut Vec<u8>, count: u32, fault: &LinkFault) -> Result<(), A
     let text = format!(in *out.allocator(); "caller: {fault}")?;
     out.extend_from_slice(text.as_bytes())?;
     put_times(out, count)
-}
-
-/// Appends how many it were, where it is more than one.
-fn put_times(out: &mut Vec<u8>, count: u32) -> Result<(), AllocError>
-    ensures { OnOk result (out.new.items ≡ out.old.items ++ times_text count) }
-{
-    if 1 < count {
-        let text = format!(in *out.allocator(); " ({count} times)")?;
-        out.extend_from_slice(text.as_bytes())?;
-    }
-    Ok(())
 }
 
 /// Appends by which ballot the node leads.

@@ -3,8 +3,9 @@
 ghost use Rattle.std.specs.Prelude.{◌≡◌, [], true, false, OnErr, OnOk};
 ghost use Rattle.stations.specs.Looking.{look_of};
 ghost use Rattle.node_service.specs.Going.{GoesOn};
-ghost use Rattle.node_service.specs.Serving.{served_of};
-ghost use Rattle.node_service.specs.Ending.{is_well};
+ghost use Rattle.node_service.specs.Serving.{served_of, look_in};
+ghost use Rattle.node_service.specs.Ending.{is_well, IsOverAt};
+ghost use Rattle.node_service.specs.declared.outcome.Outcome.TheVariants.{Over as IsOver};
 ghost use Rattle.match_runs.specs.Notes.{IsNoted};
 ghost use Rattle.node_runs.specs.Running.{Ran, Went, GoesOnTo, TellsOne, KeepsLife, HasLife, begin_line, end_of};
 
@@ -14,7 +15,7 @@ use crate::node_note::{NodeNote, tell_node_note};
 use crate::told_notes::tell_told;
 use dealer_node::NodeFault;
 use match_runs::Unserved;
-use node_service::laws::turns_are_one;
+use node_service::laws::{lives_stay_shown, turns_are_one};
 use node_service::{NodeServer, Outcome, Told};
 use node_wires::Wire;
 use promise_store::Disk;
@@ -32,7 +33,8 @@ use std::io::Write;
 /// out, and changes nothing of the match.
 ///
 /// What is promised of turns holds of all of them together: the node did its own deeds, and the log has what it showed to it,
-/// all of it where the run ends well.
+/// all of it where the run ends well; and then the match is over at the node. A life that is kept is one that its node showed:
+/// the one of a Hello by which it opened a connection, with a key behind its proof.
 /// The `Err` is that of the last turn, or that a life couldn't be kept.
 pub fn node_run<D: Disk + Drop, W: Wire + Drop, L: LifeKeeper, N: Write>(
     alloc: Global,
@@ -44,6 +46,7 @@ pub fn node_run<D: Disk + Drop, W: Wire + Drop, L: LifeKeeper, N: Write>(
     ensures ran { Ran L.kept port server.old result server.new (N.contents notes.old) (N.contents notes.new) lives.old lives.new }
     ensures whole { GoesOn D.Disk [] (served_of server.old) (served_of server.new) }
     ensures log { OnOk result ((served_of server.new).log_failed ≡ false) }
+    ensures over { OnOk result (IsOverAt D.Disk (look_in server.new).node) }
 {
     let first = server.start();
     tell_begin(alloc, server.station(), notes);
@@ -59,12 +62,15 @@ fn take_turns<D: Disk + Drop, W: Wire + Drop, L: LifeKeeper, N: Write>(
     port: u16,
     notes: &mut N,
 ) -> Result<(), NodeEnd>
-    requires { is_well first ≡ true → (served_of server.old).log_failed ≡ false }
+    requires log { is_well first ≡ true → (served_of server.old).log_failed ≡ false }
+    requires over { first ≡ IsOver → IsOverAt D.Disk (look_in server.old).node }
     ensures went { Went L.kept port server.old first result server.new (N.contents notes.old) (N.contents notes.new) lives.old lives.new }
     ensures whole { GoesOnTo D.Disk (served_of server.old) (served_of server.new) }
     ensures log { OnOk result ((served_of server.new).log_failed ≡ false) }
+    ensures over { OnOk result (IsOverAt D.Disk (look_in server.new).node) }
 {
     turns_are_one::<D>();
+    lives_stay_shown();
     let mut outcome = first;
     let mut most = 0;
     for steps in 0..u64::MAX {

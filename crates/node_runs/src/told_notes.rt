@@ -47,8 +47,15 @@ pub(crate) fn tell_told<W: Write>(
             let fault = *fault;
             tell_seat(alloc, config, *seat, About::Faulty { node, fault }, notes);
         }
-        Told::WrongToken { seat } => {
-            tell_seat(alloc, config, *seat, About::WrongToken(node), notes);
+        Told::WrongToken { seat, count } => {
+            let count = *count;
+            tell_seat(
+                alloc,
+                config,
+                *seat,
+                About::WrongToken { node, count },
+                notes,
+            );
         }
         Told::Ordered { seat } => tell_seat(alloc, config, *seat, About::Ordered(node), notes),
         Told::Waits { seat } => tell_waiting(alloc, config, node, port, *seat, notes),

@@ -1,5 +1,5 @@
 -- Definitions on values, each beside a near miss.
-use Rattle.std.proofs.Common.{◌≡◌, ℕ, true, false, [], ◌∷◌, inl, inr, refl}
+use Rattle.std.proofs.Common.{◌≡◌, ℕ, true, false, [], ◌∷◌, None, inl, inr, refl}
 use Rattle.protocol_model.specs.Dealers.{Seat, Log}
 use Rattle.node_wires.specs.declared.line.Line.TheVariants as line
 use Rattle.node_wires.specs.Passages.{Began, Came as PieceCame}
@@ -12,6 +12,11 @@ use Rattle.node_service.specs.Arriving.{OfSeat, OfPeer, incoming_in, came_by}
 use Rattle.node_service.specs.Sessions.{Without, With, Astray, session_of, IsBeginning, AreGiven}
 use Rattle.node_service.specs.Fitting.{FitsAt}
 use Rattle.node_service.specs.declared.sitting.Sitting.TheVariants.{Here, LetGo}
+use Rattle.node_service.specs.declared.wrong_tokens.Untold.{Untold}
+use Rattle.node_peers.specs.declared.notice.Notice.TheVariants as notices
+use Rattle.node_service.specs.declared.told.Told.TheVariants as tells
+use Rattle.node_service.specs.Company.{joined_in}
+use Rattle.node_service.specs.WrongTokens.{nobody, and_one, due_of, told_at}
 
 -- ---- two deeds of node 0: seat 1 sent 7 8, upon which the node sent a frame to node 2 and showed a line to seat 0 and text to its log; before that seat 1 connected
 
@@ -135,3 +140,32 @@ not_a_beginning_alone is = cc
 -- and once it couldn't, it gains nothing
 nothing_more_once_it_failed : LogGains true true (2 ∷ []) (1 ∷ []) (1 ∷ 2 ∷ []) → ⊥
 nothing_more_once_it_failed (failed, is) = cc
+
+-- ---- nodes that are told to be there
+
+-- behind all that is told stands what the peers told of them, and nothing else
+one_is_there : joined_in (tells.Seated 0 ∷ tells.Joined 1 None ∷ tells.Gone 2 ∷ []) ≡ notices.Joined 1 None ∷ []
+one_is_there = refl
+
+no_other_node : joined_in (tells.Joined 1 None ∷ []) ≡ notices.Joined 2 None ∷ [] → ⊥
+no_other_node is = cc
+
+-- ---- who came to a seat without its token
+
+-- the first is told at once
+first_told_at_once : due_of (and_one nobody) 7 ≡ 1
+first_told_at_once = refl
+
+-- two more within the second behind that note aren't, but once it has passed
+abbrev two_more : Untold
+two_more = and_one (and_one (told_at 5000))
+
+not_told_yet : due_of two_more 1004999 ≡ 0
+not_told_yet = refl
+
+told_a_second_later : due_of two_more 1005000 ≡ 2
+told_a_second_later = refl
+
+-- and behind that note nobody is to be told, however late it is
+none_told_again : due_of (told_at 1005000) 9000000 ≡ 0
+none_told_again = refl

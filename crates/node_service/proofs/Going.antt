@@ -16,6 +16,8 @@ use Rattle.node_service.specs.Going.{GoesOn, Takes}
 use Rattle.node_service.specs.Sittings.{Loosens}
 use Rattle.node_service.specs.Fitting.{FitsFor, Fits, FitsBut}
 use Rattle.node_service.proofs.Fitting.{fits_moved}
+use Rattle.node_service.specs.Company.{Hears}
+use Rattle.node_service.proofs.Hearing.{hears_none, hears_on}
 use Rattle.node_service.proofs.Parts.{both, left_out}
 use Rattle.node_service.proofs.Showing.{shown_by_both, came_by_both, handed_by_both, seats_of_more, frames_of_more, nothing_shown, shown_on}
 
@@ -49,8 +51,8 @@ taken_fits {N} taken old new look seats loosened fits = (
 module _ {D : Type 0} {g : Ghosts D} where
   -- where nothing is done
   pub still : (old new : Served (Node D)) → new.look ≡ old.look → new.log_failed ≡ old.log_failed → new.handed ≡ old.handed → new.heard ≡ old.heard → logged_in new.passed ≡ logged_in old.passed → seats_in new.passed ≡ seats_in old.passed
-      → Loosens old.sittings new.sittings → GoesOn g [] old new
-  still old new look log_failed handed heard log seats loosened = record {
+      → Loosens old.sittings new.sittings → Hears old.own new.own old.lines new.lines → GoesOn g [] old new
+  still old new look log_failed handed heard log seats loosened hears = record {
     config = ap (λ (l : Look (Node D)). l.config) look;
     number = ap (λ (l : Look (Node D)). l.number) look;
     begun = ap (λ (l : Look (Node D)). begun_of g l.node) look;
@@ -64,6 +66,7 @@ module _ {D : Type 0} {g : Ghosts D} where
     heard = heard ∙ sym (append-nil old.heard);
     came = tt;
     given = λ but. fits_kept old new look seats loosened (but_nothing old but);
+    hears = hears;
   }
 
   -- one after the other
@@ -88,6 +91,7 @@ module _ {D : Type 0} {g : Ghosts D} where
         (subst (λ (m : List Incoming). IsPartOf (came_by first.since ++ came_by then_on.since) m) (append_assoc taken first.gained then_on.gained)
         (both (came_by first.since) (came_by then_on.since) (taken ++ first.gained) then_on.gained first.came then_on.came));
     given = λ but. then_on.given (all_but_nothing two (first.given but));
+    hears = hears_on one.own two.own three.own one.lines two.lines three.lines first.hears then_on.hears;
   }
 
   -- what was taken comes to the node then
@@ -108,6 +112,7 @@ module _ {D : Type 0} {g : Ghosts D} where
         (then_on.heard ∙ (ap (λ (m : List Handover). m ++ frames_of then_on.gained) takes.heard ∙ append_assoc one.heard (frames_of taken) (frames_of then_on.gained)));
     came = then_on.came;
     given = λ but. then_on.given (taken_fits taken one two takes.look takes.seats takes.sittings (but_nothing one but));
+    hears = hears_on one.own two.own three.own one.lines two.lines three.lines takes.hears then_on.hears;
   }
 
   -- and may be left out, where nothing of it is of seats
@@ -125,8 +130,9 @@ module _ {D : Type 0} {g : Ghosts D} where
     heard = goes.heard;
     came = left_out (came_by goes.since) taken goes.gained goes.came;
     given = λ but. goes.given (but_none_of_seats taken old none but);
+    hears = goes.hears;
   }
 
   -- what was taken and isn't given
   pub not_given : {taken : List Incoming} {one two : Served (Node D)} → seats_of taken ≡ [] → Takes g taken one two → GoesOn g [] one two
-  not_given {two = two} none takes = taken_up takes (let_go none (still two two refl refl refl refl refl refl (λ seat. inl refl)))
+  not_given {two = two} none takes = taken_up takes (let_go none (still two two refl refl refl refl refl refl (λ seat. inl refl) (hears_none two.own two.own two.lines two.lines refl refl)))

@@ -26,6 +26,10 @@ use Rattle.node_service.specs.Fitting.{FitsFor, FitsBut}
 use Rattle.node_service.specs.declared.sitting.Sitting.{Sitting}
 use Rattle.node_service.specs.declared.sitting.Sitting.TheVariants.{Here, LetGo}
 use Rattle.node_service.specs.declared.sitting.Sittings.{Sittings}
+use Rattle.node_peers.specs.declared.peers.Peers.{Peers}
+use Rattle.node_peers.specs.Peering.{own_of, passed_of}
+use Rattle.node_service.specs.Company.{Hears, HearsOn}
+use Rattle.node_service.proofs.Hearing.{hears_none, hears_on, heard_on}
 use Rattle.node_service.proofs.Fitting.{fits_moved}
 use Rattle.node_service.proofs.Going.{still, on, let_go}
 use Rattle.node_service.proofs.Showing.{nothing_shown}
@@ -40,6 +44,10 @@ loosened_by one two three (inr e) (inr f) = inr (e.0, f.1)
 loosened_on : (one two three : Sittings) → Loosens one two → Loosens two three → Loosens one three
 loosened_on one two three first then_on seat = loosened_by (sitting_at one seat) (sitting_at two seat) (sitting_at three seat) (first seat) (then_on seat)
 
+pub heard_either : (old new : Peers) → (new ≡ old) ⊎ HearsOn old new → HearsOn old new
+heard_either old new (inl same) = hears_none (own_of old) (own_of new) (passed_of old) (passed_of new) (ap own_of same) (ap passed_of same)
+heard_either old new (inr hears) = hears
+
 module _ {D W : Type 0} {disk : Ghosts D} (wire : OfWire W) where
   pub kept_on : {one two three : Desk D W disk} → IsKept wire one two → IsKept wire two three → IsKept wire one three
   kept_on {one} {two} {three} first then_on = record {
@@ -50,6 +58,8 @@ module _ {D W : Type 0} {disk : Ghosts D} (wire : OfWire W) where
     log = then_on.log ∙ first.log;
     seats = then_on.seats ∙ first.seats;
     sittings = loosened_on one.sittings two.sittings three.sittings first.sittings then_on.sittings;
+    hears = inr (heard_on one.company.peers two.company.peers three.company.peers (heard_either one.company.peers two.company.peers first.hears)
+        (heard_either two.company.peers three.company.peers then_on.hears));
   }
 
   pub as_it_was : {old new : Desk D W disk} → new ≡ old → IsKept wire old new
@@ -61,10 +71,12 @@ module _ {D W : Type 0} {disk : Ghosts D} (wire : OfWire W) where
     log = ap (λ (d : Desk D W disk). logged_in (wire.passed d.wire)) is;
     seats = ap (λ (d : Desk D W disk). seats_in (wire.passed d.wire)) is;
     sittings = λ seat. inl (ap (λ (d : Desk D W disk). sitting_at d.sittings seat) is);
+    hears = inl (ap (λ (d : Desk D W disk). d.company.peers) is);
   }
 
   pub goes_kept : {old new : Desk D W disk} → IsKept wire old new → GoesOn disk [] (served_by wire old) (served_by wire new)
   goes_kept {old} {new} is = still (served_by wire old) (served_by wire new) (ap (λ (m : Member D disk). look_of m.station) is.member) is.log_failed is.handed is.heard is.log is.seats is.sittings
+      (heard_either old.company.peers new.company.peers is.hears)
 
   taken_kept : (taken : List Incoming) (old new : Desk D W disk) → IsKept wire old new → FitsBut taken (served_by wire old) → FitsBut taken (served_by wire new)
   taken_kept taken old new is but = (
@@ -92,6 +104,8 @@ module _ {D W : Type 0} {disk : Ghosts D} (wire : OfWire W) where
     heard = goes.heard ∙ ap (λ (m : List Handover). m ++ frames_of goes.gained) is.heard;
     came = goes.came;
     given = λ but. goes.given (taken_kept taken one two is but);
+    hears = hears_on (own_of one.company.peers) (own_of two.company.peers) three.own (passed_of one.company.peers) (passed_of two.company.peers) three.lines
+        (heard_either one.company.peers two.company.peers is.hears) goes.hears;
   }
 
   -- and the other way round
@@ -118,17 +132,20 @@ module _ {D W : Type 0} {disk : Ghosts D} (wire : OfWire W) where
       unstepped e nothing_told (served_by wire old) (served_by wire new) (ap (λ (l : Look (Node D)). l.config) look) (ap (λ (l : Look (Node D)). l.number) look)
       (ap (λ (l : Look (Node D)). begun_of disk l.node) look) (ap (λ (l : Look (Node D)). l.deeds) look) refl
       (log_kept old.log_failed [] (logged_in (wire.passed old.wire)) old new (nothing_shown old.log_failed (logged_in (wire.passed old.wire))) is) (is.handed ∙ sym (append-nil old.handed.items)) is.seats
-      is.heard refuses
+      is.heard refuses (heard_either old.company.peers new.company.peers is.hears)
 
   -- the node was called, but not given what the event is made of, and then its bot was let go of
   pub unstepped_then : (e : Event) (told : Told) (result : Option (Result (Unit {0}) NodeFault)) (old : Served (Node D)) (mid new : Desk D W disk) → IsGivenBy false result
       → IfSome result (λ answer. Acts disk e told answer old.look (look_of mid.member.station)) → (IsNone result → look_of mid.member.station ≡ old.look) → (IsNone result → told ≡ nothing_told)
       → LogGains old.log_failed mid.log_failed (added (map text_by told.shown)) (logged_in old.passed) (logged_in (wire.passed mid.wire))
       → mid.handed.items ≡ old.handed ++ (map mark_handed told.frames ++ lines_handed (map text_by told.shown)) → seats_in (wire.passed mid.wire) ≡ seats_in old.passed → mid.heard.items ≡ old.heard
-      → mid.sittings ≡ old.sittings → IsKept wire mid new → Refuses e mid.sittings new.sittings → GoesOn disk (taken_for e) old (served_by wire new)
-  unstepped_then e told result old mid new given acts same unmade log handed seats heard sittings is refuses =
+      → mid.sittings ≡ old.sittings → Hears old.own (own_of mid.company.peers) old.lines (passed_of mid.company.peers) → IsKept wire mid new → Refuses e mid.sittings new.sittings
+      → GoesOn disk (taken_for e) old (served_by wire new)
+  unstepped_then e told result old mid new given acts same unmade log handed seats heard sittings hears is refuses =
       let look : look_of new.member.station ≡ look_of mid.member.station = ap (λ (m : Member D disk). look_of m.station) is.member in
       unstepped_if_not e told result old (served_by wire new) given
       (subst (λ (l : Look (Node D)). IfSome result (λ answer. Acts disk e told answer old.look l)) (sym look) acts) (λ none. look ∙ same none) unmade
       (log_kept old.log_failed (added (map text_by told.shown)) (logged_in old.passed) mid new log is) (is.handed ∙ handed) (is.seats ∙ seats) (is.heard ∙ heard)
       (subst (λ (s : Sittings). Refuses e s new.sittings) sittings refuses)
+      (hears_on old.own (own_of mid.company.peers) (own_of new.company.peers) old.lines (passed_of mid.company.peers) (passed_of new.company.peers) hears
+      (heard_either mid.company.peers new.company.peers is.hears))

@@ -7,5 +7,6 @@ pub mod Going
 pub mod Stepping
 pub mod Incoming
 pub mod Telling
+pub mod Hearing
 pub mod Keeping
 mod Examples

@@ -23,6 +23,7 @@ use Rattle.node_service.specs.Arriving.{incoming_in, seats_of, taken_for}
 use Rattle.node_service.specs.Served.{Served}
 use Rattle.node_service.specs.Sittings.{Admits, IsGivenBy, Settles, Refuses}
 use Rattle.node_service.specs.Fitting.{FitsFor}
+use Rattle.node_service.specs.Company.{Hears}
 use Rattle.node_service.specs.Going.{GoesOn}
 use Rattle.node_service.proofs.Fitting.{fits_given, fits_refused}
 
@@ -47,8 +48,8 @@ module _ {D : Type 0} {g : Ghosts D} where
   stepped : (e : Event) (told : Told) (answer : Result (Unit {0}) NodeFault) (old new : Served (Node D)) → (answer ≡ Err OutOfMemory → ⊥) → Acts g e told answer old.look new.look
       → LogGains old.log_failed new.log_failed (added (map text_by told.shown)) (logged_in old.passed) (logged_in new.passed)
       → new.handed ≡ old.handed ++ (map mark_handed told.frames ++ lines_handed (map text_by told.shown)) → seats_in new.passed ≡ seats_in old.passed → new.heard ≡ old.heard
-      → Admits (runs old.look.node) e old.sittings → Settles e old.sittings new.sittings → GoesOn g (taken_for e) old new
-  stepped e told answer old new was_given acts log handed seats heard admitted settled =
+      → Admits (runs old.look.node) e old.sittings → Settles e old.sittings new.sittings → Hears old.own new.own old.lines new.lines → GoesOn g (taken_for e) old new
+  stepped e told answer old new was_given acts log handed seats heard admitted settled hears =
       elim acts.gains as (λ _. GoesOn g (taken_for e) old new) [
         | nothing refused same ↦ absurd (was_given refused)
         | call taken is ↦ record {
@@ -67,6 +68,7 @@ module _ {D : Type 0} {g : Ghosts D} where
               subst (λ (m : List Passage). FitsFor new.look.deeds new.sittings m) (sym (seats ∙ but.1.0))
               (subst (λ (m : List Deed). FitsFor m new.sittings (but.0 ++ seats_of (taken_for e))) (sym is)
               (fits_given (runs old.look.node) (front_in old.look.node) e told answer old.look.deeds old.sittings new.sittings but.0 admitted settled but.1.1));
+          hears = hears;
         }
       ]
 
@@ -75,8 +77,8 @@ module _ {D : Type 0} {g : Ghosts D} where
       → begun_of g new.look.node ≡ begun_of g old.look.node → new.look.deeds ≡ old.look.deeds → told ≡ nothing_told
       → LogGains old.log_failed new.log_failed (added (map text_by told.shown)) (logged_in old.passed) (logged_in new.passed)
       → new.handed ≡ old.handed ++ (map mark_handed told.frames ++ lines_handed (map text_by told.shown)) → seats_in new.passed ≡ seats_in old.passed → new.heard ≡ old.heard
-      → Refuses e old.sittings new.sittings → GoesOn g (taken_for e) old new
-  unstepped e told old new config number begun deeds unmade log handed seats heard refused = record {
+      → Refuses e old.sittings new.sittings → Hears old.own new.own old.lines new.lines → GoesOn g (taken_for e) old new
+  unstepped e told old new config number begun deeds unmade log handed seats heard refused hears = record {
     config = config;
     number = number;
     begun = begun;
@@ -92,6 +94,7 @@ module _ {D : Type 0} {g : Ghosts D} where
         subst (λ (m : List Passage). FitsFor new.look.deeds new.sittings m) (sym (seats ∙ but.1.0))
         (subst (λ (m : List Deed). FitsFor m new.sittings (but.0 ++ seats_of (taken_for e))) (sym deeds)
         (fits_refused e old.look.deeds old.sittings new.sittings but.0 refused but.1.1));
+    hears = hears;
   }
 
   -- by whether it was
@@ -99,23 +102,24 @@ module _ {D : Type 0} {g : Ghosts D} where
       → IfSome result (λ answer. Acts g e told answer old.look new.look)
       → LogGains old.log_failed new.log_failed (added (map text_by told.shown)) (logged_in old.passed) (logged_in new.passed)
       → new.handed ≡ old.handed ++ (map mark_handed told.frames ++ lines_handed (map text_by told.shown)) → seats_in new.passed ≡ seats_in old.passed → new.heard ≡ old.heard
-      → Admits (runs old.look.node) e old.sittings → Settles e old.sittings new.sittings → GoesOn g (taken_for e) old new
-  stepped_if_given e told None old new given acts log handed seats heard admitted settled = absurd given
-  stepped_if_given e told (Some answer) old new given acts log handed seats heard admitted settled = stepped e told answer old new given acts log handed seats heard admitted settled
+      → Admits (runs old.look.node) e old.sittings → Settles e old.sittings new.sittings → Hears old.own new.own old.lines new.lines → GoesOn g (taken_for e) old new
+  stepped_if_given e told None old new given acts log handed seats heard admitted settled hears = absurd given
+  stepped_if_given e told (Some answer) old new given acts log handed seats heard admitted settled hears =
+      stepped e told answer old new given acts log handed seats heard admitted settled hears
 
   pub unstepped_if_not : (e : Event) (told : Told) (result : Option (Result (Unit {0}) NodeFault)) (old new : Served (Node D)) → IsGivenBy false result
       → IfSome result (λ answer. Acts g e told answer old.look new.look) → (IsNone result → new.look ≡ old.look) → (IsNone result → told ≡ nothing_told)
       → LogGains old.log_failed new.log_failed (added (map text_by told.shown)) (logged_in old.passed) (logged_in new.passed)
       → new.handed ≡ old.handed ++ (map mark_handed told.frames ++ lines_handed (map text_by told.shown)) → seats_in new.passed ≡ seats_in old.passed → new.heard ≡ old.heard
-      → Refuses e old.sittings new.sittings → GoesOn g (taken_for e) old new
-  unstepped_if_not e told None old new given acts same unmade log handed seats heard refused =
+      → Refuses e old.sittings new.sittings → Hears old.own new.own old.lines new.lines → GoesOn g (taken_for e) old new
+  unstepped_if_not e told None old new given acts same unmade log handed seats heard refused hears =
       let look : new.look ≡ old.look = same refl in
       unstepped e told old new (ap (λ (l : Look (Node D)). l.config) look) (ap (λ (l : Look (Node D)). l.number) look) (ap (λ (l : Look (Node D)). begun_of g l.node) look)
-      (ap (λ (l : Look (Node D)). l.deeds) look) (unmade refl) log handed seats heard refused
-  unstepped_if_not e told (Some answer) old new given acts same unmade log handed seats heard refused =
+      (ap (λ (l : Look (Node D)). l.deeds) look) (unmade refl) log handed seats heard refused hears
+  unstepped_if_not e told (Some answer) old new given acts same unmade log handed seats heard refused hears =
       elim acts.gains as (λ _. GoesOn g (taken_for e) old new) [
         | nothing no_memory is ↦
             unstepped e told old new acts.config acts.number acts.given.stays.begun is (acts.given.stays.unmade (subst (λ (a : Result (Unit {0}) NodeFault). IsErr a) (sym no_memory) refl)) log
-            handed seats heard refused
+            handed seats heard refused hears
         | call taken is ↦ absurd (taken given)
       ]

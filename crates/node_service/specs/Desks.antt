@@ -1,11 +1,13 @@
 -- How a node's process at its wires is seen.
-use Rattle.std.specs.Prelude.{◌≡◌}
+use Rattle.std.specs.Prelude.{◌≡◌, ◌⊎◌}
 use Rattle.promise_store.specs.declared.disk.Disk.{Ghosts}
 use Rattle.node_wires.specs.declared.wire.Wire.{Ghosts as OfWire}
 use Rattle.node_wires.specs.Passages.{logged_in, seats_in}
 use Rattle.dealer_node.specs.Nodes.{Node}
 use Rattle.stations.specs.Looking.{look_of}
 use Rattle.node_service.specs.declared.desk.Desk.{Desk}
+use Rattle.node_peers.specs.Peering.{own_of, passed_of}
+use Rattle.node_service.specs.Company.{HearsOn}
 use Rattle.node_service.specs.Served.{Served}
 use Rattle.node_service.specs.Sittings.{Loosens}
 
@@ -18,6 +20,8 @@ module _ {D W : Type 0} {disk : Ghosts D} (wire : OfWire W) where
     handed = desk.handed.items;
     heard = desk.heard.items;
     sittings = desk.sittings;
+    own = own_of desk.company.peers;
+    lines = passed_of desk.company.peers;
   }
 
   -- the node isn't called, the log stays, and nothing is taken of seats and of peers; bots of seats may be let go of
@@ -29,3 +33,4 @@ module _ {D W : Type 0} {disk : Ghosts D} (wire : OfWire W) where
     pub log : logged_in (wire.passed new.wire) ≡ logged_in (wire.passed old.wire)
     pub seats : seats_in (wire.passed new.wire) ≡ seats_in (wire.passed old.wire)
     pub sittings : Loosens old.sittings new.sittings
+    pub hears : (new.company.peers ≡ old.company.peers) ⊎ HearsOn old.company.peers new.company.peers

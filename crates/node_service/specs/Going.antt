@@ -9,6 +9,7 @@ use Rattle.node_service.specs.Parts.{IsPartOf}
 use Rattle.node_service.specs.Showing.{shown_log, LogGains}
 use Rattle.node_service.specs.Handed.{handed_by}
 use Rattle.node_service.specs.Arriving.{Incoming, seats_of, frames_of, came_by}
+use Rattle.node_service.specs.Company.{Hears}
 use Rattle.node_service.specs.Served.{Served}
 use Rattle.node_service.specs.Sittings.{Loosens}
 use Rattle.node_service.specs.Fitting.{Fits, FitsBut}
@@ -16,7 +17,7 @@ use Rattle.node_service.specs.Fitting.{Fits, FitsBut}
 module _ {D : Type 0} (g : Ghosts D) where
   -- it stays the process of the same node; it did so much more, the newest first: the log gained what was shown to it; what these deeds sent and told was
   -- handed on, in order, and nothing else; and what came to the node had come: of seats over their lines, and of peers as they told it, with what was taken
-  -- before, in this order and each once; and of each seat nothing was left out in the middle
+  -- before, in this order and each once; of each seat nothing was left out in the middle; and what had passed over the lines of its peers has
   pub record GoesOn (taken : List Incoming) (old new : Served (Node D)) : Type 0 where
     pub config : new.look.config ≡ old.look.config
     pub number : new.look.number ≡ old.look.number
@@ -30,6 +31,7 @@ module _ {D : Type 0} (g : Ghosts D) where
     pub heard : new.heard ≡ old.heard ++ frames_of gained
     pub came : IsPartOf (came_by since) (taken ++ gained)
     pub given : FitsBut taken old → Fits new
+    pub hears : Hears old.own new.own old.lines new.lines
 
   -- nothing was done, and this was taken
   pub record Takes (taken : List Incoming) (old new : Served (Node D)) : Type 0 where
@@ -40,6 +42,7 @@ module _ {D : Type 0} (g : Ghosts D) where
     pub seats : seats_in new.passed ≡ seats_in old.passed ++ seats_of taken
     pub heard : new.heard ≡ old.heard ++ frames_of taken
     pub sittings : Loosens old.sittings new.sittings
+    pub hears : Hears old.own new.own old.lines new.lines
 
   -- one turn after the other is as one
   abbrev pub TurnsAreOne : Type 0

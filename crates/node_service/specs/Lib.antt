@@ -4,6 +4,7 @@ pub mod Handed
 pub mod Handing
 pub mod Arriving
 pub mod Telling
+pub mod Company
 pub mod Sittings
 pub mod Sessions
 pub mod Served
@@ -12,3 +13,4 @@ pub mod Going
 pub mod Ending
 pub mod Desks
 pub mod Serving
+pub mod WrongTokens

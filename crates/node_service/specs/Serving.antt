@@ -27,4 +27,4 @@ module _ {D W : Type 0} {disk : Ghosts D} {wire : OfWire W} where
 
   -- what is to be told, the next first
   abbrev pub told_in : NodeServer D W disk wire → List Told
-  told_in server = server.told.items
+  told_in server = server.desk.company.told.items

@@ -12,9 +12,11 @@ ghost use Rattle.node_wires.specs.Passages.{logged_in, seats_in};
 ghost use Rattle.node_service.specs.Showing.{added, LogGains};
 ghost use Rattle.node_service.specs.Arriving.{frames_of};
 ghost use Rattle.node_service.specs.Telling.{told_of, told_by, incoming_by};
+ghost use Rattle.node_service.specs.Company.{HearsOn};
 ghost use Rattle.node_service.specs.Sittings.{seat_in, IsGivenBy, Loosens, Frees, Refuses};
 ghost use Rattle.node_service.specs.Handed.{ToPeer, ToSeat, mark_handed, line_handed, lines_handed};
 
+use crate::company::Company;
 use crate::handed::Handed;
 use crate::limits::{LONG, SEATS};
 use crate::member::Member;
@@ -22,7 +24,7 @@ use crate::sitting::Sittings;
 use dealer_node::{NodeFault, Out, Reader, SeatFault};
 use dealer_world::Event;
 use node_links::Told as Beat;
-use node_peers::{Notice, Peers};
+use node_peers::Notice;
 use node_seats::{SeatNotice, Seats};
 use node_status::Askers;
 use node_wires::Wire;
@@ -32,7 +34,7 @@ use promise_store::Disk;
 pub(crate) struct Desk<D: Disk + Drop, W: Wire + Drop> {
     pub(crate) member: Member<D>,
     pub(crate) wire: W,
-    pub(crate) peers: Peers,
+    pub(crate) company: Company,
     pub(crate) seats: Seats,
     pub(crate) askers: Askers,
     /// The log couldn't be written: nothing more goes into it.
@@ -50,7 +52,7 @@ impl<D: Disk + Drop, W: Wire + Drop> Drop for Desk<D, W> {
         let Desk {
             member: _,
             wire: _,
-            peers: _,
+            company: _,
             seats: _,
             askers: _,
             log_failed: _,
@@ -121,20 +123,22 @@ fn note_heard(notice: &Notice, heard: &mut Handed)
 }
 
 /// Hands a frame to the peers.
-fn send(to: u8, frame: &[u8], peers: &mut Peers, handed: &mut Handed, now: u64)
+fn send(to: u8, frame: &[u8], company: &mut Company, handed: &mut Handed, now: u64)
     ensures handed { handed.new.items ≡ handed.old.items ++ ToPeer to frame.now ∷ [] }
-    ensures sent { Sends to frame.now peers.old.peers.items peers.new.peers.items }
+    ensures hears { HearsOn company.old.peers company.new.peers }
+    ensures sent { Sends to frame.now company.old.peers.peers.items company.new.peers.peers.items }
 {
-    peers.send(to, frame, now);
+    company.send(to, frame, now);
     handed.sent(to, frame);
 }
 
 /// Hands the frames that a call made to the peers, in order.
-fn send_all(made: &Out, peers: &mut Peers, handed: &mut Handed, now: u64)
-    ensures { handed.new.items ≡ handed.old.items ++ map mark_handed made.now.frames }
+fn send_all(made: &Out, company: &mut Company, handed: &mut Handed, now: u64)
+    ensures handed { handed.new.items ≡ handed.old.items ++ map mark_handed made.now.frames }
+    ensures hears { HearsOn company.old.peers company.new.peers }
 {
     for (to, frame) in made.frames() {
-        send(to, frame, peers, handed, now);
+        send(to, frame, company, handed, now);
     }
 }
 
@@ -226,7 +230,7 @@ impl<D: Disk + Drop, W: Wire + Drop> Desk<D, W> {
         }
         let answer = self.member.step(event);
         let deaf = self.hand_on();
-        self.peers.set_promised(self.member.node().promised());
+        self.company.set_promised(self.member.node().promised());
         if !is_given(answer) {
             self.refuse(event);
             return answer;
@@ -255,10 +259,11 @@ impl<D: Disk + Drop, W: Wire + Drop> Desk<D, W> {
         ensures seats { seats_in (W.passed self.new.wire) ≡ seats_in (W.passed self.old.wire) }
         ensures heard { self.new.heard.items ≡ self.old.heard.items }
         ensures sittings { self.new.sittings ≡ self.old.sittings }
+        ensures hears { HearsOn self.old.company.peers self.new.company.peers }
         ensures handed { self.new.handed.items ≡ self.old.handed.items ++ (map mark_handed self.old.member.made.frames ++ lines_handed (map text_by self.old.member.made.shown)) }
     {
         let now = self.wire.now();
-        send_all(self.member.made(), &mut self.peers, &mut self.handed, now);
+        send_all(self.member.made(), &mut self.company, &mut self.handed, now);
         show_all(
             self.member.made(),
             &mut self.wire,
@@ -289,14 +294,14 @@ impl<D: Disk + Drop, W: Wire + Drop> Desk<D, W> {
         if lost <= LONG {
             return;
         }
-        self.peers.forgive(lost, now);
+        self.company.forgive(lost, now);
     }
 
     /// A peer counts as absent once it was silent for so long.
     pub(crate) fn set_silence(&mut self, silence: u64)
         ensures { IsKept W.Wire self.old self.new }
     {
-        self.peers.set_silence(silence);
+        self.company.set_silence(silence);
     }
 
     /// What of the last call was wrong in what a seat sent: the fault of this number.
@@ -317,15 +322,15 @@ impl<D: Disk + Drop, W: Wire + Drop> Desk<D, W> {
     pub(crate) fn hear(&mut self, now: u64)
         ensures { IsKept W.Wire self.old self.new }
     {
-        self.peers.hear(&mut self.wire, now);
+        self.company.hear(&mut self.wire, now);
     }
 
     /// What is told next of peers.
     pub(crate) fn next_of_peers(&mut self) -> Option<Notice>
         ensures takes { Takes D.Disk (told_by result) (served_by W.Wire self.old) (served_by W.Wire self.new) }
-        ensures told { IfSome result (λ notice. IsTold (own_of self.old.peers) (passed_of self.old.peers) notice) }
+        ensures told { IfSome result (λ notice. IsTold (own_of self.new.company.peers) (passed_of self.new.company.peers) notice) }
     {
-        match self.peers.next() {
+        match self.company.next() {
             Some(notice) => {
                 note_heard(&notice, &mut self.heard);
                 Some(notice)
@@ -396,8 +401,7 @@ impl<D: Disk + Drop, W: Wire + Drop> Desk<D, W> {
     fn write_to_peers(&mut self, told: Beat, now: u64)
         ensures { IsKept W.Wire self.old self.new }
     {
-        self.peers.tell(told, now);
-        self.peers.flush(&mut self.wire, now);
+        self.company.speak(told, &mut self.wire, now);
     }
 
     /// Takes in one who asks how the node is, and says whether anybody waits for that.

@@ -25,7 +25,7 @@ impl<D: Disk + Drop, W: Wire + Drop> NodeServer<D, W> {
             if number == self.desk.member.number() {
                 continue;
             }
-            if let Some(view) = self.desk.peers.view(number) {
+            if let Some(view) = self.desk.company.peers.view(number) {
                 if !self.knows(number, &view, now) {
                     return false;
                 }

@@ -3,6 +3,7 @@
 ghost use Rattle.std.specs.Prelude.{map, option_map};
 ghost use Rattle.stations.specs.Together.{StationsArePromised};
 ghost use Rattle.node_service.specs.Serving.{look_in};
+ghost use Rattle.node_service.specs.Company.{ShownStays};
 ghost use Rattle.node_service.specs.Going.{TurnsAreOne};
 
 use crate::server::NodeServer;
@@ -25,4 +26,10 @@ pub fn servers_are_promised<D: Disk + Drop, W: Wire + Drop>(_servers: &[Option<N
 /// showed to it since the first of them, and what came to the node of seats had come over their lines.
 pub fn turns_are_one<D: Disk + Drop>()
     ensures { TurnsAreOne D.Disk }
+{}
+
+/// What holds of the lives that one turn has to tell holds of those of all turns: each is one that its node showed, over a
+/// connection that it opened by its Hello.
+pub fn lives_stay_shown()
+    ensures { ShownStays }
 {}

@@ -11,6 +11,7 @@
 //! log has is what the node showed to it.
 #![tactic(auto)]
 
+mod company;
 mod desk;
 mod ending;
 mod handed;
@@ -29,6 +30,7 @@ mod status;
 mod taking;
 mod ticking;
 mod told;
+mod wrong_tokens;
 
 pub use member::Member;
 pub use outcome::Outcome;

@@ -1,6 +1,7 @@
 //! What is noted of a call, and told of it: to whoever makes notes, and to peers.
 
-ghost use Rattle.std.specs.Prelude.{◌≡◌};
+ghost use Rattle.std.specs.Prelude.{◌≡◌, ◌<◌};
+ghost use Rattle.node_service.specs.declared.limits.TheConstants.{SEATS as COUNT};
 
 use crate::limits::SEATS;
 use crate::member::Member;
@@ -94,7 +95,7 @@ impl<D: Disk + Drop, W: Wire + Drop> NodeServer<D, W> {
 
     /// The node has promised this ballot: whoever has it campaigns, unless it was in the store that the process began with.
     pub(crate) fn note_leader(&mut self, ballot: Ballot, now: u64)
-        ensures { self.new.desk ≡ self.old.desk }
+        ensures { IsKept W.Wire self.old.desk self.new.desk }
     {
         let earlier = self.leader;
         if earlier == Some(ballot) {
@@ -111,6 +112,30 @@ impl<D: Disk + Drop, W: Wire + Drop> NodeServer<D, W> {
         }
         if is_other && self.watch.seen.campaigns {
             self.tell(Told::Leads { ballot });
+        }
+    }
+
+    /// Tells how many came to a seat without its token, where that is to be told now. Without memory it is told later.
+    fn note_wrong_token(&mut self, seat: u8, now: u64)
+        requires { seat < COUNT }
+        ensures { IsKept W.Wire self.old.desk self.new.desk }
+    {
+        let count = self.wrong_tokens.due(seat, now);
+        if count == 0 {
+            return;
+        }
+        let is_told = self.desk.company.tell(Told::WrongToken { seat, count });
+        if is_told {
+            self.wrong_tokens.tell(seat, now);
+        }
+    }
+
+    /// The same of each seat.
+    pub(crate) fn note_wrong_tokens(&mut self, now: u64)
+        ensures { IsKept W.Wire self.old.desk self.new.desk }
+    {
+        for seat in 0..SEATS {
+            self.note_wrong_token(seat, now);
         }
     }
 
@@ -131,7 +156,7 @@ impl<D: Disk + Drop, W: Wire + Drop> NodeServer<D, W> {
     /// Tells for which seat all wait, where nothing has gone on for a while. It is told where that seat sits, and where it
     /// sits nowhere.
     pub(crate) fn note_waiting(&mut self, now: u64)
-        ensures { self.new.desk ≡ self.old.desk }
+        ensures { IsKept W.Wire self.old.desk self.new.desk }
     {
         let seen = self.watch.seen;
         if seen.over || seen.act_waits || !seen.hand_runs || self.lasting.is_apart {

@@ -5,11 +5,13 @@ ghost use Rattle.dealer_node.specs.Seeing.{runs};
 ghost use Rattle.dealer_node.specs.Taking.{TakesDown};
 ghost use Rattle.node_links.specs.declared.limits.TheConstants.{LOOK};
 ghost use Rattle.node_service.specs.Arriving.{taken_for};
-ghost use Rattle.node_peers.specs.Peering.{own_of};
+ghost use Rattle.node_peers.specs.Peering.{own_of, passed_of};
+ghost use Rattle.node_service.specs.Company.{IsShown};
 ghost use Rattle.node_service.specs.Ending.{is_well, IsOverAt};
 ghost use Rattle.node_service.specs.Fitting.{Fits};
 ghost use Rattle.node_service.specs.declared.outcome.Outcome.TheVariants.{GoesOn as Further, Over as IsOver, Failed};
 
+use crate::company::Company;
 use crate::desk::Desk;
 use crate::handed::Handed;
 use crate::lasting::Lasting;
@@ -22,6 +24,7 @@ use crate::rate::Rate;
 use crate::sights::Sights;
 use crate::sitting::Sittings;
 use crate::told::Told;
+use crate::wrong_tokens::WrongTokens;
 use clockwork::limits::SHORTEST;
 use dealer_node::NodeFault;
 use dealer_world::Event;
@@ -34,7 +37,6 @@ use paxos_wire::Ballot;
 use promise_store::Disk;
 use stations::Station;
 use std::alloc::Global;
-use std::collections::VecDeque;
 
 /// What a process is told of its match beside its node.
 #[derive(Clone, Copy, Debug)]
@@ -64,7 +66,7 @@ pub struct NodeServer<D: Disk + Drop, W: Wire + Drop> {
     /// The ballot that the node promised itself to last, as far as it was seen; and whether the node was started.
     pub(crate) leader: Option<Ballot>,
     pub(crate) is_started: bool,
-    pub(crate) told: VecDeque<Told>,
+    pub(crate) wrong_tokens: WrongTokens,
     /// What ends the process, once something does.
     pub(crate) outcome: Outcome,
     ghost within: { nodes ≤ 7 },
@@ -86,7 +88,7 @@ impl<D: Disk + Drop, W: Wire + Drop> Drop for NodeServer<D, W> {
             left: _,
             leader: _,
             is_started: _,
-            told: _,
+            wrong_tokens: _,
             outcome: _,
         } = self;
     }
@@ -140,6 +142,8 @@ impl<D: Disk + Drop, W: Wire + Drop> NodeServer<D, W> {
         ensures passed { (served_of result).passed ≡ W.passed wire }
         ensures log { (served_of result).log_failed ≡ false }
         ensures told { told_in result ≡ [] }
+        ensures own { (served_of result).own ≡ own_of peers }
+        ensures lines { (served_of result).lines ≡ passed_of peers }
         ensures peers { outcome_in result ≡ Further → (own_of peers).number ≡ (look_in result).number }
         ensures fits { (look_in result).deeds ≡ [] → Fits (served_of result) }
     {
@@ -150,11 +154,12 @@ impl<D: Disk + Drop, W: Wire + Drop> NodeServer<D, W> {
         } else {
             Outcome::Failed(NodeFault::Down)
         };
+        let company = Company::new(alloc, peers);
         NodeServer {
             desk: Desk {
                 member,
                 wire,
-                peers,
+                company,
                 seats,
                 askers,
                 log_failed: false,
@@ -173,7 +178,7 @@ impl<D: Disk + Drop, W: Wire + Drop> NodeServer<D, W> {
             left: now,
             leader: None,
             is_started: false,
-            told: VecDeque::new(alloc),
+            wrong_tokens: WrongTokens::new(),
             outcome,
         }
     }
@@ -197,20 +202,23 @@ impl<D: Disk + Drop, W: Wire + Drop> NodeServer<D, W> {
         self.desk.wire_mut()
     }
 
-    /// What is to be told next of what happened.
+    /// What is to be told next of what happened. A node that is told to be there opened a connection by its Hello, with a key
+    /// behind its proof, and a life that is told with it is the one of that Hello.
     pub fn notice(&mut self) -> Option<Told>
         ensures next { IfSome result (λ told. told_in self.old ≡ told ∷ told_in self.new) }
         ensures none { IsNone result → told_in self.old ≡ [] }
         ensures same { served_of self.new ≡ served_of self.old }
+        ensures shown { IfSome result (λ told. IsShown (served_of self.old).own (served_of self.old).lines told) }
     {
-        self.told.pop_front()
+        self.desk.company.notice()
     }
 
     /// Without memory for it a note is left out.
     pub(crate) fn tell(&mut self, told: Told)
-        ensures { self.new.desk ≡ self.old.desk }
+        requires { IsShown (own_of self.old.desk.company.peers) (passed_of self.old.desk.company.peers) told }
+        ensures { IsKept W.Wire self.old.desk self.new.desk }
     {
-        let _ = self.told.push_back(told);
+        let _ = self.desk.company.tell(told);
     }
 
     /// What is left to do: nothing is well while the node is down, and it isn't over before the match is over there.
@@ -296,7 +304,7 @@ impl<D: Disk + Drop, W: Wire + Drop> NodeServer<D, W> {
             return 0;
         }
         until_due
-            .min(self.desk.peers.wait(now))
+            .min(self.desk.company.peers.wait(now))
             .min(self.lasting.wait(now))
     }
 
@@ -329,6 +337,7 @@ impl<D: Disk + Drop, W: Wire + Drop> NodeServer<D, W> {
         // What beats told is older than what the frames behind them say.
         self.look(begun);
         let is_all = self.take_all(alloc, begun);
+        self.note_wrong_tokens(begun);
         if self.outcome != Outcome::GoesOn {
             self.part();
             return (self.outcome(), 0);

@@ -24,7 +24,7 @@ impl<D: Disk + Drop, W: Wire + Drop> NodeServer<D, W> {
     /// Whether one does at another node, as far as those that are there have told.
     pub(crate) fn sits_elsewhere(&self, seat: u8, now: u64) -> bool {
         for number in 0..self.nodes {
-            if let Some(view) = self.desk.peers.view(number) {
+            if let Some(view) = self.desk.company.peers.view(number) {
                 if self.is_present(&view, now) && self.sights.has_seat(number, seat) {
                     return true;
                 }
@@ -40,7 +40,7 @@ impl<D: Disk + Drop, W: Wire + Drop> NodeServer<D, W> {
             if number == self.desk.member.number() {
                 continue;
             }
-            if let Some(view) = self.desk.peers.view(number) {
+            if let Some(view) = self.desk.company.peers.view(number) {
                 let is_present = self.is_present(&view, now);
                 statuses.push(match view.beat {
                     Some(beat) if is_present => PeerStatus::Present {

@@ -5,6 +5,9 @@ ghost use Rattle.node_wires.specs.Passages.{Began, Came};
 ghost use Rattle.node_wires.specs.declared.line.Line.TheVariants.{Seat};
 ghost use Rattle.node_service.specs.Arriving.{OfSeat, OfPeer, incoming_of};
 ghost use Rattle.node_service.specs.Telling.{told_of};
+ghost use Rattle.node_peers.specs.Hearing.{IsTold};
+ghost use Rattle.node_peers.specs.Peering.{own_of, passed_of};
+ghost use Rattle.node_peers.specs.declared.notice.Notice.TheVariants.{Joined};
 
 use crate::limits::CALLS;
 use crate::outcome::Outcome;
@@ -33,6 +36,7 @@ pub(crate) enum Taken {
 }
 
 impl<D: Disk + Drop, W: Wire + Drop> NodeServer<D, W> {
+    ghost use Rattle.node_service.specs.Desks.{IsKept};
     ghost use Rattle.node_service.specs.Going.{GoesOn};
     ghost use Rattle.node_service.specs.Serving.{served_of};
 
@@ -76,6 +80,7 @@ impl<D: Disk + Drop, W: Wire + Drop> NodeServer<D, W> {
 
     /// One thing that came of a peer.
     pub(crate) fn take_notice(&mut self, alloc: Global, notice: Notice) -> Taken
+        requires { IsTold (own_of self.old.desk.company.peers) (passed_of self.old.desk.company.peers) notice }
         ensures { GoesOn D.Disk (told_of notice) (served_of self.old) (served_of self.new) }
     {
         match notice {
@@ -106,9 +111,10 @@ impl<D: Disk + Drop, W: Wire + Drop> NodeServer<D, W> {
     /// A connection to a peer is open. A life that is to be kept is told before frames of its node are taken; where there is
     /// no memory to tell it that ends the process, since nobody would keep it.
     pub(crate) fn take_joined(&mut self, peer: u8, life: Option<Life>) -> Taken
-        ensures { self.new.desk ≡ self.old.desk }
+        requires { IsTold (own_of self.old.desk.company.peers) (passed_of self.old.desk.company.peers) (Joined peer life) }
+        ensures { IsKept W.Wire self.old.desk self.new.desk }
     {
-        let is_told = self.told.push_back(Told::Joined { peer, life }).is_ok();
+        let is_told = self.desk.company.tell(Told::Joined { peer, life });
         if life.is_none() {
             return Taken::One;
         }
@@ -121,7 +127,7 @@ impl<D: Disk + Drop, W: Wire + Drop> NodeServer<D, W> {
     /// A connection to a peer is closed by a fault. Where the peer keeps another life of this node's store, that ends the
     /// process.
     pub(crate) fn note_refused(&mut self, peer: u8, fault: LinkFault, source: Option<IpAddr>)
-        ensures { self.new.desk ≡ self.old.desk }
+        ensures { IsKept W.Wire self.old.desk self.new.desk }
     {
         if fault == LinkFault::WentBack(Whose::Own) {
             self.end(Outcome::WentBack);
@@ -152,7 +158,7 @@ impl<D: Disk + Drop, W: Wire + Drop> NodeServer<D, W> {
             SeatNotice::Came { seat } => self.seat_bot(seat),
             SeatNotice::Piece { seat, bytes } => self.take_piece(seat, bytes),
             SeatNotice::Gone { seat } => self.leave(seat),
-            SeatNotice::Refused { seat } => self.tell(Told::WrongToken { seat }),
+            SeatNotice::Refused { seat } => self.wrong_tokens.count(seat),
         }
     }
 

@@ -29,7 +29,7 @@ impl<D: Disk + Drop, W: Wire + Drop> NodeServer<D, W> {
     pub(crate) fn look_at(&mut self, number: u8, now: u64)
         ensures { self.new.desk ≡ self.old.desk }
     {
-        let Some(view) = self.desk.peers.view(number) else {
+        let Some(view) = self.desk.company.peers.view(number) else {
             return;
         };
         self.sights.take(number, &view, self.watch.seen.front, now);
@@ -67,7 +67,7 @@ impl<D: Disk + Drop, W: Wire + Drop> NodeServer<D, W> {
             if number == self.desk.member.number() {
                 continue;
             }
-            if let Some(view) = self.desk.peers.view(number) {
+            if let Some(view) = self.desk.company.peers.view(number) {
                 others.push(self.sights.peer(number, &view, self.is_owed(&view)));
             }
         }

@@ -42,9 +42,11 @@ pub enum Told {
         seat: u8,
         fault: SessionFault,
     },
-    /// One who came to a seat showed no token of it, or a wrong one.
+    /// So many came to a seat since this was last told of it who showed another token than its own, or none; it is told once
+    /// a second at most.
     WrongToken {
         seat: u8,
+        count: u32,
     },
     /// It was ordered that this seat, which is to act, is played for.
     Ordered {

@@ -4,7 +4,7 @@ use Rattle.node_runs.proofs.running.take_turns.Goals as goal
 use Rattle.node_runs.proofs.running.take_turns.Goals.{in-Some+in_default-tell, in_default+in_default-end_of}
 
 pub loop-steps-init : goal.loop-steps-init
-loop-steps-init g c = begun g.L.LifeKeeper.kept c.args.port c.args.server.now c.args.first (g.N.Write.contents c.args.notes.now) c.args.lives.now c.requires
+loop-steps-init g c = begun g.L.LifeKeeper.kept c.args.port c.args.server.now c.args.first (g.N.Write.contents c.args.notes.now) c.args.lives.now c.requires.log c.requires.over
 
 pub returns-in-Some-end_of-clause-went : goal.returns-in-Some-end_of-clause-went
 returns-in-Some-end_of-clause-went g c =
@@ -23,17 +23,17 @@ pub returns-in-Err-clause-went : goal.returns-in-Err-clause-went
 returns-in-Err-clause-went g c =
     rw c.from.ensures
     (stopped g.L.LifeKeeper.kept c.args.port c.args.server.now c.args.first _ c.args.lives.now c.loop-steps.server c.notice.new.self c.loop-steps.outcome _ c.in-Some.told c.in-Err.fault _ _ _ _
-    c.loop-steps.invariant c.in-Some.ensures.next c.notice.ensures.same c.in-Err.ensures.unkept.0 c.in-Err.ensures.unkept.1)
+    c.loop-steps.invariant c.in-Some.ensures.next c.notice.ensures.same c.in-Err.ensures.unkept.0 c.in-Err.ensures.unkept.1 c.in-Some.ensures.shown)
 
 pub loop-steps-preserved : goal.loop-steps-preserved
 loop-steps-preserved g c = elim c.match-notice.branch [
   | in-Some+in_default-tell w ↦
       rw (w.server-is, w.outcome-is, w.notes-is, w.lives-is)
-      (told_one g.L.LifeKeeper.kept c.args.port c.args.server.now c.args.first _ c.args.lives.now c.loop-steps.server c.notice.new.self c.loop-steps.outcome c.loop-steps.steps w.in-Some.told _ _ _ _
-      c.loop-steps.invariant w.in-Some.ensures.next c.notice.ensures.same (rw w.station.ensures at w.in_default-tell.ensures.told))
+      (told_one g.L.LifeKeeper.kept c.args.port c.args.server.now c.args.first _ c.args.lives.now c.lives_stay_shown.ensures c.loop-steps.server c.notice.new.self c.loop-steps.outcome c.loop-steps.steps w.in-Some.told _ _ _ _
+      c.loop-steps.invariant w.in-Some.ensures.next c.notice.ensures.same (rw w.station.ensures at w.in_default-tell.ensures.told) w.in-Some.ensures.shown)
   | in_default+in_default-end_of w ↦
       rw (w.server-is, w.outcome-is, w.notes-is, w.lives-is)
-      (turned g.L.LifeKeeper.kept c.args.port c.args.server.now c.args.first _ c.args.lives.now c.turns_are_one.ensures c.loop-steps.server c.notice.new.self w.turn.new.self c.loop-steps.outcome
+      (turned g.L.LifeKeeper.kept c.args.port c.args.server.now c.args.first _ c.args.lives.now c.turns_are_one.ensures c.lives_stay_shown.ensures c.loop-steps.server c.notice.new.self w.turn.new.self c.loop-steps.outcome
       w.turn.result.0 c.loop-steps.steps _ _ c.loop-steps.invariant (sym w.end_of.ensures ∙ w.in_default-end_of.is) (w.in_default.ensures.none refl) c.notice.ensures.same w.turn.ensures.goes
-      w.turn.ensures.log)
+      w.turn.ensures.log w.turn.ensures.over)
 ]

@@ -8,6 +8,7 @@ use Rattle.node_service.specs.declared.sitting.Sittings.{Sittings}
 use Rattle.node_service.specs.Desks.{served_by}
 use Rattle.node_service.specs.Sittings.{Admits, IsGivenBy, Settles}
 use Rattle.node_service.proofs.Keeping.{refused, then_kept, unstepped_then}
+use Rattle.node_service.proofs.Hearing.{heard_on as promised}
 use Rattle.node_service.proofs.Stepping.{stepped_if_given}
 use Rattle.node_service.proofs.desk.Desk.step.Goals as goal
 
@@ -24,7 +25,8 @@ returns-then-not-is_given g c =
     (subst (λ (m : Member _ g.D.Disk). IfSome c.step-answer.result (λ answer. Acts g.D.Disk e c.step-answer.new.self.made answer (look_of old.member.station) (look_of m.station))) (sym same)
     c.step-answer.ensures.acts)
     (λ none. ap (λ (m : Member _ g.D.Disk). look_of m.station) same ∙ ap look_of (c.step-answer.ensures.none none)) c.step-answer.ensures.unmade c.hand_on-deaf.ensures.log
-    c.hand_on-deaf.ensures.handed c.hand_on-deaf.ensures.seats c.hand_on-deaf.ensures.heard c.hand_on-deaf.ensures.sittings c.refuse-then-not-is_given.ensures.kept
+    c.hand_on-deaf.ensures.handed c.hand_on-deaf.ensures.seats c.hand_on-deaf.ensures.heard c.hand_on-deaf.ensures.sittings
+    (promised old.company.peers c.hand_on-deaf.new.self.company.peers c.set_promised.new.self.peers c.hand_on-deaf.ensures.hears c.set_promised.ensures) c.refuse-then-not-is_given.ensures.kept
     c.refuse-then-not-is_given.ensures.refuses
 
 pub returns : goal.returns
@@ -37,4 +39,5 @@ returns g c =
     (subst (λ (m : Member _ g.D.Disk). IfSome c.step-answer.result (λ answer. Acts g.D.Disk e c.step-answer.new.self.made answer (look_of old.member.station) (look_of m.station))) (sym same)
     c.step-answer.ensures.acts) c.hand_on-deaf.ensures.log c.hand_on-deaf.ensures.handed c.hand_on-deaf.ensures.seats c.hand_on-deaf.ensures.heard
     (subst (λ (b : Bool). Admits b e old.sittings) (c.running.ensures.value ∙ ap runs c.node.ensures) (c.admits.ensures c.if-not-admits.false))
-    (subst (λ (s : Sittings). Settles e s c.settle.new.self) c.hand_on-deaf.ensures.sittings c.settle.ensures)) c.hang_up_all.ensures
+    (subst (λ (s : Sittings). Settles e s c.settle.new.self) c.hand_on-deaf.ensures.sittings c.settle.ensures)
+    (promised old.company.peers c.hand_on-deaf.new.self.company.peers c.set_promised.new.self.peers c.hand_on-deaf.ensures.hears c.set_promised.ensures)) c.hang_up_all.ensures

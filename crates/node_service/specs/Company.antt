@@ -1,0 +1,47 @@
+-- The peers of a process, and what it has to tell of them.
+use Rattle.std.specs.Prelude.{◌≡◌, List, [], ◌∷◌, ◌++◌}
+use Rattle.node_wires.specs.Passages.{Passage}
+use Rattle.node_links.specs.declared.own.Own.{Own}
+use Rattle.node_peers.specs.declared.notice.Notice.{Notice}
+use Rattle.node_peers.specs.declared.notice.Notice.TheVariants as notices
+use Rattle.node_peers.specs.declared.peers.Peers.{Peers}
+use Rattle.node_peers.specs.Hearing.{AreTold}
+use Rattle.node_peers.specs.Peering.{own_of, passed_of}
+use Rattle.node_service.specs.declared.told.Told.{Told}
+use Rattle.node_service.specs.declared.told.Told.TheVariants as tells
+
+-- ---- nodes that are told to be there
+
+-- the notice of the peers that is behind what is told, where a node is told to be there
+abbrev pub joined_by : Told → List Notice
+joined_by (tells.Joined peer life) = notices.Joined peer life ∷ []
+joined_by other = []
+
+abbrev pub joined_in : List Told → List Notice
+joined_in [] = []
+joined_in (thing ∷ more) = joined_by thing ++ joined_in more
+
+-- where a node is told to be there the peers tell so: it opened a connection by its Hello, and a life that is told with it is the one of that Hello
+abbrev pub IsShown : Own → List Passage → Told → Type 0
+IsShown own lines thing = AreTold own lines (joined_by thing)
+
+abbrev pub AreShown : Own → List Passage → List Told → Type 0
+AreShown own lines told = AreTold own lines (joined_in told)
+
+-- ---- peers
+
+-- they are peers of the same node, and what had passed over their lines has, maybe with more behind it
+pub record Hears (own_old own_new : Own) (old new : List Passage) : Type 0 where
+  pub own : own_new ≡ own_old
+  pub more : List Passage
+  pub lines : new ≡ old ++ more
+
+abbrev pub HearsOn : Peers → Peers → Type 0
+HearsOn old new = Hears (own_of old) (own_of new) (passed_of old) (passed_of new)
+
+-- ---- a law
+
+-- what is shown stays so, also while more passes, and so it is with one thing more behind it that is shown
+pub record ShownStays : Type 0 where
+  pub on : (own_old own_new : Own) (old new : List Passage) (told : List Told) → Hears own_old own_new old new → AreShown own_old old told → AreShown own_new new told
+  pub and_one : (own : Own) (lines : List Passage) (told : List Told) (thing : Told) → AreShown own lines told → IsShown own lines thing → AreShown own lines (told ++ thing ∷ [])

@@ -1,0 +1,125 @@
+//! The peers of a node's process, and what is to be told: of them, and of all else that happened.
+
+ghost use Rattle.std.specs.Prelude.{◌≡◌, ◌∷◌, [], IfSome, IsNone};
+ghost use Rattle.node_peers.specs.Hearing.{IsTold, are_told_prop};
+ghost use Rattle.node_peers.specs.Peering.{own_of, passed_of};
+ghost use Rattle.node_peers.specs.Sending.{Sends};
+ghost use Rattle.node_wires.specs.Passages.{logged_in, seats_in};
+ghost use Rattle.node_service.specs.Company.{joined_in, IsShown, AreShown, HearsOn};
+
+use crate::told::Told;
+use node_links::Told as Beat;
+use node_peers::{Notice, Peers};
+use node_wires::Wire;
+use paxos_wire::Ballot;
+use std::alloc::Global;
+use std::collections::VecDeque;
+
+/// The peers of a process, and what it has to tell, the next first. Each node that is told to be there is one that the peers
+/// told so, and the life that is told with it too.
+pub(crate) struct Company {
+    pub(crate) peers: Peers,
+    pub(crate) told: VecDeque<Told>,
+    ghost shown: { AreShown (own_of peers) (passed_of peers) told.items } by { are_told_prop (own_of peers) (passed_of peers) (joined_in told.items) },
+}
+
+/// By hand, so that letting one go is one call for whoever owns it (docs/ARCHITECTURE.md, Habits).
+impl Drop for Company {
+    fn drop(self) {
+        let Company { peers: _, told: _ } = self;
+    }
+}
+
+impl Company {
+    /// Nothing is to be told.
+    pub(crate) fn new(alloc: Global, peers: Peers) -> Company
+        ensures peers { result.peers ≡ peers }
+        ensures told { result.told.items ≡ [] }
+    {
+        let told = VecDeque::new(alloc);
+        Company { peers, told }
+    }
+
+    /// What is to be told next.
+    #[tactic(auto, using(crate::proofs::Hearing::first_shown, crate::proofs::Hearing::rest_shown))]
+    pub(crate) fn notice(&mut self) -> Option<Told>
+        ensures next { IfSome result (λ told. self.old.told.items ≡ told ∷ self.new.told.items) }
+        ensures none { IsNone result → self.old.told.items ≡ [] }
+        ensures same { self.new.peers ≡ self.old.peers }
+        ensures shown { IfSome result (λ told. IsShown (own_of self.old.peers) (passed_of self.old.peers) told) }
+    {
+        self.told.pop_front()
+    }
+
+    /// This is to be told behind the rest. False without memory: then it is lost.
+    #[tactic(auto, using(crate::proofs::Hearing::one_shown))]
+    pub(crate) fn tell(&mut self, told: Told) -> bool
+        requires { IsShown (own_of self.old.peers) (passed_of self.old.peers) told }
+        ensures { self.new.peers ≡ self.old.peers }
+    {
+        self.told.push_back(told).is_ok()
+    }
+
+    /// What the peers tell next.
+    #[tactic(auto, using(crate::proofs::Hearing::heard_still, crate::proofs::Hearing::shown_still, crate::proofs::Hearing::told_still))]
+    pub(crate) fn next(&mut self) -> Option<Notice>
+        ensures hears { HearsOn self.old.peers self.new.peers }
+        ensures told { IfSome result (λ notice. IsTold (own_of self.new.peers) (passed_of self.new.peers) notice) }
+    {
+        self.peers.next()
+    }
+
+    /// Takes what peers sent, and dials those that are to be dialled.
+    #[tactic(auto, using(crate::proofs::Hearing::heard_more, crate::proofs::Hearing::shown_more))]
+    pub(crate) fn hear<W: Wire>(&mut self, wire: &mut W, now: u64)
+        ensures hears { HearsOn self.old.peers self.new.peers }
+        ensures seats { seats_in (W.passed wire.new) ≡ seats_in (W.passed wire.old) }
+        ensures log { logged_in (W.passed wire.new) ≡ logged_in (W.passed wire.old) }
+    {
+        self.peers.hear(wire, now);
+    }
+
+    /// Writes what waits for peers, and first tells them how the node is, where that is due.
+    #[tactic(auto, using(crate::proofs::Hearing::heard_later, crate::proofs::Hearing::shown_later))]
+    pub(crate) fn speak<W: Wire>(&mut self, beat: Beat, wire: &mut W, now: u64)
+        ensures hears { HearsOn self.old.peers self.new.peers }
+        ensures seats { seats_in (W.passed wire.new) ≡ seats_in (W.passed wire.old) }
+        ensures log { logged_in (W.passed wire.new) ≡ logged_in (W.passed wire.old) }
+    {
+        self.peers.tell(beat, now);
+        self.peers.flush(wire, now);
+    }
+
+    /// Hands a frame to the peers.
+    #[tactic(auto, using(crate::proofs::Hearing::heard_still, crate::proofs::Hearing::shown_still))]
+    pub(crate) fn send(&mut self, to: u8, frame: &[u8], now: u64)
+        ensures hears { HearsOn self.old.peers self.new.peers }
+        ensures sends { Sends to frame.now self.old.peers.peers.items self.new.peers.peers.items }
+    {
+        self.peers.send(to, frame, now);
+    }
+
+    /// The node has promised this ballot.
+    #[tactic(auto, using(crate::proofs::Hearing::heard_still, crate::proofs::Hearing::shown_still))]
+    pub(crate) fn set_promised(&mut self, promised: Option<Ballot>)
+        ensures { HearsOn self.old.peers self.new.peers }
+    {
+        self.peers.set_promised(promised);
+    }
+
+    /// A peer counts as absent once it was silent for so long.
+    #[tactic(auto, using(crate::proofs::Hearing::heard_still, crate::proofs::Hearing::shown_still))]
+    pub(crate) fn set_silence(&mut self, silence: u64)
+        ensures { HearsOn self.old.peers self.new.peers }
+    {
+        self.peers.set_silence(silence);
+    }
+
+    /// So much of the time that went by until now isn't counted as silence of peers.
+    #[tactic(auto, using(crate::proofs::Hearing::heard_still, crate::proofs::Hearing::shown_still))]
+    pub(crate) fn forgive(&mut self, lost: u64, now: u64)
+        ensures { HearsOn self.old.peers self.new.peers }
+    {
+        self.peers.forgive(lost, now);
+    }
+}
