@@ -21,8 +21,6 @@ pub(crate) struct Bot {
     told: Vec<u8>,
     /// What it does.
     action: u8,
-    /// How many lines it was told.
-    pub(crate) lines: u64,
 }
 
 /// The last whole line of a text, without its end.
@@ -52,7 +50,6 @@ impl Bot {
             pause: 0,
             told: Vec::new(alloc),
             action,
-            lines: 0,
         }
     }
 
@@ -103,7 +100,6 @@ impl Bot {
         let Some(last) = last_line(&self.told) else {
             return Ok(());
         };
-        self.lines = self.lines.saturating_add(1);
         let line = Line::Seat(self.seat);
         wire.come(line, last)?;
         wire.come(line, &[b':', self.action, b'\r', b'\n'])?;

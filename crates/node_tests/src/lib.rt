@@ -1,10 +1,9 @@
 //! Tests of nodes in processes of their own (`node_service`), by their public calls alone: several servers whose wires are
 //! joined in memory, and the bots of their seats.
 //!
-//! - `samples` has the match that is played, and its stores.
+//! - `samples` has the match that is played, the stores of its nodes, and their processes.
 //! - `bot`: the bot of a seat, which dials one node after another.
-//! - `world`: all processes of a match, and what is carried between them; `course` lets a match go on, and a process die and
-//!   begin again on its disk.
+//! - `place`: a node, with its process or without; `world`: all of them, turn after turn; `carrying`: what goes between them.
 //! - `match_tests`: a match to its end, also where processes die; `fault_tests`: each call of a wire failing once.
 //! - `away_tests`: a match at which nobody sits, and what is told to one who asks.
 #![tactic(auto)]
@@ -14,9 +13,13 @@ mod away_tests;
 #[cfg(test)]
 mod bot;
 #[cfg(test)]
+mod carrying;
+#[cfg(test)]
 mod fault_tests;
 #[cfg(test)]
 mod match_tests;
+#[cfg(test)]
+mod place;
 #[cfg(test)]
 mod samples;
 #[cfg(test)]

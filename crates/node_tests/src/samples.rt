@@ -1,11 +1,17 @@
-//! The match that is played, of alice and bob, limit, and the stores of its nodes.
+//! The match that is played, of alice and bob, limit, the stores of its nodes, and their processes.
 
 use dealer_kind::{Config, Source};
 use match_log::{Name, SeatNames};
 use matchstate::read_deal;
 use node_links::Own;
+use node_peers::Peers;
+use node_seats::Seats;
+use node_service::{Member, NodeServer, Outcome, Terms};
+use node_status::Askers;
+use node_wires::MemoryWire;
 use peer_codes::{Life, MatchDigest};
 use promise_store::{Disk, MemoryDisk};
+use stations::Station;
 use std::alloc::{AllocError, Global};
 use std::process::Abort;
 
@@ -25,16 +31,17 @@ numBoardCards = 0 3 1 1
 END GAMEDEF
 ";
 
+/// The process of a node over a disk and wires in memory.
+pub(crate) type Server = NodeServer<MemoryDisk, MemoryWire>;
+
+/// A peer counts as absent at first after so long.
+const SILENCE: u64 = 1_000_000;
+
 /// What all nodes deal in each hand.
 const DEAL: &[u8] = b"TdAs|8hTc/2c8c3h/9c/Kh";
 
 /// A match of so many hands by so many nodes.
-pub(crate) fn config(
-    rt: &impl Abort,
-    alloc: Global,
-    nodes: u8,
-    hands: u32,
-) -> Result<Config, AllocError> {
+fn config(rt: &impl Abort, alloc: Global, nodes: u8, hands: u32) -> Result<Config, AllocError> {
     let mut sources = Vec::new(alloc);
     for _ in 0..nodes {
         let mut deals = Vec::new(alloc);
@@ -72,7 +79,7 @@ pub(crate) fn new_disk(
 }
 
 /// What a process knows of its own node.
-pub(crate) fn own(node: u8, nodes: u8) -> Own {
+fn own(node: u8, nodes: u8) -> Own {
     Own {
         number: node,
         nodes,
@@ -81,5 +88,44 @@ pub(crate) fn own(node: u8, nodes: u8) -> Own {
             bytes: [node.saturating_add(1); 16],
         },
         key: None,
+    }
+}
+
+/// The process of a node, in a match of so many nodes and hands, over this disk.
+pub(crate) fn server(
+    rt: &impl Abort,
+    alloc: Global,
+    node: u8,
+    nodes: u8,
+    hands: u32,
+    disk: MemoryDisk,
+    call: u64,
+    now: u64,
+    patience: Option<u64>,
+) -> Result<Option<Server>, AllocError> {
+    let config = config(rt, alloc, nodes, hands)?;
+    assert!(rt; (node as usize) < config.nodes());
+    let station = match Station::open(alloc, config, node, disk) {
+        Ok(station) => station,
+        Err(_) => return Ok(None),
+    };
+    let mut wire = MemoryWire::new(alloc, call)?;
+    wire.set_now(now);
+    let peers = Peers::new(alloc, own(node, nodes), &[], SILENCE)?;
+    let seats = Seats::new(alloc, 2, None)?;
+    let askers = Askers::new(alloc)?;
+    let terms = Terms { nodes, patience };
+    let mut server = NodeServer::new(
+        alloc,
+        Member::new(alloc, station),
+        wire,
+        peers,
+        seats,
+        askers,
+        terms,
+    );
+    match server.start() {
+        Outcome::GoesOn => Ok(Some(server)),
+        _ => Ok(None),
     }
 }
