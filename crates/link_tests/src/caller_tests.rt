@@ -1,30 +1,16 @@
 //! Those who dial node 0: who is taken, who is refused and how that is told, and who takes another's place.
 
-use crate::pair::{SILENCE, Side, take_turns};
+use crate::pair::{SILENCE, Side, node_0, said, say, take_turns};
 use crate::samples::{
-    ACCEPT, ACCEPTED, ASK_RECORD, CHOSEN, FORWARD, HELLO_RECORD, LOW_BEAT_RECORD, TOLD,
-    assert_number, hello,
+    ASK, ASK_RECORD, BEAT_RECORD, HELLO_RECORD, assert_bytes, assert_number, coded_hello, hello,
+    own,
 };
-use node_links::Told;
+use node_links::Own;
 use node_wires::Line;
-use peer_codes::{Hello, Link, Nonce, Record, record_bytes};
+use peer_codes::{Record, record_bytes};
 use std::alloc::{AllocError, Global};
 use std::process::Abort;
 use std::test::Fail;
-
-/// Node 0 of three, which nobody dialled yet.
-fn node_0(alloc: Global) -> Result<Side, AllocError> {
-    Side::new(alloc, 0, 9, &[], 0)
-}
-
-/// Somebody dials at this moment and says these bytes, at the place that is free.
-fn say(side: &mut Side, place: u8, bytes: &[u8], now: u64) -> Result<(), AllocError> {
-    side.wire.call();
-    side.turn(now);
-    side.wire.come(Line::Caller(place), bytes)?;
-    side.turn(now);
-    Ok(())
-}
 
 /// Whether peer 1 is there.
 fn has_peer(side: &Side) -> bool {
@@ -32,11 +18,6 @@ fn has_peer(side: &Side) -> bool {
         Some(view) => view.is_open,
         None => false,
     }
-}
-
-/// How many bytes were said to who stands at a place.
-fn said(side: &Side, place: u8) -> u64 {
-    side.wire.written(Line::Caller(place)).len() as u64
 }
 
 #[test]
@@ -125,32 +106,101 @@ fn a_second_connection_is_refused_or_takes_the_place(rt: HostRuntime) -> Result<
     Ok(())
 }
 
-/// The Hello of a connection with codes is refused by 122, and answered.
+/// A peer that is there is told a beat, and then what waits for it.
 #[test]
-fn a_hello_with_codes_is_answered(rt: HostRuntime) -> Result<(), Fail> {
-    let mut side = node_0(rt.alloc())?;
-    let coded = Hello {
-        link: Link::Coded(Nonce { bytes: [3; 32] }),
-        ..hello(1, 0)
-    };
-    let record = record_bytes(&Record::Hello(coded));
-    say(&mut side, 0, record.as_slice(), 1_000)?;
-    assert_number(&rt, side.seen.fault as u64, 122);
-    assert_number(&rt, side.seen.strangers as u64, 1);
-    assert_number(&rt, said(&side, 0), 82);
+fn the_beat_goes_before_the_frame(rt: HostRuntime) -> Result<(), Fail> {
+    let alloc = rt.alloc();
+    let mut side = node_0(alloc)?;
+    side.peers.send(1, &ASK, 0);
+    say(&mut side, 0, &HELLO_RECORD, 1_000)?;
+    let greeting = record_bytes(&Record::Hello(hello(0, 1)));
+    let mut all = Vec::from_slice(alloc, greeting.as_slice())?;
+    all.extend_from_slice(&BEAT_RECORD)?;
+    all.extend_from_slice(&ASK_RECORD)?;
+    assert_bytes(&rt, side.wire.written(Line::Caller(0)), all.as_slice());
     Ok(())
 }
 
-/// One who says nothing is let go after two seconds.
+/// In pieces of any length the same is heard; a second Hello closes the connection, and from then on nothing is heard.
 #[test]
-fn a_silent_caller_is_let_go(rt: HostRuntime) -> Result<(), Fail> {
+fn bytes_come_one_by_one(rt: HostRuntime) -> Result<(), Fail> {
     let mut side = node_0(rt.alloc())?;
-    side.wire.call();
+    say(&mut side, 0, &HELLO_RECORD, 1_000)?;
+    for byte in &ASK_RECORD {
+        assert_number(&rt, side.seen.frames as u64, 0);
+        side.wire.come(Line::Caller(0), &[*byte])?;
+        side.turn(1_000);
+    }
+    assert_number(&rt, side.seen.frames as u64, 1);
+    side.wire.come(Line::Caller(0), &BEAT_RECORD)?;
+    side.wire.come(Line::Caller(0), &HELLO_RECORD)?;
+    side.wire.come(Line::Caller(0), &ASK_RECORD)?;
     side.turn(1_000);
-    side.turn(2_000_999);
-    assert!(rt; side.wire.is_open(Line::Caller(0)));
-    side.turn(2_001_000);
-    assert!(rt; !side.wire.is_open(Line::Caller(0)));
+    assert_number(&rt, side.seen.frames as u64, 1);
+    assert_number(&rt, side.seen.fault as u64, 126);
+    Ok(())
+}
+
+/// Who says this to node 0 is refused by this fault and counted, and so many bytes are said to him, nothing of what waits.
+fn refuses(
+    rt: &impl Abort,
+    alloc: Global,
+    own: Own,
+    words: &[u8],
+    fault: u64,
+    answer: u64,
+) -> Result<(), AllocError> {
+    let mut side = Side::of(alloc, own, &[], 0)?;
+    side.peers.send(1, &ASK, 0);
+    say(&mut side, 0, words, 1_000)?;
+    assert_number(rt, side.seen.fault as u64, fault);
+    assert_number(rt, side.seen.strangers as u64, 1);
+    assert_number(
+        rt,
+        (side.seen.joined as u64).saturating_add(side.seen.frames as u64),
+        0,
+    );
+    assert_number(rt, said(&side, 0), answer);
+    Ok(())
+}
+
+/// A frame before the Hello; a kind that there isn't; a Hello with codes at a node without a key, and one without at a node with
+/// one, and one of another match, each of which is answered.
+#[test]
+fn others_are_refused_and_answered(rt: HostRuntime) -> Result<(), Fail> {
+    let alloc = rt.alloc();
+    let mut late = Vec::from_slice(alloc, &ASK_RECORD)?;
+    late.extend_from_slice(&HELLO_RECORD)?;
+    let mut both = Vec::from_slice(alloc, &HELLO_RECORD)?;
+    both.extend_from_slice(&ASK_RECORD)?;
+    let coded = record_bytes(&Record::Hello(coded_hello(1, 0, 3)));
+    refuses(&rt, alloc, own(0, 9, None), late.as_slice(), 126, 0)?;
+    refuses(&rt, alloc, own(0, 9, None), &[0, 0, 0, 1, 9], 121, 0)?;
+    refuses(&rt, alloc, own(0, 9, None), coded.as_slice(), 122, 82)?;
+    refuses(&rt, alloc, own(0, 9, Some(7)), both.as_slice(), 122, 114)?;
+    refuses(&rt, alloc, own(0, 8, None), both.as_slice(), 123, 82)?;
+    Ok(())
+}
+
+/// One who says nothing, and with a key one who says a Hello and proves nothing, is nobody, and is let go after two seconds.
+/// The second is answered by a Hello of 114 bytes and a proof of 37.
+#[test]
+fn who_proves_nothing_is_let_go(rt: HostRuntime) -> Result<(), Fail> {
+    let record = record_bytes(&Record::Hello(coded_hello(1, 0, 3)));
+    for (key, words, answer) in [(None, [].as_slice(), 0), (Some(7), record.as_slice(), 151)] {
+        let mut side = Side::of(rt.alloc(), own(0, 9, key), &[], 0)?;
+        say(&mut side, 0, words, 1_000)?;
+        assert_number(&rt, said(&side, 0), answer);
+        side.turn(2_000_999);
+        assert!(rt; side.wire.is_open(Line::Caller(0)));
+        side.turn(2_001_000);
+        assert!(rt; !side.wire.is_open(Line::Caller(0)));
+        assert_number(
+            &rt,
+            (side.seen.joined as u64).saturating_add(side.seen.fault as u64),
+            0,
+        );
+    }
     Ok(())
 }
 
@@ -191,86 +241,6 @@ fn one_who_sends_without_end_holds_nobody_up(rt: HostRuntime) -> Result<(), Fail
     }
     assert_number(&rt, rest, 3_637);
     Ok(())
-}
-
-/// What was asked before a connection ended is unanswered over the next one, until it is answered.
-#[test]
-fn what_was_lost_is_owed(rt: HostRuntime) -> Result<(), Fail> {
-    let alloc = rt.alloc();
-    let mut low = node_0(alloc)?;
-    let mut high = Side::new(alloc, 1, 9, &[], 0)?;
-    take_turns(alloc, &mut low, &mut high, 0, 6)?;
-    high.peers.send(0, &ACCEPT, 7_000);
-    take_turns(alloc, &mut low, &mut high, 7_000, 3)?;
-    assert!(rt; !is_owed(&high));
-    high.wire.end(Line::Peer(0));
-    low.wire.end(Line::Caller(0));
-    high.turn(60_000);
-    low.turn(60_000);
-    // The dial above is the one that is taken in.
-    low.wire.call();
-    take_turns(alloc, &mut low, &mut high, 61_000, 6)?;
-    assert!(rt; is_owed(&high));
-    low.peers.send(1, &ACCEPTED, 70_000);
-    take_turns(alloc, &mut low, &mut high, 70_000, 3)?;
-    assert!(rt; !is_owed(&high));
-    Ok(())
-}
-
-/// Whether peer 0 owes an answer that was lost.
-fn is_owed(side: &Side) -> bool {
-    match side.peers.view(0) {
-        Some(view) => view.unanswered.is_some(),
-        None => false,
-    }
-}
-
-/// While a peer tells a lower front the last Accepted goes to it again each 100 ms, and at once behind the end of a block that
-/// it is told; beats go each 50 ms.
-#[test]
-fn the_last_accepted_goes_again_while_the_peer_is_behind(rt: HostRuntime) -> Result<(), Fail> {
-    let mut side = node_0(rt.alloc())?;
-    say(&mut side, 0, &HELLO_RECORD, 1_000)?;
-    side.peers.send(1, &ACCEPTED, 2_000);
-    side.wire.come(Line::Caller(0), &LOW_BEAT_RECORD)?;
-    side.turn(2_000);
-    assert_number(&rt, said_since(&mut side, 50_999), 0);
-    // A beat of 20 bytes.
-    assert_number(&rt, said_since(&mut side, 101_999), 20);
-    // The Accepted's record of 33.
-    assert_number(&rt, said_since(&mut side, 102_000), 33);
-    assert_number(&rt, said_since(&mut side, 102_001), 0);
-    // A Chosen's record of 27, and the Accepted's.
-    side.peers.send(1, &CHOSEN, 103_000);
-    assert_number(&rt, said_since(&mut side, 103_000), 60);
-    assert_number(&rt, said_since(&mut side, 103_001), 0);
-    Ok(())
-}
-
-/// An act that went on to a peer goes again each 20 ms, until the front moves.
-#[test]
-fn an_act_goes_again_while_the_front_stands(rt: HostRuntime) -> Result<(), Fail> {
-    let mut side = node_0(rt.alloc())?;
-    say(&mut side, 0, &HELLO_RECORD, 1_000)?;
-    side.turn(2_000);
-    side.peers.send(1, &FORWARD, 3_000);
-    // Its record of 23 bytes.
-    assert_number(&rt, said_since(&mut side, 3_000), 23);
-    assert_number(&rt, said_since(&mut side, 22_999), 0);
-    assert_number(&rt, side.peers.wait(22_999), 1);
-    assert_number(&rt, said_since(&mut side, 23_000), 23);
-    assert_number(&rt, said_since(&mut side, 42_999), 0);
-    side.peers.tell(Told { front: 8, ..TOLD }, 42_999);
-    side.peers.tell(TOLD, 42_999);
-    assert_number(&rt, said_since(&mut side, 43_000), 0);
-    Ok(())
-}
-
-/// How many bytes are said to who stands at place 0 in a turn at this moment.
-fn said_since(side: &mut Side, now: u64) -> u64 {
-    side.wire.take_written(Line::Caller(0));
-    side.turn(now);
-    said(side, 0)
 }
 
 /// A dial that was answered and brings no Hello is given up after two seconds, and made anew.

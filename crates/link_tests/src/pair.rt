@@ -19,7 +19,7 @@ pub(crate) struct Side {
 }
 
 /// How often each was told.
-#[derive(Clone, Copy, Debug, PartialEq, Eq)]
+#[derive(Clone, Copy)]
 pub(crate) struct Seen {
     pub(crate) joined: u8,
     /// With a life that is to be kept.
@@ -89,7 +89,7 @@ impl Side {
         kept: &[Option<Life>],
         call: u64,
     ) -> Result<Side, AllocError> {
-        Side::of(alloc, own(number, digest), kept, call)
+        Side::of(alloc, own(number, digest, None), kept, call)
     }
 
     /// The process of this node.
@@ -124,6 +124,25 @@ impl Side {
     pub(crate) fn forget(&mut self) {
         self.seen = NOTHING;
     }
+}
+
+/// Node 0 of three, which nobody dialled yet.
+pub(crate) fn node_0(alloc: Global) -> Result<Side, AllocError> {
+    Side::new(alloc, 0, 9, &[], 0)
+}
+
+/// Somebody dials at this moment and says these bytes, at the place that is free.
+pub(crate) fn say(side: &mut Side, place: u8, bytes: &[u8], now: u64) -> Result<(), AllocError> {
+    side.wire.call();
+    side.turn(now);
+    side.wire.come(Line::Caller(place), bytes)?;
+    side.turn(now);
+    Ok(())
+}
+
+/// How many bytes were said to who stands at a place.
+pub(crate) fn said(side: &Side, place: u8) -> u64 {
+    side.wire.written(Line::Caller(place)).len() as u64
 }
 
 /// What was written over the line of one comes over that of the other.

@@ -1,12 +1,13 @@
 //! Processes that meet, refuse each other, lose each other and meet again.
 
 use crate::pair::{SILENCE, Side, take_turns};
-use crate::samples::{ACCEPTED, ASK, assert_number, life};
+use crate::samples::{ACCEPTED, ASK, HELLO_RECORD, assert_bytes, assert_number, life, own};
+use node_wires::Line;
 use std::alloc::{AllocError, Global};
 use std::process::Abort;
 use std::test::Fail;
 
-/// Node 0 and node 1, which meet.
+/// Node 0 and node 1, without a key, which meet; a call of node 1's wire of this number fails.
 fn met(alloc: Global, call: u64) -> Result<(Side, Side), AllocError> {
     let mut low = Side::new(alloc, 0, 9, &[], 0)?;
     let mut high = Side::new(alloc, 1, 9, &[], call)?;
@@ -14,67 +15,86 @@ fn met(alloc: Global, call: u64) -> Result<(Side, Side), AllocError> {
     Ok((low, high))
 }
 
-/// Both joined so often, and were told of so many ends and of this fault.
+/// It joined so often, and was told of so many ends and of this fault.
 fn assert_seen(rt: &impl Abort, side: &Side, joined: u64, gone: u64, fault: u64) {
     assert_number(rt, side.seen.joined as u64, joined);
     assert_number(rt, side.seen.gone as u64, gone);
     assert_number(rt, side.seen.fault as u64, fault);
 }
 
-#[test]
-fn frames_cross_both_ways(rt: HostRuntime) -> Result<(), Fail> {
-    let alloc = rt.alloc();
-    let (mut low, mut high) = met(alloc, 0)?;
-    assert_seen(&rt, &low, 1, 0, 0);
-    assert_seen(&rt, &high, 1, 0, 0);
-    low.peers.send(1, &ASK, 7_000);
-    high.peers.send(0, &ACCEPTED, 7_000);
-    // The same Ask so soon is dropped, and so is one to nobody.
-    low.peers.send(1, &ASK, 8_000);
-    low.peers.send(9, &ASK, 8_000);
-    take_turns(alloc, &mut low, &mut high, 8_000, 4)?;
-    assert_number(&rt, low.seen.frames as u64, 1);
-    assert_number(&rt, high.seen.frames as u64, 1);
-    assert_number(&rt, high.seen.sum, 1);
-    Ok(())
-}
+/// Nodes that meet: the keys of both, the digest of node 1's match where that of node 0 is 9, whether node 0 keeps another life
+/// of node 1, and the fault by which each refuses the other, or 0.
+type Meeting = (Option<u8>, Option<u8>, u8, bool, u64);
 
-/// What is sent before they meet waits, sixteen frames of it, and the last Accepted goes once more when they do.
-#[test]
-fn what_was_sent_before_waits(rt: HostRuntime) -> Result<(), Fail> {
-    let alloc = rt.alloc();
-    let mut low = Side::new(alloc, 0, 9, &[], 0)?;
-    let mut high = Side::new(alloc, 1, 9, &[], 0)?;
+static MEETINGS: [Meeting; 6] = [
+    (None, None, 9, false, 0),
+    (None, None, 8, false, 123),
+    (None, None, 9, true, 127),
+    (Some(7), Some(7), 9, false, 0),
+    (Some(7), Some(8), 9, false, 124),
+    (Some(7), Some(7), 9, true, 127),
+];
+
+/// Both sides of a meeting, behind eight turns. Node 1 had sent twenty frames before.
+fn held(alloc: Global, meeting: Meeting) -> Result<(Side, Side), AllocError> {
+    let (low, high, digest, is_other, _) = meeting;
+    let kept = if is_other { Some(life(77)) } else { None };
+    let mut low = Side::of(alloc, own(0, 9, low), &[None, kept], 0)?;
+    let mut high = Side::of(alloc, own(1, digest, high), &[], 0)?;
     for _ in 0..20 {
         high.peers.send(0, &ACCEPTED, 0);
     }
-    take_turns(alloc, &mut low, &mut high, 0, 6)?;
-    assert_number(&rt, low.seen.frames as u64, 17);
+    take_turns(alloc, &mut low, &mut high, 0, 8)?;
+    Ok((low, high))
+}
+
+/// What was sent before they meet waits, sixteen frames of it, and the last Accepted goes once more when they do. Of who is there
+/// a life is kept, and of no other; who is refused for his store is told by his number, and of the others a caller is counted.
+#[test]
+fn nodes_meet_or_refuse_each_other(rt: HostRuntime) -> Result<(), Fail> {
+    for &meeting in &MEETINGS {
+        let (low, high) = held(rt.alloc(), meeting)?;
+        let (_, _, _, is_other, fault) = meeting;
+        let joined = (fault == 0) as u64;
+        for side in [&low, &high] {
+            assert_seen(&rt, side, joined, 0, fault);
+            assert_number(&rt, side.seen.lives as u64, joined);
+        }
+        let frames = if fault == 0 { 17 } else { 0 };
+        assert_number(&rt, low.seen.frames as u64, frames);
+        assert_number(&rt, low.seen.refused as u64, is_other as u64);
+        let is_stranger = fault == 123 || fault == 124;
+        assert_number(&rt, low.seen.strangers as u64, is_stranger as u64);
+    }
     Ok(())
 }
 
+/// Frames cross both ways; the same Ask so soon is dropped, and so is one to nobody.
 #[test]
-fn another_match_is_refused_by_both(rt: HostRuntime) -> Result<(), Fail> {
+fn frames_cross_both_ways(rt: HostRuntime) -> Result<(), Fail> {
     let alloc = rt.alloc();
-    let mut low = Side::new(alloc, 0, 9, &[], 0)?;
-    let mut high = Side::new(alloc, 1, 8, &[], 0)?;
-    high.peers.send(0, &ACCEPTED, 0);
-    take_turns(alloc, &mut low, &mut high, 0, 6)?;
-    assert_seen(&rt, &low, 0, 0, 123);
-    assert_seen(&rt, &high, 0, 0, 123);
-    assert_number(&rt, low.seen.frames as u64, 0);
+    for place in [0, 3] {
+        let (mut low, mut high) = held(alloc, MEETINGS[place])?;
+        low.forget();
+        low.peers.send(1, &ASK, 9_000);
+        high.peers.send(0, &ACCEPTED, 9_000);
+        low.peers.send(1, &ASK, 10_000);
+        low.peers.send(9, &ASK, 10_000);
+        take_turns(alloc, &mut low, &mut high, 10_000, 4)?;
+        assert_number(&rt, low.seen.frames as u64, 1);
+        assert_number(&rt, high.seen.frames as u64, 1);
+        assert_number(&rt, high.seen.sum, 1);
+    }
     Ok(())
 }
 
-/// Node 0 keeps another life of node 1: both are told that a store went back.
+/// Who dials says its Hello first, whatever waits.
 #[test]
-fn a_store_made_anew_is_refused(rt: HostRuntime) -> Result<(), Fail> {
-    let alloc = rt.alloc();
-    let mut low = Side::new(alloc, 0, 9, &[None, Some(life(77))], 0)?;
-    let mut high = Side::new(alloc, 1, 9, &[], 0)?;
-    take_turns(alloc, &mut low, &mut high, 0, 6)?;
-    assert_seen(&rt, &low, 0, 0, 127);
-    assert_seen(&rt, &high, 0, 0, 127);
+fn the_caller_says_its_hello_first(rt: HostRuntime) -> Result<(), Fail> {
+    let mut high = Side::new(rt.alloc(), 1, 9, &[], 0)?;
+    high.peers.send(0, &ASK, 0);
+    high.turn(0);
+    assert_bytes(&rt, high.wire.written(Line::Peer(0)), &HELLO_RECORD);
     Ok(())
 }
 

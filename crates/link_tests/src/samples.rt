@@ -4,7 +4,7 @@ ghost use Rattle.std.specs.Prelude.{◌≡◌, true};
 ghost use Rattle.peer_codes.specs.Steps.{is_coded};
 
 use node_links::{Own, Told};
-use peer_codes::{Beat, Ends, Frame, Hello, Key, Life, Link, MatchDigest, Nonce};
+use peer_codes::{Ends, Frame, Hello, Key, Life, Link, MatchDigest, Nonce};
 use std::process::Abort;
 
 /// The frame of an Ask from slot 1.
@@ -33,17 +33,7 @@ pub(crate) const TOLD: Told = Told {
     seats: 5,
 };
 
-/// Its first beat.
-pub(crate) const BEAT: Beat = Beat {
-    number: 1,
-    got: 0,
-    front: 37,
-    leads: true,
-    over: false,
-    seats: 5,
-};
-
-/// The record of that beat.
+/// The record of its first beat.
 pub(crate) const BEAT_RECORD: [u8; 20] = [
     0, 0, 0, 16, 3, 0, 0, 0, 1, 0, 0, 0, 0, 0, 0, 0, 37, 1, 0, 5,
 ];
@@ -59,8 +49,13 @@ pub(crate) const FORWARD: [u8; 18] = [0, 0, 0, 14, 2, 8, 2, 0, 0, 0, 0, 0, 0, 1,
 /// The record of that Ask.
 pub(crate) const ASK_RECORD: [u8; 15] = [0, 0, 0, 11, 2, 0, 0, 0, 6, 2, 7, 0, 0, 0, 1];
 
-/// A node of three, in the match of this digest; its life is its number and one.
-pub(crate) fn own(number: u8, digest: u8) -> Own {
+/// A key of such bytes.
+pub(crate) fn key(byte: u8) -> Key {
+    Key { bytes: [byte; 32] }
+}
+
+/// A node of three, in the match of this digest, with a key of such bytes or none; its life is its number and one.
+pub(crate) fn own(number: u8, digest: u8, bytes: Option<u8>) -> Own {
     Own {
         number,
         nodes: 3,
@@ -68,15 +63,10 @@ pub(crate) fn own(number: u8, digest: u8) -> Own {
             bytes: [digest; 32],
         },
         life: life(number.wrapping_add(1)),
-        key: None,
-    }
-}
-
-/// The same node in match 9, with a key of such bytes.
-pub(crate) fn keyed(number: u8, key: u8) -> Own {
-    Own {
-        key: Some(Key { bytes: [key; 32] }),
-        ..own(number, 9)
+        key: match bytes {
+            Some(byte) => Some(key(byte)),
+            None => None,
+        },
     }
 }
 
