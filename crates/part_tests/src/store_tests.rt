@@ -59,7 +59,7 @@ static CALLS: [Option<(usize, &[u8], bool)>; 6] = [
 
 /// The calls are those of a create and of an append.
 fn are_told(rt: &impl Abort, calls: &[Call]) {
-    holds!(rt; calls.len() == CALLS.len());
+    assert!(rt; calls.len() == CALLS.len());
     for at in 0..CALLS.len() {
         assert_same(rt, written(rt, &calls[at]), CALLS[at]);
     }
