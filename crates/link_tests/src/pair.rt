@@ -11,11 +11,21 @@ use std::alloc::{AllocError, Global};
 pub(crate) const SILENCE: u64 = 1_000_000;
 
 /// A process, and what it was told.
-#[derive(Drop)]
 pub(crate) struct Side {
     pub(crate) wire: MemoryWire,
     pub(crate) peers: Peers,
     pub(crate) seen: Seen,
+}
+
+/// By hand, so that letting one go is one call for whoever owns it (docs/ARCHITECTURE.md, Habits).
+impl Drop for Side {
+    fn drop(self) {
+        let Side {
+            wire: _,
+            peers: _,
+            seen: _,
+        } = self;
+    }
 }
 
 /// How often each was told.

@@ -116,6 +116,11 @@ pub(crate) fn assert_bytes(rt: &impl Abort, found: &[u8], expected: &[u8]) {
     assert_eq!(rt; found, expected);
 }
 
+/// This holds.
+pub(crate) fn assert_that(rt: &impl Abort, holds: bool) {
+    assert!(rt; holds);
+}
+
 /// The two are equal.
 pub(crate) fn assert_number(rt: &impl Abort, found: u64, expected: u64) {
     assert_eq!(rt; found, expected);
