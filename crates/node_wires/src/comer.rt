@@ -2,7 +2,7 @@ use crate::limits::{ASKERS, CALLERS, GUESTS};
 use crate::line::Line;
 
 /// Those who come by themselves, by the kind of port that they come to. Each kind has places of its own.
-#[derive(Clone, Copy, Debug, PartialEq, Eq)]
+#[derive(Clone, Copy)]
 pub(crate) enum Comer {
     /// Who dials this node.
     Caller,

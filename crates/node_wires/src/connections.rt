@@ -23,6 +23,14 @@ pub(crate) struct Connections {
     count: u64,
 }
 
+/// Has the connection that a line has watched as that of the line at this place. False where there is none, or that failed.
+fn watch_as(connection: &mut Option<Wired>, poll: &Poll, place: usize) -> bool {
+    match connection {
+        Some(wired) => wired.watch_as(poll, place),
+        None => false,
+    }
+}
+
 impl Connections {
     /// A line without a connection for each.
     pub(crate) fn new(alloc: Global) -> Result<Connections, AllocError> {
@@ -45,11 +53,17 @@ impl Connections {
         let Some(place) = line.place() else {
             return Err(io::Error::from(ErrorKind::Other));
         };
+        // The one before is closed before the next is watched under its token.
+        self.close(line);
+        let wired = Wired::watch(poll, stream, place, address, turn)?;
+        self.put(place, wired)
+    }
+
+    /// The line at this place has this connection from now on.
+    fn put(&mut self, place: usize, wired: Wired) -> io::Result<()> {
         match self.lines.get_mut(place) {
             Some(connection) => {
-                // The one before is closed before the next is watched under its token.
-                *connection = None;
-                *connection = Some(Wired::watch(poll, stream, place, address, turn)?);
+                *connection = Some(wired);
                 Ok(())
             }
             None => Err(io::Error::from(ErrorKind::Other)),
@@ -82,13 +96,8 @@ impl Connections {
         if guest >= self.lines.len() || at >= self.lines.len() {
             return false;
         }
-        match &mut self.lines[guest] {
-            Some(wired) => {
-                if !wired.watch_as(poll, at) {
-                    return false;
-                }
-            }
-            None => return false,
+        if !watch_as(&mut self.lines[guest], poll, at) {
+            return false;
         }
         self.lines.swap(guest, at);
         self.lines[guest] = None;
@@ -97,10 +106,17 @@ impl Connections {
 
     /// The connection of a line.
     fn at(&self, line: Line) -> Option<&Wired> {
-        match self.lines.get(line.place()?) {
-            Some(Some(wired)) => Some(wired),
-            _ => None,
-        }
+        self.lines.get(line.place()?)?.as_ref()
+    }
+
+    /// The connection of a line, to act on.
+    fn at_mut(&mut self, line: Line) -> Option<&mut Wired> {
+        self.wired(line.place()?)
+    }
+
+    /// The connection at a place, to act on.
+    fn wired(&mut self, place: usize) -> Option<&mut Wired> {
+        self.lines.get_mut(place)?.as_mut()
     }
 
     /// The address at the other end of a line's connection.
@@ -110,7 +126,7 @@ impl Connections {
 
     /// The system told of the line at this place.
     pub(crate) fn wake(&mut self, place: usize) {
-        if let Some(Some(wired)) = self.lines.get_mut(place) {
+        if let Some(wired) = self.wired(place) {
             wired.wake();
         }
     }
@@ -171,12 +187,9 @@ impl Connections {
     pub(crate) fn read(&mut self, line: Line, piece: &mut [u8]) -> Result<usize, Halt>
         ensures { IfOk result (λ count. count ≤ length piece.new) }
     {
-        let Some(place) = line.place() else {
-            return Err(Halt::Ended);
-        };
-        match self.lines.get_mut(place) {
-            Some(Some(wired)) => wired.read(piece),
-            _ => Err(Halt::Ended),
+        match self.at_mut(line) {
+            Some(wired) => wired.read(piece),
+            None => Err(Halt::Ended),
         }
     }
 
@@ -184,29 +197,24 @@ impl Connections {
     pub(crate) fn write(&mut self, line: Line, bytes: &[u8]) -> Result<usize, Halt>
         ensures { IfOk result (λ count. count ≤ length bytes.now) }
     {
-        let Some(place) = line.place() else {
-            return Err(Halt::Ended);
-        };
-        match self.lines.get_mut(place) {
-            Some(Some(wired)) => wired.write(bytes),
-            _ => Err(Halt::Ended),
+        match self.at_mut(line) {
+            Some(wired) => wired.write(bytes),
+            None => Err(Halt::Ended),
         }
     }
 
     /// It is known who has the connection of a line.
     pub(crate) fn know(&mut self, line: Line) {
-        if let Some(place) = line.place() {
-            if let Some(Some(wired)) = self.lines.get_mut(place) {
-                wired.know();
-            }
+        if let Some(wired) = self.at_mut(line) {
+            wired.know();
         }
     }
 
     /// Closes the connection of a line.
     pub(crate) fn close(&mut self, line: Line) {
         if let Some(place) = line.place() {
-            if let Some(wired) = self.lines.get_mut(place) {
-                *wired = None;
+            if let Some(connection) = self.lines.get_mut(place) {
+                *connection = None;
             }
         }
     }

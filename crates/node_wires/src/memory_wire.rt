@@ -4,7 +4,8 @@ ghost use Rattle.std.specs.Prelude.{◌≡◌, ◌≤◌, ◌++◌, length, take
 ghost use Rattle.node_wires.specs.Passages.{logged_in};
 ghost use Rattle.node_wires.specs.Logs.{IsLogged, logged_prop};
 
-use crate::limits::{ASKERS, CALLERS, GUESTS, LINES};
+use crate::comer::Comer;
+use crate::limits::{GUESTS, LINES};
 use crate::line::Line;
 use crate::passages::Passages;
 use crate::pipe::Pipe;
@@ -80,53 +81,47 @@ fn count_down(left: &mut Option<u64>) -> bool {
     }
 }
 
-/// The first place of those who dialled that has no connection.
-fn free_place(pipes: &[Pipe]) -> Option<u8> {
-    for place in 0..CALLERS as u8 {
-        if !is_open(pipes, Line::Caller(place)) {
+/// The first place of those who come by themselves that has no connection.
+fn free_place(pipes: &[Pipe], comer: Comer) -> Option<u8> {
+    for place in 0..comer.places() {
+        if !is_open(pipes, comer.line(place)) {
             return Some(place);
         }
     }
     None
 }
 
-/// The first place of guests that has no connection.
-fn free_place_of_guests(pipes: &[Pipe]) -> Option<u8> {
-    for place in 0..GUESTS as u8 {
-        if !is_open(pipes, Line::Guest(place)) {
-            return Some(place);
-        }
-    }
-    None
+/// The connection of a line.
+fn at(pipes: &[Pipe], line: Line) -> Option<&Pipe> {
+    pipes.get(line.place()?)
 }
 
-/// The first place of those who ask that has no connection.
-fn free_place_of_askers(pipes: &[Pipe]) -> Option<u8> {
-    for place in 0..ASKERS as u8 {
-        if !is_open(pipes, Line::Asker(place)) {
-            return Some(place);
-        }
-    }
-    None
+/// The connection of a line, to act on.
+fn at_mut(pipes: &mut Vec<Pipe>, line: Line) -> Option<&mut Pipe> {
+    pipes.get_mut(line.place()?)
 }
 
 /// Whether a line has a connection.
 fn is_open(pipes: &[Pipe], line: Line) -> bool {
-    let Some(place) = line.place() else {
-        return false;
-    };
-    match pipes.get(place) {
+    match at(pipes, line) {
         Some(pipe) => pipe.is_open(),
         None => false,
     }
 }
 
+/// Whether somebody waits at the port of a seat.
+fn is_there(bots: u16, seat: u8) -> bool {
+    seat < 16 && bots & (1 << seat) != 0
+}
+
+/// Nobody waits at the port of a seat any more.
+fn without(bots: u16, seat: u8) -> u16 {
+    if seat < 16 { bots & !(1 << seat) } else { bots }
+}
+
 /// A connection begins; false of a line that there isn't.
 fn begin(pipes: &mut Vec<Pipe>, line: Line) -> bool {
-    let Some(place) = line.place() else {
-        return false;
-    };
-    match pipes.get_mut(place) {
+    match at_mut(pipes, line) {
         Some(pipe) => {
             pipe.begin();
             true
@@ -135,13 +130,20 @@ fn begin(pipes: &mut Vec<Pipe>, line: Line) -> bool {
     }
 }
 
+/// A connection begins at the first free place of those who come so, which is answered.
+fn begin_one(pipes: &mut Vec<Pipe>, comer: Comer) -> Option<u8> {
+    let place = free_place(pipes, comer)?;
+    if begin(pipes, comer.line(place)) {
+        Some(place)
+    } else {
+        None
+    }
+}
+
 fn read(pipes: &mut Vec<Pipe>, line: Line, piece: &mut [u8]) -> Result<usize, Halt>
     ensures { IfOk result (λ count. count ≤ length piece.new) }
 {
-    let Some(place) = line.place() else {
-        return Err(Halt::Ended);
-    };
-    match pipes.get_mut(place) {
+    match at_mut(pipes, line) {
         Some(pipe) => pipe.read(piece),
         None => Err(Halt::Ended),
     }
@@ -150,20 +152,15 @@ fn read(pipes: &mut Vec<Pipe>, line: Line, piece: &mut [u8]) -> Result<usize, Ha
 fn write(pipes: &mut Vec<Pipe>, line: Line, bytes: &[u8]) -> Result<usize, Halt>
     ensures { IfOk result (λ count. count ≤ length bytes.now) }
 {
-    let Some(place) = line.place() else {
-        return Err(Halt::Ended);
-    };
-    match pipes.get_mut(place) {
+    match at_mut(pipes, line) {
         Some(pipe) => pipe.write(bytes),
         None => Err(Halt::Ended),
     }
 }
 
 fn close(pipes: &mut Vec<Pipe>, line: Line) {
-    if let Some(place) = line.place() {
-        if let Some(pipe) = pipes.get_mut(place) {
-            pipe.close();
-        }
+    if let Some(pipe) = at_mut(pipes, line) {
+        pipe.close();
     }
 }
 
@@ -232,7 +229,7 @@ impl MemoryWire {
         ensures passed { self.new.passed ≡ self.old.passed }
         ensures log { self.new.log ≡ self.old.log }
     {
-        match free_place_of_guests(&self.pipes) {
+        match free_place(&self.pipes, Comer::Guest) {
             Some(place) => place,
             None => {
                 let place = self.crowded;
@@ -253,40 +250,31 @@ impl MemoryWire {
 
     /// The other side of a line's connection sends these bytes.
     pub fn come(&mut self, line: Line, bytes: &[u8]) -> Result<(), AllocError> {
-        if let Some(place) = line.place() {
-            if let Some(pipe) = self.pipes.get_mut(place) {
-                return pipe.come(bytes);
-            }
+        match at_mut(&mut self.pipes, line) {
+            Some(pipe) => pipe.come(bytes),
+            None => Ok(()),
         }
-        Ok(())
     }
 
     /// The other side ends a line's connection, behind what it sent.
     pub fn end(&mut self, line: Line) {
-        if let Some(place) = line.place() {
-            if let Some(pipe) = self.pipes.get_mut(place) {
-                pipe.end();
-            }
+        if let Some(pipe) = at_mut(&mut self.pipes, line) {
+            pipe.end();
         }
     }
 
     /// What was written to a line and isn't taken yet.
     pub fn written(&self, line: Line) -> &[u8] {
-        match line.place() {
-            Some(place) => match self.pipes.get(place) {
-                Some(pipe) => pipe.written(),
-                None => &[],
-            },
+        match at(&self.pipes, line) {
+            Some(pipe) => pipe.written(),
             None => &[],
         }
     }
 
     /// What was written to a line is taken.
     pub fn take_written(&mut self, line: Line) {
-        if let Some(place) = line.place() {
-            if let Some(pipe) = self.pipes.get_mut(place) {
-                pipe.take_written();
-            }
+        if let Some(pipe) = at_mut(&mut self.pipes, line) {
+            pipe.take_written();
         }
     }
 
@@ -343,10 +331,7 @@ impl Wire for MemoryWire {
         if self.callers == 0 || count_down(&mut self.left) {
             return None;
         }
-        let place = free_place(&self.pipes)?;
-        if !begin(&mut self.pipes, Line::Caller(place)) {
-            return None;
-        }
+        let place = begin_one(&mut self.pipes, Comer::Caller)?;
         self.callers -= 1;
         self.passed.began(Line::Caller(place));
         Some(place)
@@ -354,27 +339,27 @@ impl Wire for MemoryWire {
 
     #[tactic(auto, using(crate::proofs::Logged::when_began))]
     fn accept_seat(&mut self, seat: u8) -> bool {
-        if seat >= 16 || self.bots & (1 << seat) == 0 || count_down(&mut self.left) {
+        if !is_there(self.bots, seat) || count_down(&mut self.left) {
             return false;
         }
         if !begin(&mut self.pipes, Line::Seat(seat)) {
             return false;
         }
-        self.bots &= !(1 << seat);
+        self.bots = without(self.bots, seat);
         self.passed.began(Line::Seat(seat));
         true
     }
 
     #[tactic(auto, using(crate::proofs::Logged::when_began))]
     fn accept_guest(&mut self, seat: u8) -> Option<u8> {
-        if seat >= 16 || self.bots & (1 << seat) == 0 || count_down(&mut self.left) {
+        if !is_there(self.bots, seat) || count_down(&mut self.left) {
             return None;
         }
         let place = self.place_of_guest();
         if !begin(&mut self.pipes, Line::Guest(place)) {
             return None;
         }
-        self.bots &= !(1 << seat);
+        self.bots = without(self.bots, seat);
         self.passed.began(Line::Guest(place));
         Some(place)
     }
@@ -393,10 +378,7 @@ impl Wire for MemoryWire {
         if self.askers == 0 || count_down(&mut self.left) {
             return None;
         }
-        let place = free_place_of_askers(&self.pipes)?;
-        if !begin(&mut self.pipes, Line::Asker(place)) {
-            return None;
-        }
+        let place = begin_one(&mut self.pipes, Comer::Asker)?;
         self.askers -= 1;
         self.passed.began(Line::Asker(place));
         Some(place)

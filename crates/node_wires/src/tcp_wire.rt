@@ -60,6 +60,14 @@ impl Drop for TcpWire<'_> {
     }
 }
 
+/// Puts text behind what a file has.
+fn append(file: &mut File, text: &[u8]) -> Result<(), ErrorKind> {
+    match file.write_all(text) {
+        Ok(()) => Ok(()),
+        Err(fault) => Err(fault.kind()),
+    }
+}
+
 /// A kind of fault of the system, as one of a wire.
 fn fault_of(kind: ErrorKind) -> WireFault {
     match kind {
@@ -163,6 +171,13 @@ impl<'a> TcpWire<'a> {
         }
     }
 
+    /// Takes in one who came, if one did, and answers his place.
+    fn take_in(&mut self, comer: Comer, came: Option<(TcpStream, SocketAddr)>) -> Option<u8>
+        ensures { self.new.passed ≡ self.old.passed }
+    {
+        self.connections.take_in(&self.poll, comer, came?)
+    }
+
     /// Takes in the bot that came next to a seat's port, if one did.
     fn take_in_bot(&mut self, seat: u8) -> bool
         ensures { self.new.passed ≡ self.old.passed }
@@ -226,8 +241,8 @@ impl Wire for TcpWire<'_> {
     }
 
     fn accept(&mut self) -> Option<u8> {
-        let came = self.ports.next_caller()?;
-        let number = self.connections.take_in(&self.poll, Comer::Caller, came)?;
+        let came = self.ports.next_caller();
+        let number = self.take_in(Comer::Caller, came)?;
         self.passed.began(Line::Caller(number));
         Some(number)
     }
@@ -241,8 +256,8 @@ impl Wire for TcpWire<'_> {
     }
 
     fn accept_guest(&mut self, seat: u8) -> Option<u8> {
-        let came = self.ports.next_at_seat(seat)?;
-        let place = self.connections.take_in(&self.poll, Comer::Guest, came)?;
+        let came = self.ports.next_at_seat(seat);
+        let place = self.take_in(Comer::Guest, came)?;
         self.passed.began(Line::Guest(place));
         Some(place)
     }
@@ -256,8 +271,8 @@ impl Wire for TcpWire<'_> {
     }
 
     fn accept_asker(&mut self) -> Option<u8> {
-        let came = self.ports.next_asker()?;
-        let place = self.connections.take_in(&self.poll, Comer::Asker, came)?;
+        let came = self.ports.next_asker();
+        let place = self.take_in(Comer::Asker, came)?;
         self.passed.began(Line::Asker(place));
         Some(place)
     }
@@ -286,14 +301,14 @@ impl Wire for TcpWire<'_> {
         let Some(log) = &mut self.log else {
             return Err(WireFault::Failed);
         };
-        match log.write_all(text) {
+        match append(log, text) {
             Ok(()) => {
                 self.passed.logged(text);
                 Ok(())
             }
-            Err(fault) => {
-                self.failed = Some(Failed::Log { kind: fault.kind() });
-                Err(fault_of(fault.kind()))
+            Err(kind) => {
+                self.failed = Some(Failed::Log { kind });
+                Err(fault_of(kind))
             }
         }
     }
