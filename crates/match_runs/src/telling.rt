@@ -1,6 +1,6 @@
 //! What the notes of `serve` tell of a turn, and of the match's end.
 
-ghost use Rattle.std.specs.Prelude.{◌≡◌, ◌+◌, ◌<◌, ◌∷◌, ◌++◌, None, Some, IfSome, IsNone, drop, length, map, take};
+ghost use Rattle.std.specs.Prelude.{◌≡◌, ◌+◌, ◌<◌, ◌∷◌, ◌++◌, None, Some, IfSome, IsNone, drop, length, map, slice_get, take};
 ghost use Rattle.dealer_world.specs.Viewing.{view_of};
 ghost use Rattle.streamed.specs.Script.{HasNoFeed};
 ghost use Rattle.match_runs.specs.Notes.{AreNoted, note_line, names_in, ports_notes, awaited_notes, seat_lines, played_lines, waiting_lines, about_text, failure_notes};
@@ -16,6 +16,7 @@ use crate::seat_ports::SeatPorts;
 use dealer_kind::Config;
 use dealer_node::{NodeFault, Reader, SeatFault};
 use dealer_world::Cluster;
+use match_log::Name;
 use promise_store::Disk;
 use serving::Turn;
 use std::alloc::Global;
@@ -36,6 +37,13 @@ pub fn tell_ports<W: Write>(alloc: Global, config: &Config, ports: SeatPorts, no
     }
 }
 
+/// The name of a seat; none of a number that no seat has.
+fn name_of(config: &Config, seat: usize) -> Option<Name>
+    ensures { result ≡ slice_get config.now.setting.names seat }
+{
+    config.names().as_slice().get(seat).copied()
+}
+
 /// Tells at which node and port a seat is awaited, where one is; nothing of a number that no seat has.
 pub(crate) fn tell_awaited<D: Disk + Drop, W: Write>(
     alloc: Global,
@@ -47,11 +55,10 @@ pub(crate) fn tell_awaited<D: Disk + Drop, W: Write>(
     ensures { AreNoted (map note_line (awaited_notes (names_in (view_of cluster.now)) ports awaited)) (W.contents notes.old) (W.contents notes.new) }
 {
     if let Some((seat, node)) = awaited {
-        let names = cluster.config().names().as_slice();
-        if let Some(name) = names.get(seat as usize) {
+        if let Some(name) = name_of(cluster.config(), seat as usize) {
             let told = Note::Awaiting {
                 seat: seat as usize,
-                name: *name,
+                name,
                 node,
                 port: ports.port(node, seat),
             };
@@ -95,10 +102,10 @@ fn tell_wait<W: Write>(
 )
     ensures { AreNoted (waiting_lines config.now.setting.names ports seat node None) (W.contents notes.old) (W.contents notes.new) }
 {
-    if let Some(name) = config.names().as_slice().get(seat as usize) {
+    if let Some(name) = name_of(config, seat as usize) {
         let told = Note::Waiting {
             seat: seat as usize,
-            name: *name,
+            name,
             node,
             port: ports.port(node, seat),
             line: None,
@@ -119,10 +126,10 @@ fn tell_wait_with<W: Write>(
 )
     ensures { AreNoted (waiting_lines config.now.setting.names ports seat node (Some line.now)) (W.contents notes.old) (W.contents notes.new) }
 {
-    if let Some(name) = config.names().as_slice().get(seat as usize) {
+    if let Some(name) = name_of(config, seat as usize) {
         let told = Note::Waiting {
             seat: seat as usize,
-            name: *name,
+            name,
             node,
             port: ports.port(node, seat),
             line: Some(line),
@@ -202,8 +209,7 @@ pub(crate) fn tell_failure<W: Write>(
 fn tell_seat<W: Write>(alloc: Global, config: &Config, seat: usize, about: About<'_>, notes: &mut W)
     ensures { AreNoted (seat_lines config.now.setting.names seat (about_text about.entry)) (W.contents notes.old) (W.contents notes.new) }
 {
-    if let Some(name) = config.names().as_slice().get(seat) {
-        let name = *name;
+    if let Some(name) = name_of(config, seat) {
         tell_note(alloc, notes, &Note::Seat { seat, name, about });
     }
 }
