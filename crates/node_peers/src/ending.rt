@@ -158,15 +158,22 @@ impl Peers {
         }
     }
 
+    /// Ends the connection at a place, where that has ended or is stale.
+    #[tactic(auto, using(crate::proofs::Growing::stayed))]
+    fn end_if_stale<W: Wire>(&mut self, wire: &mut W, place: usize, now: u64)
+        ensures { Grew self.old self.new (W.passed wire.old) (W.passed wire.new) }
+    {
+        if self.has_ended(place) || self.is_stale(place, now) {
+            self.end(wire, place, now);
+        }
+    }
+
     /// Ends the connections that have ended or are stale, and has it known who speaks over the others.
-    #[tactic(auto, using(crate::proofs::Growing::grew_on, crate::proofs::Growing::stayed, crate::proofs::Growing::stays_on))]
     pub(crate) fn end_stale<W: Wire>(&mut self, wire: &mut W, now: u64)
         ensures { Grew self.old self.new (W.passed wire.old) (W.passed wire.new) }
     {
         for place in 0..LINKS {
-            if self.has_ended(place) || self.is_stale(place, now) {
-                self.end(wire, place, now);
-            }
+            self.end_if_stale(wire, place, now);
             self.know(wire, place);
         }
     }

@@ -33,7 +33,7 @@ pub(crate) struct Link {
 }
 
 /// What became of bytes that were to be written.
-#[derive(Clone, Copy, Debug, PartialEq, Eq)]
+#[derive(Clone, Copy)]
 pub(crate) enum Written {
     /// Some are written.
     Some,

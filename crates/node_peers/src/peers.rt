@@ -20,7 +20,6 @@ use std::alloc::{AllocError, Global};
 ///
 /// A turn: `hear` takes what came, `next` tells it; what the node sends meanwhile goes by `send`; `tell` says how the node
 /// is, where that is due; `flush` writes what waits. None of them waits.
-#[derive(Drop)]
 pub struct Peers {
     pub(crate) lines: Lines,
     /// The ballot that the node has promised, as Hellos say it.
@@ -34,6 +33,21 @@ pub struct Peers {
     pub(crate) looked: u64,
     /// What waits for those who aren't known yet: nothing.
     pub(crate) nothing: Outbox,
+}
+
+/// By hand, so that letting one go is one call for whoever owns it (docs/ARCHITECTURE.md, Habits).
+impl Drop for Peers {
+    fn drop(self) {
+        let Peers {
+            lines: _,
+            promised: _,
+            silence: _,
+            peers: _,
+            refusals: _,
+            looked: _,
+            nothing: _,
+        } = self;
+    }
 }
 
 /// Of each node what is known before anything came.

@@ -42,16 +42,25 @@ impl Peers {
         }
     }
 
+    /// Begins what waits next at a place, and writes of it what there is room for.
+    #[tactic(auto, using(crate::proofs::Growing::grew_on, crate::proofs::Growing::stayed))]
+    fn write_next<W: Wire>(&mut self, wire: &mut W, place: usize) -> Written
+        requires { place < LINKS }
+        ensures { Grew self.old self.new (W.passed wire.old) (W.passed wire.new) }
+    {
+        self.begin(place);
+        self.lines.write(wire, place)
+    }
+
     /// Writes what waits over the line at a place. It says whether the connection goes on: not where it ended, and where a
     /// fault closed it and all is written.
-    #[tactic(auto, using(crate::proofs::Growing::grew_on, crate::proofs::Growing::stayed, crate::proofs::Growing::stays_on))]
+    #[tactic(auto, using(crate::proofs::Growing::grew_on, crate::proofs::Growing::stayed))]
     pub(crate) fn write<W: Wire>(&mut self, wire: &mut W, place: usize, now: u64) -> bool
         requires { place < LINKS }
         ensures { Grew self.old self.new (W.passed wire.old) (W.passed wire.new) }
     {
         for _ in 0..u64::MAX {
-            self.begin(place);
-            match self.lines.write(wire, place) {
+            match self.write_next(wire, place) {
                 Written::Some => self.note_written(place, now),
                 Written::Nothing => return !self.is_closed(place),
                 Written::Later => return true,
