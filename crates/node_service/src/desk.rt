@@ -21,7 +21,7 @@ use crate::handed::Handed;
 use crate::limits::{LONG, SEATS};
 use crate::member::Member;
 use crate::sitting::Sittings;
-use dealer_node::{NodeFault, Out, Reader, SeatFault};
+use dealer_node::{NodeFault, Out, Reader};
 use dealer_world::Event;
 use node_links::Told as Beat;
 use node_peers::Notice;
@@ -66,6 +66,12 @@ impl<D: Disk + Drop, W: Wire + Drop> Drop for Desk<D, W> {
 /// The bit of a seat; none of a number that no seat has.
 fn bit_of(seat: u8) -> u16 {
     if seat < SEATS { 1 << seat } else { 0 }
+}
+
+/// Whether a bot sits at a seat whose session is ready, and nothing waits for it.
+pub(crate) fn has_been_told<D: Disk + Drop>(member: &Member<D>, seats: &Seats, seat: u8) -> bool {
+    let bits = seats.bits() & bit_of(seat);
+    bits != 0 && member.is_connected(seat) && seats.backlog(seat) == 0
 }
 
 /// The seat whose bot is let go of where this isn't given to the node.
@@ -302,20 +308,6 @@ impl<D: Disk + Drop, W: Wire + Drop> Desk<D, W> {
         ensures { IsKept W.Wire self.old self.new }
     {
         self.company.set_silence(silence);
-    }
-
-    /// What of the last call was wrong in what a seat sent: the fault of this number.
-    pub(crate) fn fault(&self, number: usize) -> Option<SeatFault> {
-        match self.member.made().faults().get(number) {
-            Some(found) => Some(*found),
-            None => None,
-        }
-    }
-
-    /// Whether a bot sits at a seat whose session is ready, and nothing waits for it.
-    pub(crate) fn has_been_told(&self, seat: u8) -> bool {
-        let seats = self.seats.bits() & bit_of(seat);
-        seats != 0 && self.member.is_connected(seat) && self.seats.backlog(seat) == 0
     }
 
     /// Takes what peers sent, and dials those that are to be dialled.

@@ -1,5 +1,6 @@
 //! How a process ends whose match is over.
 
+use crate::desk::has_been_told;
 use crate::limits::{END_READ, SEATS, TOLD, UNHEARD};
 use crate::outcome::Outcome;
 use crate::server::NodeServer;
@@ -38,7 +39,7 @@ impl<D: Disk + Drop, W: Wire + Drop> NodeServer<D, W> {
     pub(crate) fn part_from_seat(&mut self, seat: u8)
         ensures { IsKept W.Wire self.old.desk self.new.desk }
     {
-        if !self.desk.has_been_told(seat) {
+        if !has_been_told(&self.desk.member, &self.desk.seats, seat) {
             return;
         }
         self.desk.hang_up(seat);

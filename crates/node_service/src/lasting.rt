@@ -7,7 +7,7 @@ use crate::limits::{HANG_UP, WAITING, WAITING_AGAIN};
 use node_links::limits::LOOK;
 
 /// Since when this is so. Moments are whole microseconds since one that stays the same.
-#[derive(Clone, Copy, Debug, PartialEq, Eq)]
+#[derive(Clone, Copy)]
 pub(crate) struct Lasting {
     /// Since when the node has been without a quorum.
     lost: Option<u64>,
@@ -22,7 +22,7 @@ pub(crate) struct Lasting {
 }
 
 /// What a moment makes of the quorum.
-#[derive(Clone, Copy, Debug, PartialEq, Eq)]
+#[derive(Clone, Copy)]
 pub(crate) enum Turned {
     /// It is as before.
     Stays,

@@ -7,7 +7,7 @@ ghost use Rattle.dealer_world.specs.Stepping.{IsFor};
 ghost use Rattle.stations.specs.Stations.{Acts};
 ghost use Rattle.node_service.specs.Ending.{IsOverAt};
 
-use dealer_node::{Node, NodeFault, Out};
+use dealer_node::{Node, NodeFault, Out, SeatFault};
 use dealer_world::Event;
 use promise_store::Disk;
 use stations::Station;
@@ -95,6 +95,14 @@ impl<D: Disk + Drop> Member<D> {
         ensures { result.now ≡ (look_of self.now.station).node }
     {
         self.station.node()
+    }
+
+    /// What of the last call was wrong in what a seat sent: the fault of this number.
+    pub(crate) fn fault(&self, number: usize) -> Option<SeatFault> {
+        match self.made.faults().get(number) {
+            Some(found) => Some(*found),
+            None => None,
+        }
     }
 
     /// Whether the match is over at the node.

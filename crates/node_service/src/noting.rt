@@ -51,7 +51,7 @@ impl<D: Disk + Drop, W: Wire + Drop> NodeServer<D, W> {
     pub(crate) fn note_fault(&mut self, number: usize) -> bool
         ensures { IsKept W.Wire self.old.desk self.new.desk }
     {
-        let Some(found) = self.desk.fault(number) else {
+        let Some(found) = self.desk.member.fault(number) else {
             return false;
         };
         if found.seat >= SEATS as usize {

@@ -4,7 +4,7 @@ use crate::limits::PLACES;
 
 /// Since when a seat is waited for, and when it was last played for. Moments are whole microseconds since one that stays the
 /// same as long as the process lives.
-#[derive(Clone, Copy, Debug)]
+#[derive(Clone, Copy)]
 pub(crate) struct Patience {
     /// How long a seat may hold the table; without it nobody is played for.
     pub(crate) most: Option<u64>,

@@ -4,7 +4,7 @@
 const SECOND: u64 = 1_000_000;
 
 /// How many commands were applied in the last whole second.
-#[derive(Clone, Copy, Debug)]
+#[derive(Clone, Copy)]
 pub(crate) struct Rate {
     /// The second that runs, counted as moments are, and the front when it began.
     second: u64,

@@ -11,7 +11,7 @@ use node_watch::sight_after;
 use peer_codes::Beat as Told;
 
 /// What a peer has told of itself.
-#[derive(Clone, Copy, Debug)]
+#[derive(Clone, Copy)]
 struct Sight {
     /// What it told over its open connection, and since when.
     beat: Option<Beat>,
@@ -25,7 +25,7 @@ struct Sight {
 }
 
 /// What each peer has told of itself, by its number.
-#[derive(Clone, Copy, Debug)]
+#[derive(Clone, Copy)]
 pub(crate) struct Sights {
     all: [Sight; NODES],
 }

@@ -9,7 +9,7 @@ use crate::limits::{PLACES, SEATS};
 use dealer_world::Event;
 
 /// How the bot of a seat is at this node.
-#[derive(Clone, Copy, Debug, PartialEq, Eq)]
+#[derive(Clone, Copy)]
 pub(crate) enum Sitting {
     /// The node has no session of the seat.
     Away,
@@ -20,7 +20,7 @@ pub(crate) enum Sitting {
 }
 
 /// The same of each seat, by its number.
-#[derive(Clone, Copy, Debug)]
+#[derive(Clone, Copy)]
 pub(crate) struct Sittings {
     all: [Sitting; PLACES],
 }

@@ -25,7 +25,7 @@ use std::alloc::Global;
 use std::net::IpAddr;
 
 /// What was taken of what came.
-#[derive(Clone, Copy, PartialEq, Eq)]
+#[derive(Clone, Copy)]
 pub(crate) enum Taken {
     /// There is nothing more.
     Nothing,

@@ -11,42 +11,46 @@ use crate::limits::NODES;
 use crate::noting::seat_to_act;
 use crate::outcome::Outcome;
 use crate::server::NodeServer;
-use crate::sights::Others;
+use crate::sights::{Others, Sights};
 use crate::told::Told;
 use clockwork::limits::{LATEST, LOOK, MOST_PEERS};
 use clockwork::{Awaited, Due, Known, away_due, due, has_work, is_behind, is_quorate, pace, rank};
 use dealer_world::Event;
-use node_peers::View;
+use node_peers::{Peers, View};
+use node_watch::Watch;
 use node_wires::Wire;
 use promise_store::Disk;
+
+/// Keeps what a peer has told by its last beat.
+fn look_at(view: &View, sights: &mut Sights, watch: &mut Watch, number: u8, now: u64) {
+    sights.take(number, view, watch.seen.front, now);
+    if let Some(beat) = view.beat {
+        if beat.leads {
+            watch.lead();
+        }
+    }
+}
+
+/// The same of all peers.
+fn look_at_all(peers: &Peers, sights: &mut Sights, watch: &mut Watch, now: u64) {
+    for number in 0..NODES as u8 {
+        if let Some(view) = peers.view(number) {
+            look_at(&view, sights, watch, number, now);
+        }
+    }
+}
 
 impl<D: Disk + Drop, W: Wire + Drop> NodeServer<D, W> {
     ghost use Rattle.node_service.specs.Desks.{IsKept};
     ghost use Rattle.node_service.specs.Going.{GoesOn};
     ghost use Rattle.node_service.specs.Serving.{served_of};
 
-    /// Keeps what a peer has told by its last beat.
-    pub(crate) fn look_at(&mut self, number: u8, now: u64)
-        ensures { self.new.desk ≡ self.old.desk }
-    {
-        let Some(view) = self.desk.company.peers.view(number) else {
-            return;
-        };
-        self.sights.take(number, &view, self.watch.seen.front, now);
-        if let Some(beat) = view.beat {
-            if beat.leads {
-                self.watch.lead();
-            }
-        }
-    }
-
     /// Keeps what peers have told by beats.
     pub(crate) fn look(&mut self, now: u64)
         ensures { self.new.desk ≡ self.old.desk }
     {
-        for number in 0..NODES as u8 {
-            self.look_at(number, now);
-        }
+        let company = &self.desk.company;
+        look_at_all(&company.peers, &mut self.sights, &mut self.watch, now);
     }
 
     /// Whether a peer that is back owes an answer that would still serve.

@@ -9,14 +9,14 @@ use crate::limits::{PLACES, SEATS};
 use node_links::limits::NOTED;
 
 /// So many came to a seat without its token since the last note of it, and when that was, in whole microseconds.
-#[derive(Clone, Copy, Debug, PartialEq, Eq)]
+#[derive(Clone, Copy)]
 pub(crate) struct Untold {
     count: u32,
     noted: Option<u64>,
 }
 
 /// The same of each seat, by its number.
-#[derive(Clone, Copy, Debug)]
+#[derive(Clone, Copy)]
 pub(crate) struct WrongTokens {
     all: [Untold; PLACES],
 }
