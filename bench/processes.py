@@ -8,8 +8,9 @@ makes the same syncs and exchanges alone (the floor): a leader who writes and sy
 of whom does the same and answers, and who tells a player of it once a quorum has answered, and waits for his act; and the
 same match by nodes with a key. Printed are medians and ranges of RUNS runs each (10 by default) of commands a second, their
 ratio, and how much longer a command takes with codes and seals; then how long a line waited behind the signal 9 to a
-process that came back; then how long a process that was begun again on its store took until its
-log was whole; and what a process takes of memory.
+process that came back: of those that were killed while all others had caught up, and of those that were killed while another
+was still being told what it had missed, which are two losses at once; then how long a process that was begun again on its
+store took until its log was whole; and what a process takes of memory.
 """
 import os
 import random
@@ -32,9 +33,11 @@ from serving import FAST, free_ports, waited
 # About how long a run beside its floor is to take, in seconds, and the fewest and the most hands of it.
 RUN_TAKES, FEWEST, MOST = 2.0, 60, 1000
 COUNTS = (3, 5)
-# Of the runs with losses: how many processes are killed, in how many matches at most, how long after the one before, and
-# how long each is away.
+# Of the runs with losses: how many processes are killed while no other lacks anything, in how many matches at most, how long
+# after the one before, and how long each is away.
 LOSSES, MATCHES, BETWEEN, AWAY = 200, 10, 0.25, 0.1
+# By how many bytes of its log a process may be behind the others and count as one that lacks nothing: a few hands.
+LEVEL = 1000
 # How many commands a process has missed that is begun again.
 MISSED = 10_000
 
@@ -261,20 +264,28 @@ def line_after(match, node, longest=10.0):
     return longest
 
 
+def is_alone(match, node):
+    """Whether every other process has all that any process has, or nearly: so that the loss of this one is the only one."""
+    sizes = [(match.folder / f"logs/node{other}.log").stat().st_size for other in range(match.nodes)]
+    return all(max(sizes) - size <= LEVEL for other, size in enumerate(sizes) if other != node)
+
+
 def losses(programs, nodes, place, most, chance):
-    """One process after another of a match is killed, and begun again, so many at most; how long the next line of a log then waited, in milliseconds."""
+    """One process after another of a match is killed, and begun again, until so many were alone in it at most. How long the next
+    line of a log then waited, in milliseconds: of the losses that were alone, and of those that met others still behind."""
     rate = 5000 if str(place) == FAST else 1500
-    match, waits = Processes(nodes, min(10_000, int(most * (BETWEEN + AWAY + 0.1) * rate / OF_A_HAND)), place), []
+    match, alone, together = Processes(nodes, min(10_000, int(most * (BETWEEN + AWAY + 0.1) * rate / OF_A_HAND)), place), [], []
     try:
         for node in range(nodes):
             match.begin(node)
         players = Players(programs["players"], match)
         waited(lambda: match.log(0), "the first line of a log")
-        while len(waits) < most and all(process.poll() is None for process in match.running.values()):
+        while len(alone) < most and all(process.poll() is None for process in match.running.values()):
             time.sleep(BETWEEN * (0.5 + chance.random()))
             node = chance.randrange(nodes)
             if node not in match.running or match.running[node].poll() is not None:
                 break
+            waits = alone if is_alone(match, node) else together
             match.kill(node)
             waits.append(line_after(match, node) * 1e3)
             time.sleep(AWAY * chance.random())
@@ -283,18 +294,24 @@ def losses(programs, nodes, place, most, chance):
         match.ended()
     finally:
         match.remove()
-    return waits
+    return alone, together
+
+
+def told_waits(waits):
+    """Waits in milliseconds, in words."""
+    waits = sorted(waits)
+    return f"median {waits[len(waits) // 2]:.1f} ms, 9 of 10 {waits[9 * len(waits) // 10]:.1f} ms, worst {waits[-1]:.1f} ms" if waits else "none"
 
 
 def lose_processes(programs, nodes, place):
     """Matches one after another, until so many processes were lost."""
-    waits, matches, chance = [], 0, random.Random(1)
-    while len(waits) < LOSSES and matches < MATCHES:
-        waits += losses(programs, nodes, place, LOSSES - len(waits), chance)
-        matches += 1
-    waits.sort()
-    print(f"{len(waits)} losses by signal 9 of one of {nodes} processes in {matches} matches, stores in {place}: to the next line of a log (one a hand)", end=" ")
-    print(f"median {waits[len(waits) // 2]:.1f} ms, 9 of 10 {waits[9 * len(waits) // 10]:.1f} ms, worst {waits[-1]:.1f} ms", flush=True)
+    alone, together, matches, chance = [], [], 0, random.Random(1)
+    while len(alone) < LOSSES and matches < MATCHES:
+        found = losses(programs, nodes, place, LOSSES - len(alone), chance)
+        alone, together, matches = alone + found[0], together + found[1], matches + 1
+    print(f"losses by signal 9 of one of {nodes} processes in {matches} matches, stores in {place}: to the next line of a log (one a hand)")
+    print(f"  {len(alone)} while all others had caught up: {told_waits(alone)}")
+    print(f"  {len(together)} while another was still behind: {told_waits(together)}", flush=True)
 
 
 def begin_again(programs, place):
