@@ -227,7 +227,21 @@ fn is_refused(rt: &impl Abort, side: &Side, fault: u64, answer: u64) {
     assert_number(rt, said(side, 0), answer);
 }
 
-/// Who says this to node 0 is refused by this fault and counted, and so many bytes are said to him, nothing of what waits.
+/// Where something waits, who says this is refused by this fault and counted, and so many bytes are said to him.
+fn refuses_words(
+    rt: &impl Abort,
+    side: &mut Side,
+    words: &[u8],
+    fault: u64,
+    answer: u64,
+) -> Result<(), AllocError> {
+    side.peers.send(1, &ASK, 0);
+    say(side, 0, words, 1_000)?;
+    is_refused(rt, side, fault, answer);
+    Ok(())
+}
+
+/// The same of this node.
 fn refuses(
     rt: &impl Abort,
     alloc: Global,
@@ -237,10 +251,7 @@ fn refuses(
     answer: u64,
 ) -> Result<(), AllocError> {
     let mut side = Side::of(alloc, own, &[], 0)?;
-    side.peers.send(1, &ASK, 0);
-    say(&mut side, 0, words, 1_000)?;
-    is_refused(rt, &side, fault, answer);
-    Ok(())
+    refuses_words(rt, &mut side, words, fault, answer)
 }
 
 /// A frame before the Hello, which is refused.
@@ -339,7 +350,7 @@ fn frames_told(side: &mut Side) -> u64 {
 /// How many frames are heard in a turn.
 fn frames_heard(side: &mut Side) -> u64 {
     side.wire.set_now(2_000);
-    side.peers.hear(&mut side.wire, 2_000);
+    side.hear(2_000);
     frames_told(side)
 }
 

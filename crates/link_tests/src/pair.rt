@@ -57,37 +57,64 @@ pub(crate) const NOTHING: Seen = Seen {
     sum: 0,
 };
 
+/// What was told so far, and that a peer joined.
+fn and_joined(seen: Seen, has_life: bool) -> Seen {
+    Seen {
+        joined: seen.joined.saturating_add(1),
+        lives: seen.lives.saturating_add(has_life as u8),
+        ..seen
+    }
+}
+
+/// What was told so far, and that a peer is gone.
+fn and_gone(seen: Seen) -> Seen {
+    Seen {
+        gone: seen.gone.saturating_add(1),
+        ..seen
+    }
+}
+
+/// What was told so far, and the fault of a peer.
+fn and_refused(seen: Seen, fault: u8) -> Seen {
+    Seen {
+        fault,
+        refused: seen.refused.saturating_add(1),
+        ..seen
+    }
+}
+
+/// What was told so far, and callers who were refused.
+fn and_strangers(seen: Seen, count: u32, fault: u8) -> Seen {
+    Seen {
+        fault,
+        strangers: seen.strangers.saturating_add(count),
+        ..seen
+    }
+}
+
+/// What was told so far, and a frame.
+fn and_frame(seen: Seen, bytes: &[u8]) -> Seen {
+    let last = bytes.last().copied().unwrap_or(0);
+    Seen {
+        frames: seen.frames.saturating_add(1),
+        sum: seen.sum.saturating_add(last as u64),
+        ..seen
+    }
+}
+
 /// What was told so far, and this.
-pub(crate) fn and_notice(seen: Seen, notice: &Notice) -> Seen {
-    let mut seen = seen;
+fn and_notice(seen: Seen, notice: &Notice) -> Seen {
     match notice {
-        Notice::Joined { peer: _, life } => {
-            seen.joined = seen.joined.saturating_add(1);
-            if life.is_some() {
-                seen.lives = seen.lives.saturating_add(1);
-            }
-        }
-        Notice::Gone { peer: _ } => seen.gone = seen.gone.saturating_add(1),
+        Notice::Joined { peer: _, life } => and_joined(seen, life.is_some()),
+        Notice::Gone { peer: _ } => and_gone(seen),
         Notice::Refused {
             peer: _,
             fault,
             source: _,
-        } => {
-            seen.fault = fault.code();
-            seen.refused = seen.refused.saturating_add(1);
-        }
-        Notice::Strangers { count, fault } => {
-            seen.fault = fault.code();
-            seen.strangers = seen.strangers.saturating_add(*count);
-        }
-        Notice::Frame { from: _, frame } => {
-            seen.frames = seen.frames.saturating_add(1);
-            if let Some(last) = frame.bytes.as_slice().last() {
-                seen.sum = seen.sum.saturating_add(*last as u64);
-            }
-        }
+        } => and_refused(seen, fault.code()),
+        Notice::Strangers { count, fault } => and_strangers(seen, *count, fault.code()),
+        Notice::Frame { from: _, frame } => and_frame(seen, frame.bytes.as_slice()),
     }
-    seen
 }
 
 impl Side {
@@ -119,13 +146,33 @@ impl Side {
     /// One turn at this moment.
     pub(crate) fn turn(&mut self, now: u64) {
         self.wire.set_now(now);
-        self.peers.hear(&mut self.wire, now);
+        self.hear(now);
         for _ in 0..64 {
-            match self.peers.next() {
-                Some(notice) => self.seen = and_notice(self.seen, &notice),
-                None => break,
+            if !self.is_told() {
+                break;
             }
         }
+        self.say(now);
+    }
+
+    /// Takes what came.
+    pub(crate) fn hear(&mut self, now: u64) {
+        self.peers.hear(&mut self.wire, now);
+    }
+
+    /// Whether something is told, which is then counted.
+    fn is_told(&mut self) -> bool {
+        match self.peers.next() {
+            Some(notice) => {
+                self.seen = and_notice(self.seen, &notice);
+                true
+            }
+            None => false,
+        }
+    }
+
+    /// Says how the node is, and what waits.
+    fn say(&mut self, now: u64) {
         self.peers.tell(TOLD, now);
         self.peers.flush(&mut self.wire, now);
     }
