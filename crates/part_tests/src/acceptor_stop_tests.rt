@@ -1,14 +1,19 @@
-use crate::acceptors::{THIRD, accept, accepts, created, opened, prepare, prepares, promised};
+use crate::acceptors::{accept, opened, prepare, prepares};
 use crate::journal::{self, FIRST};
-use crate::samples::{CALL, FOLD, assert_same, holds};
+use crate::samples::{CALL, assert_same, holds};
 use acceptor::{AcceptAnswer, Acceptor, PrepareAnswer};
 use paxos_wire::Ballot;
-use promise_store::{Disk, MemoryDisk, OnceDisk, StoreFault};
+use promise_store::{Disk, MemoryDisk, StoreFault};
 use std::alloc::Global;
 use std::process::Abort;
 use std::test::Fail;
 
-const FOURTH: Ballot = Ballot { round: 2, node: 1 };
+const THIRD: Ballot = Ballot { round: 2, node: 0 };
+
+/// The ballot that the acceptor has promised.
+fn promised<D: Disk>(acceptor: &Acceptor<D>) -> Ballot {
+    acceptor.store().held().promised()
+}
 
 /// The acceptor of what its disk has after a stop with this pick.
 fn stopped<D: Disk>(
@@ -130,192 +135,4 @@ fn stops_in_a_promise(rt: HostRuntime) -> Result<(), Fail> {
     holds!(&rt; kept);
     holds!(&rt; lost);
     Ok(())
-}
-
-/// A closed store answers 64 to what is above its promise.
-fn is_closed<D: Disk>(rt: &impl Abort, acceptor: &mut Acceptor<D>) {
-    prepares(rt, acceptor, FOURTH, 0, Err(StoreFault::Closed));
-    accepts(rt, acceptor, FOURTH, 0, CALL, Err(StoreFault::Closed));
-}
-
-/// The acceptor behind a failed call: it answers 64 to what is above its promise, until its store is opened again.
-fn opened_again(
-    rt: &impl Abort,
-    alloc: Global,
-    mut acceptor: Acceptor<OnceDisk>,
-) -> Acceptor<OnceDisk> {
-    is_closed(rt, &mut acceptor);
-    stopped(rt, alloc, acceptor, 0)
-}
-
-/// Counts a fault, which is of the disk.
-fn count(rt: &impl Abort, fault: StoreFault, faults: &mut u32) {
-    assert_same(rt, fault, StoreFault::Disk);
-    *faults = faults.saturating_add(1);
-}
-
-/// The acceptor with a new store, which is created again where a call of the disk fails: that is counted.
-fn created_at_last(
-    rt: &impl Abort,
-    alloc: Global,
-    disk: OnceDisk,
-    faults: &mut u32,
-) -> Acceptor<OnceDisk> {
-    match journal::create(alloc, disk) {
-        Ok(store) => Acceptor::new(store),
-        Err((disk, fault)) => {
-            count(rt, fault, faults);
-            created(rt, alloc, disk)
-        }
-    }
-}
-
-/// The acceptor with its store opened again, once more where a call of the disk fails: that is counted.
-fn opened_at_last(
-    rt: &impl Abort,
-    alloc: Global,
-    acceptor: Acceptor<OnceDisk>,
-    faults: &mut u32,
-) -> Acceptor<OnceDisk> {
-    match journal::open(alloc, acceptor.into_disk()) {
-        Ok(store) => Acceptor::new(store),
-        Err((disk, fault)) => {
-            count(rt, fault, faults);
-            opened(rt, alloc, disk)
-        }
-    }
-}
-
-/// The third ballot is promised, or told by a refusal.
-fn has_promised<D: Disk>(rt: &impl Abort, acceptor: &mut Acceptor<D>) -> Result<(), StoreFault> {
-    if let PrepareAnswer::Refuse { promised, .. } = prepare(acceptor, THIRD, 0)? {
-        assert_same(rt, promised, THIRD);
-    }
-    Ok(())
-}
-
-/// The acceptor after a promise of the third ballot, which is asked again where a call of the disk fails.
-fn promised_at_last(
-    rt: &impl Abort,
-    alloc: Global,
-    mut acceptor: Acceptor<OnceDisk>,
-    faults: &mut u32,
-) -> Result<Acceptor<OnceDisk>, StoreFault> {
-    let Err(fault) = prepare(&mut acceptor, THIRD, 0) else {
-        return Ok(acceptor);
-    };
-    count(rt, fault, faults);
-    let mut acceptor = opened_again(rt, alloc, acceptor);
-    has_promised(rt, &mut acceptor)?;
-    Ok(acceptor)
-}
-
-/// A Prepare of the first ballot is refused by the third.
-fn refuses_below<D: Disk>(rt: &impl Abort, acceptor: &mut Acceptor<D>) {
-    let refused = PrepareAnswer::Refuse {
-        ballot: FIRST,
-        slot: 0,
-        promised: THIRD,
-    };
-    prepares(rt, acceptor, FIRST, 0, Ok(refused));
-}
-
-/// An Accept in the third ballot is answered.
-fn accepts_again<D: Disk>(rt: &impl Abort, acceptor: &mut Acceptor<D>) {
-    holds!(rt; accept(acceptor, THIRD, 0, CALL).is_ok());
-}
-
-/// Whether a call is accepted in the third ballot; where a call of the disk fails, that is counted, and a ballot below is
-/// refused.
-fn accepts_call<D: Disk>(rt: &impl Abort, acceptor: &mut Acceptor<D>, faults: &mut u32) -> bool {
-    match accept(acceptor, THIRD, 0, CALL) {
-        Ok(_) => true,
-        Err(fault) => {
-            count(rt, fault, faults);
-            refuses_below(rt, acceptor);
-            false
-        }
-    }
-}
-
-/// The acceptor after an accept in the third ballot, which is asked again where a call of the disk fails; until then a
-/// ballot below is refused.
-fn accepted_at_last(
-    rt: &impl Abort,
-    alloc: Global,
-    mut acceptor: Acceptor<OnceDisk>,
-    faults: &mut u32,
-) -> Acceptor<OnceDisk> {
-    if accepts_call(rt, &mut acceptor, faults) {
-        return acceptor;
-    }
-    let mut acceptor = opened_again(rt, alloc, acceptor);
-    accepts_again(rt, &mut acceptor);
-    acceptor
-}
-
-/// What is answered where another command is proposed in the third ballot, which is asked again where a call of the disk
-/// fails.
-fn answered_at_last(
-    rt: &impl Abort,
-    alloc: Global,
-    mut acceptor: Acceptor<OnceDisk>,
-    faults: &mut u32,
-) -> Result<AcceptAnswer, StoreFault> {
-    match accept(&mut acceptor, THIRD, 0, FOLD) {
-        Ok(answer) => Ok(answer),
-        Err(fault) => {
-            count(rt, fault, faults);
-            let mut acceptor = opened_again(rt, alloc, acceptor);
-            accept(&mut acceptor, THIRD, 0, FOLD)
-        }
-    }
-}
-
-/// The third ballot is promised, and what was accepted in it stays where another command is proposed.
-fn keeps_both(
-    rt: &impl Abort,
-    alloc: Global,
-    acceptor: Acceptor<OnceDisk>,
-    faults: &mut u32,
-) -> Result<(), StoreFault> {
-    assert_same(rt, promised(&acceptor), THIRD);
-    let accepted = AcceptAnswer::Accepted {
-        ballot: THIRD,
-        slot: 0,
-        command: CALL,
-    };
-    assert_same(rt, answered_at_last(rt, alloc, acceptor, faults)?, accepted);
-    Ok(())
-}
-
-/// The call of this number fails alone: how many did, none where there weren't so many.
-fn fails_once(rt: &impl Abort, alloc: Global, call: u64) -> Result<u32, StoreFault> {
-    let mut faults = 0;
-    let disk = OnceDisk::new(alloc, call);
-    holds!(rt; disk.bytes().is_empty());
-    let acceptor = created_at_last(rt, alloc, disk, &mut faults);
-    let acceptor = opened_at_last(rt, alloc, acceptor, &mut faults);
-    let acceptor = promised_at_last(rt, alloc, acceptor, &mut faults)?;
-    let acceptor = accepted_at_last(rt, alloc, acceptor, &mut faults);
-    let acceptor = opened_at_last(rt, alloc, acceptor, &mut faults);
-    keeps_both(rt, alloc, acceptor, &mut faults)?;
-    Ok(faults)
-}
-
-/// Each call of the disk fails alone, up to the first that isn't made, in create, open, a promise, an accept, the next open
-/// and the read of what was accepted; behind it the same is asked again, and answered. A create takes two calls, each
-/// append four, each open and that read at least one.
-#[test]
-fn each_call_fails_once(rt: HostRuntime) -> Result<(), Fail> {
-    let alloc = rt.alloc();
-    for call in 1..1_000u64 {
-        let faults = fails_once(&rt, alloc, call)?;
-        if faults == 0 {
-            holds!(&rt; call > 13);
-            return Ok(());
-        }
-        assert_same(&rt, faults, 1);
-    }
-    panic!(rt; "calls without end")
 }

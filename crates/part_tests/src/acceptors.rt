@@ -11,20 +11,12 @@ use slot_log::Command;
 use std::alloc::{AllocError, Global};
 use std::process::Abort;
 
-pub(crate) const THIRD: Ballot = Ballot { round: 2, node: 0 };
-
-/// The acceptor of node 0 of 3 with a new store.
-pub(crate) fn created<D: Disk>(rt: &impl Abort, alloc: Global, disk: D) -> Acceptor<D> {
-    Acceptor::new(journal::created(rt, alloc, disk))
-}
-
-/// The same on a disk in memory with these fuses, of which none burns in create.
+/// The acceptor of node 0 of 3 with a new store, on a disk in memory.
 pub(crate) fn created_in_memory(
     rt: &impl Abort,
     alloc: Global,
-    fuses: &[u64],
 ) -> Result<Acceptor<MemoryDisk>, AllocError> {
-    Ok(Acceptor::new(journal::created_in_memory(rt, alloc, fuses)?))
+    Ok(Acceptor::new(journal::created_in_memory(rt, alloc)?))
 }
 
 /// The same with the store that the disk has.
@@ -88,9 +80,4 @@ pub(crate) fn accepts<D: Disk>(
     requires command { IsInRange command }
 {
     assert_same(rt, accept(acceptor, ballot, slot, command), expected);
-}
-
-/// The ballot that the acceptor has promised.
-pub(crate) fn promised<D: Disk>(acceptor: &Acceptor<D>) -> Ballot {
-    acceptor.store().held().promised()
 }

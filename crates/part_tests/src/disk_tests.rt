@@ -1,12 +1,8 @@
 ghost use Rattle.std.specs.Prelude.{◌<◌};
 
-use crate::journal::{
-    JOURNAL, accept, created, created_in_memory, keeps_both, next, opened, opening, promise,
-    store_both,
-};
-use crate::samples::{assert_bytes, assert_same};
-use promise_store::{Disk, DiskFault, FileDisk, MemoryDisk};
-use std::alloc::{AllocError, Global};
+use crate::journal::next;
+use crate::samples::{assert_bytes, assert_same, holds};
+use promise_store::{Disk, DiskFault, FileDisk, MemoryDisk, OnceDisk};
 use std::fs;
 use std::fs::File;
 use std::process::Abort;
@@ -43,46 +39,8 @@ fn each_stop_takes_the_next_fuse(rt: HostRuntime) -> Result<(), Fail> {
     pass_and_stop(&rt, &mut disk, 1);
     pass(&rt, &mut disk, 9);
     assert_same(&rt, disk.failures(), 12);
-    Ok(())
-}
-
-/// The disk of a new store with a promise of the first ballot.
-fn disk_with_a_promise(rt: &impl Abort, alloc: Global) -> Result<MemoryDisk, Fail> {
-    let mut store = created_in_memory(rt, alloc, &[])?;
-    promise(&mut store)?;
-    Ok(store.into_disk())
-}
-
-/// A write that no memory can serve fails, and leaves the bytes.
-fn refuses_to_grow(
-    rt: &impl Abort,
-    alloc: Global,
-    disk: &mut MemoryDisk,
-) -> Result<(), AllocError> {
-    let before = disk.bytes().to_vec(alloc)?;
-    assert_same(rt, disk.write_at(usize::MAX / 2 + 1, &[1]), Err(DiskFault));
-    assert_bytes(rt, disk.bytes(), before.as_slice());
-    Ok(())
-}
-
-/// The disk once its store was opened, which is open, and accepted the deal.
-fn accepted_on(rt: &impl Abort, alloc: Global, disk: MemoryDisk) -> Result<MemoryDisk, Fail> {
-    let mut store = opened(rt, alloc, disk);
-    assert!(rt; !store.is_closed());
-    accept(rt, &mut store)?;
-    Ok(store.into_disk())
-}
-
-/// A growth that no memory can serve is a failure of the disk in memory, which goes on afterwards.
-#[test]
-fn a_refused_growth_is_a_failure(rt: HostRuntime) -> Result<(), Fail> {
-    let alloc = rt.alloc();
-    let mut disk = disk_with_a_promise(&rt, alloc)?;
-    refuses_to_grow(&rt, alloc, &mut disk)?;
-    assert_same(&rt, disk.failures(), 1);
-    let disk = accepted_on(&rt, alloc, disk)?;
-    assert_bytes(&rt, disk.bytes(), JOURNAL.as_slice());
-    assert_same(&rt, disk.failures(), 1);
+    let once = OnceDisk::new(rt.alloc(), 0);
+    holds!(&rt; once.bytes().is_empty());
     Ok(())
 }
 
@@ -97,23 +55,6 @@ fn new_file<R: Files<File = File>>(rt: &R, path: &str) -> Result<File, Fail> {
     Ok(file)
 }
 
-/// The file at the path, cut to so many bytes.
-fn cut_file<R: Files<File = File>>(rt: &R, path: &str, len: u64) -> Result<File, Fail> {
-    let file = File::options().read(true).write(true).open(rt, path)?;
-    file.set_len(len)?;
-    Ok(file)
-}
-
-/// The disk of a new store with a promise and an accept, on a new file.
-fn file_with_both<R: Abort + AllocGlobal + Files<File = File>>(
-    rt: &R,
-    path: &str,
-) -> Result<FileDisk, Fail> {
-    let mut store = created(rt, rt.alloc(), FileDisk::new(new_file(rt, path)?));
-    store_both(rt, &mut store)?;
-    Ok(store.into_disk())
-}
-
 /// The file has these bytes.
 fn file_has<R: Abort + AllocGlobal + Files<File = File>>(
     rt: &R,
@@ -121,56 +62,6 @@ fn file_has<R: Abort + AllocGlobal + Files<File = File>>(
     bytes: &[u8],
 ) -> Result<(), Fail> {
     assert_bytes(rt, fs::read(rt, path)?.as_slice(), bytes);
-    Ok(())
-}
-
-/// A file cut to so many bytes is answered so.
-fn assert_answer(rt: &impl Abort, code: u8, expected: u8, len: u64) {
-    assert_eq!(rt; code, expected, "{len} bytes");
-}
-
-/// Cut to so many bytes the file is refused with this number.
-fn is_refused_at<R: Abort + AllocGlobal + Files<File = File>>(
-    rt: &R,
-    path: &str,
-    len: u64,
-    expected: u8,
-) -> Result<(), Fail> {
-    let code = opening(rt.alloc(), FileDisk::new(cut_file(rt, path, len)?));
-    assert_answer(rt, code, expected, len);
-    Ok(())
-}
-
-/// The file of a journal of two records is refused where it is cut short.
-fn is_refused_at_each_byte<R: Abort + AllocGlobal + Files<File = File>>(
-    rt: &R,
-    path: &str,
-) -> Result<(), Fail> {
-    for cut in 0..38u64 {
-        is_refused_at(rt, path, 46 - cut, 62)?;
-    }
-    for cut in 0..8u64 {
-        is_refused_at(rt, path, 8 - cut, 61)?;
-    }
-    is_refused_at(rt, path, 0, 60)
-}
-
-/// Both are stored in a new file at the path, and found there.
-fn stores_both_in_file<R: Abort + AllocGlobal + Files<File = File>>(
-    rt: &R,
-    path: &str,
-) -> Result<(), Fail> {
-    let disk = file_with_both(rt, path)?;
-    keeps_both(rt, rt.alloc(), disk)?;
-    file_has(rt, path, JOURNAL.as_slice())
-}
-
-#[test]
-fn a_file_is_opened_cut_short_at_each_byte(rt: HostRuntime) -> Result<(), Fail> {
-    let path = "cut.journal";
-    stores_both_in_file(&rt, path)?;
-    is_refused_at_each_byte(&rt, path)?;
-    fs::remove_file(&rt, path)?;
     Ok(())
 }
 

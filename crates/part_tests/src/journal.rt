@@ -1,12 +1,12 @@
 //! A store of node 0 of 3, and the bytes of its journal: what the tests of acceptors, stores and disks call and compare.
 
-ghost use Rattle.std.specs.Prelude.{◌≡◌, ◌+◌, ◌<◌, ◌≤◌, ◌^◌, length};
+ghost use Rattle.std.specs.Prelude.{◌≡◌, ◌≤◌, length};
 ghost use Rattle.std.specs.List.{AllByRecursion};
-ghost use Rattle.paxos_wire.specs.Fits.{IsBallot, IsCommandRun, IsInRange};
+ghost use Rattle.paxos_wire.specs.Fits.{IsInRange};
 
-use crate::samples::{assert_same, holds};
+use crate::samples::holds;
 use paxos_wire::{Ballot, CommandList, read_command, read_commands};
-use promise_store::{Call, Disk, MemoryDisk, Placed, Store, StoreFault};
+use promise_store::{Call, Disk, MemoryDisk, Store, StoreFault};
 use slot_log::Command;
 use std::alloc::{AllocError, Global};
 use std::process::Abort;
@@ -31,7 +31,7 @@ pub(crate) const OLD_JOURNAL: [u8; 46] = [
     0, 0, 0, 0x01, 0, 0, 0, 0, 0x09, 0x21, 0x33, 0x1a, 0x20, 0x00, 0x18, 0x06, 0x1c, 0x2e, 0,
 ];
 
-pub(crate) fn deal(rt: &impl Abort) -> Command
+fn deal(rt: &impl Abort) -> Command
     ensures { IsInRange result }
 {
     match read_command(&DEAL) {
@@ -88,13 +88,12 @@ pub(crate) fn opened<D: Disk>(rt: &impl Abort, alloc: Global, disk: D) -> Store<
     }
 }
 
-/// A new store on a disk in memory with these fuses, of which none burns in create.
+/// A new store on a disk in memory.
 pub(crate) fn created_in_memory(
     rt: &impl Abort,
     alloc: Global,
-    fuses: &[u64],
 ) -> Result<Store<MemoryDisk>, AllocError> {
-    Ok(created(rt, alloc, MemoryDisk::new(alloc, fuses)?))
+    Ok(created(rt, alloc, MemoryDisk::new(alloc, &[])?))
 }
 
 /// Stores the promise of the first ballot.
@@ -103,21 +102,8 @@ pub(crate) fn promise<D: Disk>(store: &mut Store<D>) -> Result<(), StoreFault> {
 }
 
 /// Stores that the deal was accepted in the first ballot at slot 0.
-pub(crate) fn accept<D: Disk>(rt: &impl Abort, store: &mut Store<D>) -> Result<(), StoreFault> {
+fn accept<D: Disk>(rt: &impl Abort, store: &mut Store<D>) -> Result<(), StoreFault> {
     store.accept(FIRST, 0, &deal(rt))
-}
-
-/// Stores that commands were accepted in a ballot, one at each slot from this one on.
-pub(crate) fn accept_run<D: Disk>(
-    store: &mut Store<D>,
-    ballot: Ballot,
-    slot: u32,
-    commands: &[Command],
-) -> Result<(), StoreFault>
-    requires ballot { IsBallot ballot }
-    requires run { IsCommandRun slot commands.now }
-{
-    store.accept_run(ballot, slot, commands)
 }
 
 /// Stores both, the promise and the accept.
@@ -127,46 +113,11 @@ pub(crate) fn store_both<D: Disk>(rt: &impl Abort, store: &mut Store<D>) -> Resu
 }
 
 /// What was accepted at a slot.
-pub(crate) fn entry<D: Disk>(
+fn entry<D: Disk>(
     store: &mut Store<D>,
     slot: u32,
 ) -> Result<Option<(Ballot, Command)>, StoreFault> {
     store.entry(slot)
-}
-
-/// In the ballot these commands were accepted, one at each slot from this one on.
-pub(crate) fn are_found<D: Disk>(
-    rt: &impl Abort,
-    store: &mut Store<D>,
-    ballot: Ballot,
-    slot: u32,
-    commands: &[Command],
-) -> Result<(), Fail>
-    requires { slot + length commands.now < 2 ^ 32 }
-{
-    for place in 0..commands.len() {
-        let found = entry(store, slot + place as u32)?;
-        holds!(rt; found == Some((ballot, commands[place])));
-    }
-    Ok(())
-}
-
-/// Where what was accepted at a slot stands, the journal's place, the length and the place inside of its record.
-pub(crate) fn is_placed<D: Disk>(
-    rt: &impl Abort,
-    store: &Store<D>,
-    slot: u32,
-    ballot: Ballot,
-    (place, length, inside): (usize, u16, u16),
-) {
-    let placed = Placed {
-        place,
-        ballot,
-        slot,
-        length,
-        inside,
-    };
-    assert_same(rt, store.held().find(slot), Some(placed));
 }
 
 /// What a call of a disk wrote: where, which bytes, and whether all of it; nothing of a sync.
@@ -178,22 +129,8 @@ pub(crate) fn written<'a>(rt: &impl Abort, call: &'a Call) -> Option<(usize, &'a
     }
 }
 
-/// How many calls of the disk were to write, and how many syncs succeeded.
-pub(crate) fn written_and_synced(disk: &MemoryDisk) -> (usize, usize) {
-    let mut written = 0usize;
-    let mut synced = 0usize;
-    for call in disk.calls() {
-        match call {
-            Call::Wrote { .. } => written = written.saturating_add(1),
-            Call::Synced => synced = synced.saturating_add(1),
-            Call::Stopped { .. } => {}
-        }
-    }
-    (written, synced)
-}
-
 /// Whether the store has promised the first ballot, and has the deal accepted in it at slot 0.
-pub(crate) fn has_both<D: Disk>(rt: &impl Abort, store: &mut Store<D>) -> Result<bool, Fail> {
+fn has_both<D: Disk>(rt: &impl Abort, store: &mut Store<D>) -> Result<bool, Fail> {
     let found = entry(store, 0)?;
     Ok(store.held().promised() == FIRST && found == Some((FIRST, deal(rt))))
 }
@@ -207,14 +144,6 @@ pub(crate) fn keeps_both<D: Disk + Drop>(
     let mut store = opened(rt, alloc, disk);
     holds!(rt; has_both(rt, &mut store)?);
     Ok(())
-}
-
-/// What opening a disk as node 0 of 3 answers: the fault's number, or 0.
-pub(crate) fn opening<D: Disk + Drop>(alloc: Global, disk: D) -> u8 {
-    match open(alloc, disk) {
-        Ok(_) => 0,
-        Err((_, fault)) => fault.code(),
-    }
 }
 
 /// A next number of the generator of Lehmer (multiplier 48271 modulo 2^31 - 1).

@@ -75,26 +75,6 @@ fn answer_in_room(
     }
 }
 
-/// What is answered, in room that is made before or not.
-fn answer_to(
-    rt: &impl Abort,
-    learner: &mut Learner,
-    nodes: u8,
-    said: Said,
-    slot: u32,
-    command: Command,
-    in_room: bool,
-) -> Result<Answer, AllocError>
-    requires { learner.old.learned.nodes ≡ nodes }
-    ensures { learner.new.learned.nodes ≡ nodes }
-{
-    if in_room {
-        answer_in_room(rt, learner, nodes, said, slot, command)
-    } else {
-        answer(rt, learner, nodes, said, slot, command)
-    }
-}
-
 /// Sees whether an answer tells the act as chosen at the slot, or why it is refused.
 fn is_answer(
     rt: &impl Abort,
@@ -115,18 +95,12 @@ fn is_answer(
 }
 
 /// Sees what is answered to a call, and the front then.
-fn answers(
-    rt: &impl Abort,
-    learner: &mut Learner,
-    nodes: u8,
-    call: Call,
-    in_room: bool,
-) -> Result<(), AllocError>
+fn answers(rt: &impl Abort, learner: &mut Learner, nodes: u8, call: Call) -> Result<(), AllocError>
     requires { learner.old.learned.nodes ≡ nodes }
     ensures { learner.new.learned.nodes ≡ nodes }
 {
     let (said, slot, action, wanted, front) = call;
-    let found = answer_to(rt, learner, nodes, said, slot, act(action), in_room)?;
+    let found = answer(rt, learner, nodes, said, slot, act(action))?;
     is_answer(rt, &found, slot, action, wanted);
     assert_same(rt, learner.log().front(), front);
     Ok(())
@@ -138,47 +112,24 @@ fn answers_all(
     learner: &mut Learner,
     nodes: u8,
     calls: &[Call],
-    in_room: bool,
 ) -> Result<(), AllocError>
     requires { learner.old.learned.nodes ≡ nodes }
 {
     for at in 0..calls.len() {
-        answers(rt, learner, nodes, calls[at], in_room)?;
+        answers(rt, learner, nodes, calls[at])?;
     }
     Ok(())
 }
 
-/// Sees what a learner of so many nodes answers to calls, and the act that it knows at a slot then; none where nothing is.
-fn learns(
-    rt: &impl Abort,
-    alloc: Global,
-    nodes: u8,
-    calls: &[Call],
-    known: (u32, Option<Action>),
-) -> Result<(), AllocError> {
+/// Sees what a learner of so many nodes answers to calls.
+fn learns(rt: &impl Abort, alloc: Global, nodes: u8, calls: &[Call]) -> Result<(), AllocError> {
     assert!(rt; nodes <= NODES);
     let mut learner = Learner::new(alloc, nodes)?;
-    answers_all(rt, &mut learner, nodes, calls, false)?;
-    knows(rt, &learner, known);
+    answers_all(rt, &mut learner, nodes, calls)?;
     Ok(())
-}
-
-/// Sees the act that is known at a slot; none where nothing is.
-fn knows(rt: &impl Abort, learner: &Learner, known: (u32, Option<Action>)) {
-    let (slot, action) = known;
-    match (learner.log().get(slot), action) {
-        (Some(command), Some(action)) => holds!(rt; *command == act(action)),
-        (found, _) => assert_same(rt, (found.is_some(), action.is_some()), (false, false)),
-    }
 }
 
 const FIRST: Ballot = Ballot { round: 1, node: 0 };
-
-const BESIDE: Ballot = Ballot { round: 1, node: 1 };
-
-const SECOND: Ballot = Ballot { round: 2, node: 0 };
-
-const THIRD: Ballot = Ballot { round: 2, node: 1 };
 
 const FOURTH: Ballot = Ballot { round: 4, node: 2 };
 
@@ -193,69 +144,7 @@ static ONE_NODE_THRICE: [Call; 4] = [
 /// One answer three times is of one node.
 #[test]
 fn nodes_are_counted(rt: HostRuntime) -> Result<(), Fail> {
-    learns(
-        &rt,
-        rt.alloc(),
-        3,
-        &ONE_NODE_THRICE,
-        (0, Some(Action::Call)),
-    )?;
-    Ok(())
-}
-
-/// The answers of five nodes, of two, two and one to a command at slot 0, and to a ballot at slot 1.
-static SPLITS: [Call; 10] = [
-    (Said::Accepted(0, FIRST), 0, Action::Call, Ok(false), 0),
-    (Said::Accepted(1, FIRST), 0, Action::Call, Ok(false), 0),
-    (Said::Accepted(2, FIRST), 0, Action::Fold, Ok(false), 0),
-    (Said::Accepted(3, FIRST), 0, Action::Fold, Ok(false), 0),
-    (Said::Accepted(4, FIRST), 0, Action::Raise(20), Ok(false), 0),
-    (Said::Accepted(0, FIRST), 1, Action::Call, Ok(false), 0),
-    (Said::Accepted(1, FIRST), 1, Action::Call, Ok(false), 0),
-    (Said::Accepted(2, SECOND), 1, Action::Call, Ok(false), 0),
-    (Said::Accepted(3, SECOND), 1, Action::Call, Ok(false), 0),
-    (Said::Accepted(4, THIRD), 1, Action::Call, Ok(false), 0),
-];
-
-/// Five nodes that split into two, two and one choose nothing, be it by commands or by ballots.
-#[test]
-fn splits_choose_nothing(rt: HostRuntime) -> Result<(), Fail> {
-    learns(&rt, rt.alloc(), 5, &SPLITS, (1, None))?;
-    Ok(())
-}
-
-/// The answers of seven nodes, of three, two and two to a command at slot 0, and to a ballot at slot 1; then the fourth to a
-/// ballot there, which completes a quorum, and a fifth.
-static SPLITS_OF_SEVEN: [Call; 16] = [
-    (Said::Accepted(0, FIRST), 0, Action::Call, Ok(false), 0),
-    (Said::Accepted(1, FIRST), 0, Action::Call, Ok(false), 0),
-    (Said::Accepted(2, FIRST), 0, Action::Call, Ok(false), 0),
-    (Said::Accepted(3, FIRST), 0, Action::Fold, Ok(false), 0),
-    (Said::Accepted(4, FIRST), 0, Action::Fold, Ok(false), 0),
-    (Said::Accepted(5, FIRST), 0, Action::Raise(20), Ok(false), 0),
-    (Said::Accepted(6, FIRST), 0, Action::Raise(20), Ok(false), 0),
-    (Said::Accepted(0, FIRST), 1, Action::Call, Ok(false), 0),
-    (Said::Accepted(1, FIRST), 1, Action::Call, Ok(false), 0),
-    (Said::Accepted(2, FIRST), 1, Action::Call, Ok(false), 0),
-    (Said::Accepted(3, SECOND), 1, Action::Call, Ok(false), 0),
-    (Said::Accepted(4, SECOND), 1, Action::Call, Ok(false), 0),
-    (Said::Accepted(5, THIRD), 1, Action::Call, Ok(false), 0),
-    (Said::Accepted(6, THIRD), 1, Action::Call, Ok(false), 0),
-    (Said::Accepted(6, FIRST), 1, Action::Call, Ok(true), 0),
-    (Said::Accepted(5, FIRST), 1, Action::Call, Ok(false), 0),
-];
-
-/// Seven nodes that split into three, two and two choose nothing; four of them are a quorum, once.
-#[test]
-fn four_of_seven_choose(rt: HostRuntime) -> Result<(), Fail> {
-    learns(&rt, rt.alloc(), 7, &SPLITS_OF_SEVEN[..14], (1, None))?;
-    learns(
-        &rt,
-        rt.alloc(),
-        7,
-        &SPLITS_OF_SEVEN,
-        (1, Some(Action::Call)),
-    )?;
+    learns(&rt, rt.alloc(), 3, &ONE_NODE_THRICE)?;
     Ok(())
 }
 
@@ -273,50 +162,16 @@ static WINDOW: [Call; 6] = [
 /// The cell of slot 0 is that of slot 64 once the front has passed it.
 #[test]
 fn the_window_moves(rt: HostRuntime) -> Result<(), Fail> {
-    learns(&rt, rt.alloc(), 3, &WINDOW, (64, Some(Action::Call)))?;
+    learns(&rt, rt.alloc(), 3, &WINDOW)?;
     Ok(())
 }
 
-/// The word of a command at slot 2, where another word is refused then, and the answer that would complete a quorum for
-/// another command, each time.
-static CONFLICTS: [Call; 5] = [
-    (Said::Chosen, 2, Action::Fold, Ok(false), 0),
-    (Said::Chosen, 2, Action::Call, Err(SlotFault::Conflict), 0),
-    (Said::Accepted(0, BESIDE), 2, Action::Call, Ok(false), 0),
-    (
-        Said::Accepted(1, BESIDE),
-        2,
-        Action::Call,
-        Err(SlotFault::Conflict),
-        0,
-    ),
-    (
-        Said::Accepted(1, BESIDE),
-        2,
-        Action::Call,
-        Err(SlotFault::Conflict),
-        0,
-    ),
-];
-
-/// Another command than the one that is known is refused, and nothing has changed.
-#[test]
-fn another_command_is_refused(rt: HostRuntime) -> Result<(), Fail> {
-    learns(&rt, rt.alloc(), 3, &CONFLICTS, (2, Some(Action::Fold)))?;
-    Ok(())
-}
-
-/// The answers of two of three nodes at slot 0, and the word of a command at slot 1: the front passes both.
-static IN_ROOM: [Call; 3] = [
-    (Said::Accepted(0, FIRST), 0, Action::Call, Ok(false), 0),
-    (Said::Accepted(2, FIRST), 0, Action::Call, Ok(true), 1),
-    (Said::Chosen, 1, Action::Fold, Ok(false), 2),
-];
-
-/// Where there is room, calls want no memory.
+/// Where there is room, a call wants no memory.
 #[test]
 fn calls_with_room(rt: HostRuntime) -> Result<(), Fail> {
     let mut learner = Learner::new(rt.alloc(), 3)?;
-    answers_all(&rt, &mut learner, 3, &IN_ROOM, true)?;
+    let said = Said::Accepted(0, FIRST);
+    let found = answer_in_room(&rt, &mut learner, 3, said, 0, act(Action::Call))?;
+    is_answer(&rt, &found, 0, Action::Call, Ok(false));
     Ok(())
 }

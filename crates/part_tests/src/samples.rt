@@ -1,9 +1,8 @@
-//! The commands that tests of several parts are about, and how values and the print of a fault are compared.
+//! The commands that tests of several parts are about, and how values are compared.
 
 use betting::Action;
 use slot_log::Command;
-use std::alloc::{AllocError, Global};
-use std::fmt::{Debug, Display};
+use std::fmt::Debug;
 use std::process::Abort;
 
 pub(crate) const CALL: Command = Command::Act {
@@ -39,11 +38,6 @@ pub(crate) fn assert_bytes(rt: &impl Abort, found: &[u8], expected: &[u8]) {
     assert_eq!(rt; found, expected);
 }
 
-/// The same of texts.
-pub(crate) fn assert_text(rt: &impl Abort, found: &str, expected: &str) {
-    assert_eq!(rt; found, expected);
-}
-
 /// Sees that a condition holds.
 pub(crate) fn assert_holds(rt: &impl Abort, asked: &str, holds: bool) {
     assert!(rt; holds, "{asked}");
@@ -57,15 +51,3 @@ macro_rules! holds {
 }
 
 pub(crate) use holds;
-
-/// A fault prints as this text.
-pub(crate) fn prints<F: Display>(
-    rt: &impl Abort,
-    alloc: Global,
-    fault: &F,
-    text: &str,
-) -> Result<(), AllocError> {
-    let printed = format!(in alloc; "{fault}")?;
-    assert_text(rt, printed.as_str(), text);
-    Ok(())
-}
