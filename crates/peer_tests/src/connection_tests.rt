@@ -5,10 +5,10 @@ ghost use Rattle.peer_codes.specs.Steps.{is_coded};
 
 use crate::samples::{ASK, BEAT, assert_bytes, called, caller, key, with_nonce};
 use crate::vectors::{
-    CALLED_FRAME, CALLED_HELLO, CALLED_PROOF, CALLER_HELLO, CALLER_PROOF, FIRST_FRAME, PLAIN_HELLO,
-    THEN_BEAT, THEN_FRAME,
+    CALLED_FRAME, CALLED_HELLO, CALLED_PROOF, CALLER_HELLO, CALLER_PROOF, FIRST_FRAME, THEN_BEAT,
+    THEN_FRAME,
 };
-use peer_codes::{Connection, Event, Frame, Hello, Hellos, Record, Role, record_bytes};
+use peer_codes::{Connection, Event, Frame, Hello};
 use std::alloc::{AllocError, Global};
 use std::process::Abort;
 use std::test::Fail;
@@ -249,20 +249,6 @@ fn a_changed_byte_is_a_fault(rt: HostRuntime) -> Result<(), Fail> {
     Ok(())
 }
 
-/// Wherever it is cut, a beginning of what was said is heard, and no fault.
-#[test]
-fn a_cut_is_waited_for(rt: HostRuntime) -> Result<(), Fail> {
-    let alloc = rt.alloc();
-    let whole = course(alloc)?;
-    for end in 0..whole.len() {
-        let mut side = Connection::listen(alloc, key());
-        side.take_piece(&whole.as_slice()[..end])?;
-        let heard = hear_all(&mut side, called());
-        assert_eq!(rt; heard, heard_of(end), "cut at {end}");
-    }
-    Ok(())
-}
-
 #[test]
 fn an_own_proof_that_comes_back_is_refused(rt: HostRuntime) -> Result<(), Fail> {
     let alloc = rt.alloc();
@@ -289,80 +275,6 @@ fn an_own_frame_that_comes_back_is_refused(rt: HostRuntime) -> Result<(), Fail> 
 }
 
 #[test]
-fn a_caller_that_proves_nothing_is_refused(rt: HostRuntime) -> Result<(), Fail> {
-    let alloc = rt.alloc();
-    let mut side = Connection::listen(alloc, key());
-    side.take_piece(&CALLER_HELLO)?;
-    side.take_piece(&FIRST_FRAME)?;
-    assert_heard(
-        &rt,
-        hear_all(&mut side, called()),
-        Heard {
-            fault: 126,
-            ..greeted()
-        },
-    );
-    // The fault is told again, and nothing is coded.
-    assert_heard(&rt, hear_all(&mut side, called()), closed_by(126));
-    put_ask(&rt, &mut side);
-    assert_eq!(rt; said(alloc, &mut side)?.len(), 114 + 37);
-    Ok(())
-}
-
-/// A caller without codes is refused, and the called's own Hello is said, once and without a proof.
-#[test]
-fn a_plain_caller_is_refused_and_answered(rt: HostRuntime) -> Result<(), Fail> {
-    let alloc = rt.alloc();
-    let mut side = Connection::listen(alloc, key());
-    side.take_piece(&PLAIN_HELLO)?;
-    assert_heard(&rt, hear_all(&mut side, called()), closed_by(122));
-    assert_bytes(&rt, said(alloc, &mut side)?.as_slice(), &[]);
-    side.answer(called());
-    assert_bytes(&rt, said(alloc, &mut side)?.as_slice(), &CALLED_HELLO);
-    side.answer(called());
-    assert_bytes(&rt, said(alloc, &mut side)?.as_slice(), &[]);
-    assert_heard(&rt, hear_all(&mut side, called()), closed_by(122));
-    Ok(())
-}
-
-#[test]
-fn a_called_without_codes_is_refused(rt: HostRuntime) -> Result<(), Fail> {
-    let alloc = rt.alloc();
-    let mut side = Connection::call(alloc, key(), caller());
-    side.take_piece(&PLAIN_HELLO)?;
-    assert_heard(&rt, hear_all(&mut side, caller()), closed_by(122));
-    side.answer(caller());
-    assert_bytes(&rt, said(alloc, &mut side)?.as_slice(), &CALLER_HELLO);
-    Ok(())
-}
-
-#[test]
-fn a_second_hello_is_refused(rt: HostRuntime) -> Result<(), Fail> {
-    let alloc = rt.alloc();
-    let mut side = open_caller(alloc)?;
-    side.take_piece(&CALLED_HELLO)?;
-    assert_heard(&rt, hear_all(&mut side, caller()), closed_by(126));
-    Ok(())
-}
-
-#[test]
-fn a_caller_with_a_wrong_proof_is_refused(rt: HostRuntime) -> Result<(), Fail> {
-    let alloc = rt.alloc();
-    let mut side = Connection::listen(alloc, key());
-    side.take_piece(&CALLER_HELLO)?;
-    side.take_piece(&CALLED_PROOF)?;
-    assert_heard(
-        &rt,
-        hear_all(&mut side, called()),
-        Heard {
-            fault: 124,
-            ..greeted()
-        },
-    );
-    Ok(())
-}
-
-#[test]
 fn a_proof_of_an_earlier_connection_is_refused(rt: HostRuntime) -> Result<(), Fail> {
     let alloc = rt.alloc();
     let again = with_nonce(called(), 50);
@@ -377,28 +289,5 @@ fn a_proof_of_an_earlier_connection_is_refused(rt: HostRuntime) -> Result<(), Fa
             ..greeted()
         },
     );
-    Ok(())
-}
-
-#[test]
-fn a_frame_of_an_earlier_connection_is_refused(rt: HostRuntime) -> Result<(), Fail> {
-    let alloc = rt.alloc();
-    let again = with_nonce(called(), 50);
-    let hellos = Hellos {
-        caller: caller(),
-        called: again,
-    };
-    let proof = record_bytes(&Record::Proof(hellos.proof(&key(), Role::Caller)));
-    let mut side = Connection::listen(alloc, key());
-    side.take_piece(&CALLER_HELLO)?;
-    side.take_piece(proof.as_slice())?;
-    side.take_piece(&FIRST_FRAME)?;
-    let expected = Heard {
-        hellos: 1,
-        proofs: 1,
-        fault: 125,
-        ..NOTHING
-    };
-    assert_heard(&rt, hear_all(&mut side, again), expected);
     Ok(())
 }

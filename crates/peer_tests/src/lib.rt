@@ -1,9 +1,9 @@
 //! Tests of the connections between nodes (`peer_codes`), by their public calls alone.
 //!
 //! - `code_tests`: codes as RFC 4231 has them.
-//! - `record_tests`: records, with and without codes, byte for byte as the second writing of `tests/peer_codes` has them.
-//! - `way_tests`: records of another way, and records that were changed or cut.
-//! - `connection_tests`: two sides that talk, and what is heard where something on the way is changed.
+//! - `record_tests`: records without codes, byte for byte as the second writing of `tests/peer_codes` has them.
+//! - `way_tests`: the longest record with a code, and one behind it, as that has them.
+//! - `connection_tests`: two sides that talk, as that has it, and what is heard where something on the way is changed.
 //!
 //! `samples` has the key, the Hellos, the frame and the beat of all of them, `vectors` the bytes.
 //!

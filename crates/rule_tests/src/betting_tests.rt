@@ -1,8 +1,7 @@
-use crate::asserting::{holds, prints, same};
+use crate::asserting::{holds, same};
 use crate::samples::{N3, game};
 use betting::{ActFault, Action, Play};
 use std::process::Abort;
-use std::test::Fail;
 
 /// Takes actions that are allowed.
 fn takes(rt: &impl Abort, play: &mut Play, actions: &[Action]) {
@@ -35,24 +34,4 @@ fn a_short_all_in_opens_the_betting_again(rt: HostRuntime) {
     takes(&rt, &mut play, &[Action::Call]);
     holds!(&rt; play.finished());
     same!(&rt; play.act(Action::Call), Err(ActFault::Finished));
-}
-
-/// Faults of actions, their numbers and what is printed of them.
-static PRINTED: [(ActFault, u8, &str); 7] = [
-    (ActFault::Finished, 20, "20 Finished"),
-    (ActFault::FoldNotFacing, 21, "21 FoldNotFacing"),
-    (ActFault::TooManyRaises, 22, "22 TooManyRaises"),
-    (ActFault::NobodyToCall, 23, "23 NobodyToCall"),
-    (ActFault::RaiseTooSmall(200), 24, "24 RaiseTooSmall 200"),
-    (ActFault::RaiseTooLarge(5000), 25, "25 RaiseTooLarge 5000"),
-    (ActFault::RoundFull, 26, "26 RoundFull"),
-];
-
-#[test]
-fn faults_print_their_number_name_and_amount(rt: HostRuntime) -> Result<(), Fail> {
-    for &(fault, code, text) in &PRINTED {
-        same!(&rt; fault.code(), code);
-        prints(&rt, rt.alloc(), &fault, text)?;
-    }
-    Ok(())
 }

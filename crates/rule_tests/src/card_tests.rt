@@ -1,8 +1,7 @@
-use crate::asserting::{holds, prints, same};
+use crate::asserting::{holds, same};
 use crate::samples::card;
-use card_core::{Card, Deal, DealFault, are_distinct};
+use card_core::{Card, Deal, are_distinct};
 use std::process::Abort;
-use std::test::Fail;
 
 /// `TdAs|8hTc/2c8c3h/9c/Kh`.
 fn heads_up(rt: &impl Abort) -> [Card; 9] {
@@ -17,36 +16,6 @@ fn heads_up(rt: &impl Abort) -> [Card; 9] {
         card(rt, b"9c"),
         card(rt, b"Kh"),
     ]
-}
-
-/// Cards by their letters, each with its number, its rank and its suit.
-static CARDS: [(&[u8; 2], u8, u8, u8); 4] = [
-    (b"2c", 0, 0, 0),
-    (b"3h", 6, 1, 2),
-    (b"Td", 33, 8, 1),
-    (b"As", 51, 12, 3),
-];
-
-/// Letters of no card.
-static NO_CARDS: [&[u8; 2]; 6] = [b"1c", b"tc", b"TC", b"cT", b"10", b"  "];
-
-/// Sees the card of two letters.
-fn is_card(rt: &impl Abort, text: &[u8; 2], number: u8, rank: u8, suit: u8) {
-    let card = card(rt, text);
-    same!(rt; card.number(), number);
-    same!(rt; card.rank(), rank);
-    same!(rt; card.suit(), suit);
-    same!(rt; card.text(), *text);
-}
-
-#[test]
-fn cards_have_the_protocols_letters(rt: HostRuntime) {
-    for &(text, number, rank, suit) in &CARDS {
-        is_card(&rt, text, number, rank, suit);
-    }
-    for &text in &NO_CARDS {
-        holds!(&rt; Card::from_text(*text).is_none());
-    }
 }
 
 /// The deal of cards for two players.
@@ -103,23 +72,4 @@ fn a_deal_lies_at_its_places(rt: HostRuntime) {
     lies_in_place(&rt, &deal, &cards);
     holds!(&rt; are_distinct(&cards));
     is_itself_alone(&rt, &deal, &turned(&rt, &cards));
-}
-
-/// The fault of cards that are no deal of two players.
-fn fault_of(rt: &impl Abort, cards: &[Card], case: &str) -> DealFault {
-    Deal::new(2, cards).expect_err(rt, case)
-}
-
-#[test]
-fn faults_print_their_number_and_name(rt: HostRuntime) -> Result<(), Fail> {
-    let mut cards = heads_up(&rt);
-    cards[8] = cards[0];
-    let repeated = fault_of(&rt, &cards, "a card twice");
-    let short = fault_of(&rt, &cards[..8], "eight cards");
-    same!(&rt; repeated, DealFault::Repeated);
-    same!(&rt; repeated.code(), 2);
-    prints(&rt, rt.alloc(), &repeated, "2 Repeated")?;
-    same!(&rt; short.code(), 1);
-    prints(&rt, rt.alloc(), &short, "1 WrongCount")?;
-    Ok(())
 }

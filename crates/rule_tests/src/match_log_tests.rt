@@ -1,6 +1,6 @@
 ghost use Rattle.std.specs.Prelude.{◌≡◌, ◌≤◌, length};
 
-use crate::asserting::{holds, prints, same};
+use crate::asserting::{holds, same};
 use crate::samples::{L2, L3, N2, N3, game};
 use betting::{Action, Play};
 use card_core::Deal;
@@ -257,103 +257,11 @@ fn whole_logs_are_right(rt: HostRuntime) -> Result<(), Fail> {
     Ok(())
 }
 
-/// Logs that are wrong, each with the first line at fault and its fault.
-static WRONG_LOGS: [(&[u8], usize, LogFaultKind); 7] = [
-    (
-        b"# name/game/hands m l2.game 1\nSTATE:0:f:TdAs|8hTc:5|-4:alice|bob\nSCORE:5|-5:alice|bob\n",
-        2,
-        LogFaultKind::WrongValues,
-    ),
-    (
-        b"# name/game/hands m l2.game 1\nSTATE:0:f:TdAs|8hTc:5|-5:alice|bob\nSCORE:5|-4:alice|bob\n",
-        3,
-        LogFaultKind::WrongScore,
-    ),
-    (
-        b"# name/game/hands m l2.game 1\nSTATE:0:f:TdAs|8hTd:5|-5:alice|bob\nSCORE:5|-5:alice|bob\n",
-        2,
-        LogFaultKind::BadState,
-    ),
-    (
-        b"# name/game/hands m l2.game 1\nSTATE:0:f:TdAs|8hTc/2c8c3h:5|-5:alice|bob\nSCORE:5|-5:alice|bob\n",
-        2,
-        LogFaultKind::BadState,
-    ),
-    (
-        b"# name/game/hands m l2.game 1\nSTATE:1:f:TdAs|8hTc:5|-5:alice|bob\nSCORE:5|-5:alice|bob\n",
-        2,
-        LogFaultKind::WrongNumber,
-    ),
-    (
-        b"# name/game/hands m l2.game 1\nSTATE:0:f:TdAs|8hTc:5|-5:alice|bob\n",
-        3,
-        LogFaultKind::WrongScore,
-    ),
-    (b"", 1, LogFaultKind::WrongScore),
-];
-
 #[test]
-fn the_first_line_at_fault_is_told(rt: HostRuntime) -> Result<(), Fail> {
-    let game = game(&rt, L2);
-    for &(log, line, kind) in &WRONG_LOGS {
-        is_told(&rt, log, &game, Err(LogFault { kind, line }));
-    }
+fn faults_have_their_numbers(rt: HostRuntime) {
     let fault = LogFault {
         kind: LogFaultKind::WrongValues,
         line: 2,
     };
     same!(&rt; fault.code(), 48);
-    prints(&rt, rt.alloc(), &fault, "48 WrongValues 2")?;
-    Ok(())
-}
-
-/// Texts, and whether they have two players' names.
-static TWO_NAMES: [(&[u8], bool); 6] = [
-    (b"alice|bob", true),
-    (b"alice", false),
-    (b"alice|alice", false),
-    (b"alice|bob|carol", false),
-    (b"alice|", false),
-    (b"alice|b b", false),
-];
-
-/// Texts, and whether they are a name.
-static NAMES: [(&[u8], bool); 4] = [
-    (b"a.B-c_9", true),
-    (b"", false),
-    (b"a b", false),
-    (&[b'x'; 33], false),
-];
-
-/// Texts, and whether they are a game's word.
-static WORDS: [(&[u8], bool); 6] = [
-    (b"!holdem.limit.2p.game~", true),
-    (&[b'x'; 200], true),
-    (&[b'x'; 201], false),
-    (b"", false),
-    (b"l2 game", false),
-    (b"l2\x7f", false),
-];
-
-/// Whether a text has two players' names.
-fn has_names(text: &[u8]) -> bool {
-    SeatNames::read(text, 2).is_some()
-}
-
-/// Whether a text is a name.
-fn has_name(text: &[u8]) -> bool {
-    Name::new(text).is_some()
-}
-
-#[test]
-fn names_and_words_are_short_and_plain(rt: HostRuntime) {
-    for &(text, are_names) in &TWO_NAMES {
-        same!(&rt; has_names(text), are_names);
-    }
-    for &(text, is_name) in &NAMES {
-        same!(&rt; has_name(text), is_name);
-    }
-    for &(text, is_word) in &WORDS {
-        same!(&rt; is_game_word(text), is_word);
-    }
 }

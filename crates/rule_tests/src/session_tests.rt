@@ -1,8 +1,7 @@
-use crate::asserting::{holds, same};
+use crate::asserting::same;
 use crate::samples::{L2, game, ten_ace};
 use betting::Action;
-use matchstate::LineFault;
-use seat_session::{Said, Session, SessionFault, line_feeds};
+use seat_session::{Said, Session, SessionFault};
 use slot_log::{Command, Table};
 use std::alloc::{AllocError, Global};
 use std::process::Abort;
@@ -27,9 +26,9 @@ fn feed(session: &mut Session, piece: &[u8]) -> Result<(), AllocError> {
 }
 
 /// Sees that a session answers this.
-fn answers(rt: &impl Abort, session: &mut Session, table: &Table, wanted: Option<Answer>) {
+fn answers(rt: &impl Abort, session: &mut Session, table: &Table, wanted: Answer) {
     assert!(rt; session.seat() < table.game().players());
-    same!(rt; session.next(table), wanted);
+    same!(rt; session.next(table), Some(wanted));
 }
 
 /// What is answered: that the seat is ready, a call with its index, or a fault.
@@ -76,7 +75,7 @@ fn is_answered(
     let mut session = Session::new(alloc, seat);
     feed(&mut session, bytes)?;
     for wanted in answered {
-        answers(rt, &mut session, table, Some(answer_of(*wanted)));
+        answers(rt, &mut session, table, answer_of(*wanted));
     }
     Ok(())
 }
@@ -118,89 +117,6 @@ static ACTS: [Speech; 3] = [
 
 #[test]
 fn acts(rt: HostRuntime) -> Result<(), Fail> {
+    same!(&rt; SessionFault::LineTooLong.code(), 81);
     Ok(are_answered(&rt, rt.alloc(), &ACTS)?)
-}
-
-/// Gives a session a comment of 4096 bytes into room that is made for it.
-fn feed_comment(session: &mut Session) -> Result<(), AllocError> {
-    session.reserve(4097)?;
-    session.feed_reserved(b"#");
-    session.feed_reserved(&[b'x'; 4095]);
-    Ok(())
-}
-
-/// Sees that a session skips the comment, and is ready behind it.
-fn skips_comment(rt: &impl Abort, session: &mut Session, table: &Table) -> Result<(), AllocError> {
-    feed_comment(session)?;
-    answers(rt, session, table, None);
-    feed(session, b"\nVERSION:2.0.0\n")?;
-    answers(rt, session, table, Some(Ok(Said::Ready)));
-    Ok(())
-}
-
-/// Sees that a session that gets these bytes is closed by a fault, and answers it to what comes behind, too.
-fn is_closed_by(
-    rt: &impl Abort,
-    session: &mut Session,
-    table: &Table,
-    bytes: &[u8],
-    fault: SessionFault,
-) -> Result<(), AllocError> {
-    feed(session, bytes)?;
-    answers(rt, session, table, Some(Err(fault)));
-    holds!(rt; session.is_closed());
-    feed(session, b"\nVERSION:2.0.0\n")?;
-    answers(rt, session, table, Some(Err(fault)));
-    Ok(())
-}
-
-#[test]
-fn a_comment_of_4096_bytes_is_skipped_and_a_longer_one_closes(rt: HostRuntime) -> Result<(), Fail> {
-    let table = dealt(&rt, rt.alloc())?;
-    let mut session = Session::new(rt.alloc(), 1);
-    skips_comment(&rt, &mut session, &table)?;
-    let fault = SessionFault::LineTooLong;
-    same!(&rt; fault.code(), 81);
-    is_closed_by(&rt, &mut session, &table, &[b'#'; 4097], fault)?;
-    Ok(())
-}
-
-#[test]
-fn another_version_closes(rt: HostRuntime) -> Result<(), Fail> {
-    let table = dealt(&rt, rt.alloc())?;
-    let mut session = Session::new(rt.alloc(), 1);
-    let fault = SessionFault::BadVersion;
-    is_closed_by(&rt, &mut session, &table, b"VERSION:1.0.0\n", fault)?;
-    Ok(())
-}
-
-/// Sees how many line feeds wait, and what the session answers.
-fn answers_waiting(
-    rt: &impl Abort,
-    session: &mut Session,
-    table: &Table,
-    waiting: usize,
-    wanted: Option<Answer>,
-) {
-    same!(rt; session.line_feeds(), waiting);
-    answers(rt, session, table, wanted);
-}
-
-/// Sees that the version is answered, then the line behind a comment, and not the last one, which isn't whole.
-fn answers_in_turn(rt: &impl Abort, session: &mut Session, table: &Table) {
-    answers_waiting(rt, session, table, 3, Some(Ok(Said::Ready)));
-    let fault = SessionFault::Malformed(LineFault::NotMatchstate);
-    answers_waiting(rt, session, table, 2, Some(Err(fault)));
-    answers_waiting(rt, session, table, 0, None);
-}
-
-#[test]
-fn each_answer_takes_a_line_feed(rt: HostRuntime) -> Result<(), Fail> {
-    let piece = b"VERSION:2.0.0\r\n# one\nHELLO\nMATCH";
-    same!(&rt; line_feeds(piece), 3);
-    let table = dealt(&rt, rt.alloc())?;
-    let mut session = Session::new(rt.alloc(), 1);
-    feed(&mut session, piece)?;
-    answers_in_turn(&rt, &mut session, &table);
-    Ok(())
 }

@@ -2,7 +2,8 @@
 
 use crate::asserting::{holds, prints, same};
 use crate::slot_log_tests::act;
-use betting::Action;
+use betting::{ActFault, Action};
+use card_core::DealFault;
 use slot_log::{Command, SlotFault, SlotLog};
 use std::alloc::AllocError;
 use std::process::Abort;
@@ -103,47 +104,13 @@ fn slots_are_known_one_by_one(rt: HostRuntime) -> Result<(), Fail> {
     Ok(())
 }
 
-/// What is known where calls are at the slots 0 and 2.
-const TWO: [bool; 6] = [true, false, true, false, false, false];
-
-/// Acts at the slots 0 and 2, where the same can then be put again and nothing else, and at the slots from the last on.
-static AGAIN: [Put; 8] = [
-    (
-        0,
-        0,
-        Action::Call,
-        Ok(()),
-        1,
-        [true, false, false, false, false, false],
-    ),
-    (2, 2, Action::Call, Ok(()), 1, TWO),
-    (0, 0, Action::Call, Ok(()), 1, TWO),
-    (0, 0, Action::Fold, Err(SlotFault::Conflict), 1, TWO),
-    (2, 2, Action::Call, Ok(()), 1, TWO),
-    (2, 2, Action::Fold, Err(SlotFault::Conflict), 1, TWO),
-    (
-        4_000_000,
-        0,
-        Action::Call,
-        Err(SlotFault::SlotsSpent),
-        1,
-        TWO,
-    ),
-    (3_999_999, 0, Action::Call, Ok(()), 1, TWO),
-];
-
-#[test]
-fn what_is_known_stays(rt: HostRuntime) -> Result<(), Fail> {
-    let mut log = SlotLog::new(rt.alloc());
-    puts(&rt, &mut log, &AGAIN, false)?;
-    Ok(())
-}
-
+/// Those of the crates below, too.
 #[test]
 fn faults_print_their_number_and_name(rt: HostRuntime) -> Result<(), Fail> {
+    same!(&rt; DealFault::WrongCount.code(), 1);
+    prints(&rt, rt.alloc(), &DealFault::WrongCount, "1 WrongCount")?;
+    same!(&rt; ActFault::Finished.code(), 20);
     same!(&rt; SlotFault::Conflict.code(), 30);
     prints(&rt, rt.alloc(), &SlotFault::Conflict, "30 Conflict")?;
-    same!(&rt; SlotFault::SlotsSpent.code(), 31);
-    prints(&rt, rt.alloc(), &SlotFault::SlotsSpent, "31 SlotsSpent")?;
     Ok(())
 }
