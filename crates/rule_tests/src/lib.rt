@@ -1,8 +1,8 @@
 //! Tests of cards, games, lines, logs and frames, by the public calls of their crates alone: the walk through each crate's
 //! calls that its manual names, decks that came from outside, and each call that no program of this repository makes, once.
-//! A module a crate, from `card_core` to `play_script`, but for `slot_log`, which has two, and `paxos_wire`, whose frames,
-//! feeds and records have one each; `samples` has the games and cards that they share, `frames` the frames, and `asserting`
-//! the assertions.
+//! A module a crate, from `card_core` to `dealer_kind` and `play_script`, but for `slot_log`, which has two, and
+//! `paxos_wire`, whose frames, feeds and records have one each; `samples` has the games and cards that they share, `frames`
+//! the frames, and `asserting` the assertions.
 //!
 //! What else is asked of these calls a clause says, and the programs make them in the rows and scripts of `tests/`.
 //! Match files are tested so too, by rows of `tests/inputs` and by `tests/init_node`.
@@ -28,6 +28,8 @@ mod feed_tests;
 mod frames;
 #[cfg(test)]
 mod game_def_tests;
+#[cfg(test)]
+mod kind_tests;
 #[cfg(test)]
 mod line_tests;
 #[cfg(test)]
