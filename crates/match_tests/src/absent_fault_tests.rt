@@ -1,14 +1,12 @@
-//! The match where seats were dropped and are played for, in which a call of a link or of a disk fails. After each turn it
-//! is asserted who is played for, and whom the links turn away.
+//! The match where seats were dropped and are played for, in which a call of a link fails. After each turn it is asserted who
+//! is played for, and whom the links turn away.
 
 use crate::course::{
     Answer, Course, Ending, TURNS, assert_places, bots_everywhere, course_after, disks, ending_by,
-    lost_bots, no_outages, outage, outages_before_the_leader, server_that, turn,
+    lost_bots, no_outages, outage, server_that, turn,
 };
 use crate::samples::assert_same;
-use crate::server_tests::{
-    Failing, assert_ended, assert_mended, assert_over, each_link_fails, failed_in, fails_in_turn,
-};
+use crate::server_tests::{assert_ended, assert_mended, each_link_fails};
 use dealer_node::NodeFault;
 use match_file::Absent;
 use match_links::{MemoryLinks, Reached};
@@ -72,16 +70,14 @@ fn watched_course(
     course_after(alloc, server, ending)
 }
 
-/// A match whose seats are played for once they were dropped; a call of a node's disk, or of a link, fails. None where no
-/// server could be made.
+/// A match whose seats are played for once they were dropped; a call of a link fails. None where no server could be made.
 fn played_for(
     rt: &impl Abort,
     alloc: Global,
-    failing: (usize, u64),
     links: MemoryLinks,
     outages: Outages,
 ) -> Result<Option<Course>, AllocError> {
-    let disks = disks(alloc, failing.0, failing.1)?;
+    let disks = disks(alloc, 0, 0)?;
     match server_that(rt, alloc, disks, links, outages, Absent::Play)? {
         None => Ok(None),
         Some(mut server) => Ok(Some(watched_course(rt, alloc, &mut server)?)),
@@ -97,7 +93,7 @@ fn fails_at(
     links: MemoryLinks,
 ) -> Result<Option<Reached>, AllocError> {
     let outages = outage(alloc, 1, 1, Some(2))?;
-    match played_for(rt, alloc, (0, 0), links, outages)? {
+    match played_for(rt, alloc, links, outages)? {
         // (the only fault of a new server, by its contract)
         None => Ok(Some(Reached::Log)),
         Some(course) => Ok(assert_ended(rt, &course, call)),
@@ -115,72 +111,13 @@ fn each_call_of_a_link_fails_where_seats_are_played_for(rt: HostRuntime) -> Resu
     Ok(())
 }
 
-/// The same where both bots are lost, and all is played for.
-#[test]
-fn each_call_of_a_link_fails_where_both_bots_are_lost(rt: HostRuntime) -> Result<(), Fail> {
-    let alloc = rt.alloc();
-    each_link_fails(
-        &rt,
-        |call| fails_at(&rt, alloc, call, lost_bots(alloc, call)?),
-    )?;
-    Ok(())
-}
-
-/// A match of two bots that are lost, in which this call of a node's disk fails.
-fn fails_once(
-    rt: &impl Abort,
-    alloc: Global,
-    node: usize,
-    call: u64,
-) -> Result<Failing, AllocError> {
-    let links = lost_bots(alloc, 0)?;
-    match played_for(rt, alloc, (node, call), links, no_outages(alloc))? {
-        None => Ok(Failing::Before),
-        Some(course) => {
-            assert_mended(rt, &course, call);
-            Ok(failed_in(&course))
-        }
-    }
-}
-
-/// A node whose disk fails once is stopped and started, and the match goes on.
-#[test]
-fn each_call_of_a_disk_fails_where_both_bots_are_lost(rt: HostRuntime) -> Result<(), Fail> {
-    let alloc = rt.alloc();
-    for node in 0..3 {
-        fails_in_turn(&rt, |call| fails_once(&rt, alloc, node, call))?;
-    }
-    Ok(())
-}
-
-/// A match of two bots that are lost, in which orders are given to the leader, and this call of its disk fails.
-fn leader_fails_once(rt: &impl Abort, alloc: Global, call: u64) -> Result<Failing, AllocError> {
-    let links = lost_bots(alloc, 0)?;
-    let outages = outages_before_the_leader(alloc)?;
-    match played_for(rt, alloc, (0, call), links, outages)? {
-        None => Ok(Failing::Before),
-        Some(course) => {
-            assert_over(rt, &course, call);
-            Ok(failed_in(&course))
-        }
-    }
-}
-
-/// The leader's disk fails once: in an order too, which is an append there.
-#[test]
-fn each_call_of_a_leaders_disk_fails_where_it_is_ordered(rt: HostRuntime) -> Result<(), Fail> {
-    let alloc = rt.alloc();
-    fails_in_turn(&rt, |call| leader_fails_once(&rt, alloc, call))?;
-    Ok(())
-}
-
 /// Both bots are lost, and all is played for. `tests/serve_growths` runs this test and refuses it memory: an order that
 /// finds none is given again.
 #[test]
 fn a_match_is_played_for_to_its_end(rt: HostRuntime) -> Result<(), Fail> {
     let alloc = rt.alloc();
     let links = lost_bots(alloc, 0)?;
-    match played_for(&rt, alloc, (0, 0), links, no_outages(alloc))? {
+    match played_for(&rt, alloc, links, no_outages(alloc))? {
         None => Err(Fail::from(NodeFault::OutOfMemory)),
         Some(course) => {
             assert_mended(&rt, &course, 0);

@@ -243,24 +243,6 @@ pub(crate) fn outage(
     Ok(Outages::new(listed))
 }
 
-/// Node 0 is out before the first command, and node 1 from that to the second: so node 0 leads while the seats are at node
-/// 2, behind which it is the next.
-pub(crate) fn outages_before_the_leader(alloc: Global) -> Result<Outages, AllocError> {
-    let first = Outage {
-        node: 0,
-        at: 0,
-        back: Some(1),
-    };
-    let second = Outage {
-        node: 1,
-        at: 1,
-        back: Some(2),
-    };
-    let mut listed = vec![in alloc; first]?;
-    listed.push(second)?;
-    Ok(Outages::new(listed))
-}
-
 /// Both seats' bots call each node: they send all their lines, of which those that are old are refused.
 fn call_each(links: &mut MemoryLinks) -> Result<(), AllocError> {
     for node in 0..3 {
@@ -298,15 +280,10 @@ pub(crate) fn lost_bots(alloc: Global, call: u64) -> Result<MemoryLinks, AllocEr
 
 /// Asserts that three logs, one behind the other, are each the whole log of the match where each folds.
 pub(crate) fn assert_whole(rt: &impl Abort, logs: &[u8]) {
-    assert_each(rt, logs, LOG);
-}
-
-/// Asserts that three logs, one behind the other, are each this one, which isn't empty.
-pub(crate) fn assert_each(rt: &impl Abort, logs: &[u8], due: &[u8]) {
-    let each = due.len();
-    assert!(rt; each > 0 && each < 10_000 && logs.len() == 3 * each);
+    let each = LOG.len();
+    assert!(rt; logs.len() == 3 * each);
     for log in logs.chunks(each) {
-        assert_bytes(rt, log, due);
+        assert_bytes(rt, log, LOG);
     }
 }
 

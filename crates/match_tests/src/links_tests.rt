@@ -1,12 +1,11 @@
-//! Links over sockets, and the waits of links in memory: what no clause can say. Silent clients, ends within a line and who is
-//! turned away are told by `tests/waits`.
+//! Links over sockets: what no clause can say. Silent clients, answers that take longer than a wait, ends within a line and
+//! who is turned away are told by `tests/waits`.
 
 use crate::samples::{assert_bytes, holds};
 use match_links::limits::PIECE;
-use match_links::{LinkFault, Links, MemoryLinks, Reached, TcpLinks};
-use std::alloc::{AllocError, Global};
+use match_links::{LinkFault, Links, TcpLinks};
 use std::io::{Read, Write};
-use std::net::{Ipv4Addr, Shutdown, TcpStream};
+use std::net::{Ipv4Addr, TcpStream};
 use std::process::Abort;
 use std::test::Fail;
 use std::time::{Duration, Instant};
@@ -67,12 +66,6 @@ fn assert_piece(rt: &impl Abort, links: &mut impl Links, (node, seat): (u8, u8),
     assert_bytes(rt, buffer.get(..count).unwrap_or(b"none"), piece);
 }
 
-/// Asserts that no piece of a seat at a node comes.
-fn assert_slow(rt: &impl Abort, links: &mut impl Links, node: u8, seat: u8) {
-    let mut buffer = [0u8; PIECE];
-    holds!(rt; links.read(node, seat, &mut buffer) == Err(LinkFault::Slow));
-}
-
 /// Asserts that a client's connection has ended, and that it got nothing.
 fn assert_ended(rt: &impl Abort, client: &mut TcpStream) -> Result<(), Fail> {
     let mut buffer = [0u8; 1];
@@ -103,24 +96,6 @@ fn an_accept_may_be_slow(rt: HostRuntime) -> Result<(), Fail> {
     assert_nobody(&rt, &mut links, 0, 0);
     client.write_all(b"ION:2.0.0\r\n")?;
     assert_seated(&rt, &mut links, (0, 0), VERSION);
-    Ok(())
-}
-
-/// A piece that was waited for in vain is read when it is whole, with what came of it before.
-#[test]
-fn a_read_may_be_slow(rt: HostRuntime) -> Result<(), Fail> {
-    let mut links = links(&rt).expect(&rt, "free ports");
-    let mut client = call(&rt, &links, (0, 0), VERSION)?;
-    assert_seated(&rt, &mut links, (0, 0), VERSION);
-    assert_slow(&rt, &mut links, 0, 0);
-    client.write_all(b"MATCH")?;
-    assert_slow(&rt, &mut links, 0, 0);
-    client.write_all(b"STATE\r\nMA")?;
-    assert_piece(&rt, &mut links, (0, 0), b"MATCHSTATE\r\n");
-    assert_slow(&rt, &mut links, 0, 0);
-    client.shutdown(Shutdown::Write)?;
-    assert_piece(&rt, &mut links, (0, 0), b"MA");
-    assert_piece(&rt, &mut links, (0, 0), b"");
     Ok(())
 }
 
@@ -158,30 +133,5 @@ fn a_closed_port_lets_go_of_those_held(rt: HostRuntime) -> Result<(), Fail> {
     holds!(&rt; links.open(0) == Ok(()));
     let _client = call(&rt, &links, (0, 0), VERSION)?;
     assert_seated(&rt, &mut links, (0, 0), VERSION);
-    Ok(())
-}
-
-/// Links in memory whose call of this number is slow, and a seat that sends two lines.
-fn slow_links(alloc: Global, call: u64) -> Result<MemoryLinks, AllocError> {
-    let mut links = MemoryLinks::new(alloc, 1, 0)?;
-    links.call(0, 0, b"")?;
-    links.call(0, 0, b"one\ntwo\n")?;
-    links.slow_down(call);
-    Ok(links)
-}
-
-/// A call of links in memory that is slow takes nothing, and the same call may be made again.
-#[test]
-fn a_call_of_links_in_memory_may_be_slow(rt: HostRuntime) -> Result<(), Fail> {
-    let mut links = slow_links(rt.alloc(), 1)?;
-    assert_nobody(&rt, &mut links, 0, 0);
-    holds!(&rt; links.slowed() == Some(Reached::Seat));
-    assert_seated(&rt, &mut links, (0, 0), b"one\n");
-    let mut links = slow_links(rt.alloc(), 2)?;
-    holds!(&rt; links.accept(0, 0) == Ok(()));
-    assert_slow(&rt, &mut links, 0, 0);
-    assert_piece(&rt, &mut links, (0, 0), b"one\n");
-    assert_piece(&rt, &mut links, (0, 0), b"two\n");
-    holds!(&rt; links.failed().is_none());
     Ok(())
 }

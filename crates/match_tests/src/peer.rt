@@ -1,10 +1,7 @@
 //! A node of three in a match of one hand, over a disk in memory.
 
-ghost use Rattle.std.specs.Prelude.{◌≡◌};
-ghost use Rattle.dealer_node.specs.Seeing.{member_in};
-
-use crate::samples::{holds, one_hand};
-use dealer_node::{Node, NodeFault, Out, Reader};
+use crate::samples::one_hand;
+use dealer_node::{Node, NodeFault, Out};
 use promise_store::OnceDisk;
 use std::alloc::Global;
 use std::process::Abort;
@@ -14,9 +11,7 @@ use std::test::Fail;
 /// stands.
 #[derive(Drop)]
 pub(crate) struct Peer {
-    pub(crate) node: Node<OnceDisk>,
-    ghost nodes: { (member_in node).nodes ≡ 3 },
-    ghost players: { (member_in node).setting.game.players ≡ 2 },
+    node: Node<OnceDisk>,
 }
 
 impl Peer {
@@ -24,7 +19,6 @@ impl Peer {
     fn new(rt: &impl Abort, alloc: Global) -> Result<Peer, NodeFault> {
         let config = one_hand(rt, alloc, 3)?;
         assert!(rt; config.nodes() == 3);
-        assert!(rt; config.game().players() == 2);
         let node = Node::new(alloc, &config, 0, OnceDisk::new(alloc, 0))?;
         Ok(Peer { node })
     }
@@ -47,47 +41,8 @@ impl Peer {
         self.node.start(out)
     }
 
-    /// Gives the node a tick.
-    pub(crate) fn tick(&mut self, out: &mut Out) -> Result<(), NodeFault> {
-        self.node.on_tick(out)
-    }
-
     /// Orders at the node that the player to act is played for.
     pub(crate) fn away(&mut self, out: &mut Out) -> Result<(), NodeFault> {
         self.node.on_away(out)
     }
-
-    /// Gives the node the bytes of a frame of node 1.
-    pub(crate) fn hear_1(&mut self, bytes: &[u8], out: &mut Out) -> Result<(), NodeFault> {
-        self.node.on_frame(1, bytes, out)
-    }
-
-    /// Connects bob's seat, 1.
-    pub(crate) fn connect_bob(&mut self) -> Result<(), NodeFault> {
-        self.node.connect(1)
-    }
-
-    /// Drops bob's seat.
-    pub(crate) fn drop_bob(&mut self) -> Result<(), NodeFault> {
-        self.node.drop_seat(1)
-    }
-
-    /// Gives the node bytes of bob's seat.
-    pub(crate) fn hear_bob(&mut self, bytes: &[u8], out: &mut Out) -> Result<(), NodeFault> {
-        self.node.on_line(1, bytes, out)
-    }
-
-    /// Whether bob's seat is connected, and whether alice's is.
-    pub(crate) fn connected(&self) -> (bool, bool) {
-        (self.node.connected(1), self.node.connected(0))
-    }
-}
-
-/// Asserts that these texts were shown, each to its reader, and no others.
-pub(crate) fn assert_shown(rt: &impl Abort, out: &Out, due: &[(Reader, &[u8])]) {
-    let mut shown = out.shown();
-    for (reader, text) in due.iter() {
-        holds!(rt; shown.next() == Some((*reader, *text)));
-    }
-    holds!(rt; shown.next().is_none());
 }

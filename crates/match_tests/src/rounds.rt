@@ -13,32 +13,16 @@ use std::alloc::{AllocError, Global};
 use std::process::Abort;
 use std::test::Fail;
 
-/// What is done with a cluster. Nodes and frames are counted from 0.
-#[derive(Clone, Copy)]
-pub(crate) enum Step<'a> {
-    /// The node ticks.
-    Tick(u8),
-    /// The frame of this number is delivered.
-    Deliver(usize),
-    /// A round of a leader and others who together are a majority: its tick, then all Prepares, all Promises, all
-    /// Accepts and all Accepteds between it and the others.
-    Round(u8, &'a [u8]),
-    /// The node stops.
-    Stop(u8),
-    /// A new session of a seat begins at the node.
-    Connect(u8, u8),
-    /// The seat sends these bytes to the node.
-    Say(u8, u8, &'a [u8]),
-}
-
 /// A frame that is due: its number, which way it goes, its bytes, and how many had been sent before it came.
 pub(crate) type Due<'a> = (usize, (u8, u8), &'a [u8], usize);
 
-/// What is done with a new cluster, and what is due of it then.
+/// A round of a new cluster, and what is due of it then. Nodes and frames are counted from 0.
 pub(crate) struct Course<'a> {
     /// How many nodes it has.
     pub(crate) nodes: usize,
-    pub(crate) steps: &'a [Step<'a>],
+    /// A leader and others who together are a majority: its tick, then all Prepares, all Promises, all Accepts and all
+    /// Accepteds between it and the others.
+    pub(crate) round: (u8, &'a [u8]),
     /// Frames, by their numbers among all that were sent; none of them says what had been sent before.
     pub(crate) sent: &'a [Due<'a>],
     /// Frames, by their numbers among all that reached a running node.
@@ -93,16 +77,6 @@ pub(crate) fn give<D: Disk + Drop>(
     cluster.step(event)
 }
 
-/// Stops a node and starts it.
-pub(crate) fn start_again<D: Disk + Drop>(
-    rt: &impl Abort,
-    cluster: &mut Cluster<D>,
-    node: u8,
-) -> Result<(), NodeFault> {
-    give(rt, cluster, &Event::Stop { node, pick: 0 })?;
-    give(rt, cluster, &Event::Start { node })
-}
-
 /// The delivery of the frame of this number, counted from 0 in the order of sending.
 fn delivery<D: Disk + Drop>(
     rt: &impl Abort,
@@ -127,17 +101,6 @@ fn deliver<D: Disk + Drop>(
 ) -> Result<(), NodeFault> {
     let event = delivery(rt, alloc, cluster, number)?;
     give(rt, cluster, &event)
-}
-
-/// Brings a node bytes of a seat.
-fn say<D: Disk + Drop>(
-    rt: &impl Abort,
-    cluster: &mut Cluster<D>,
-    node: u8,
-    seat: u8,
-    bytes: Vec<u8>,
-) -> Result<(), NodeFault> {
-    give(rt, cluster, &Event::Line { node, seat, bytes })
 }
 
 /// The number of the newest frame of a kind from a node to another; none where there is none.
@@ -184,36 +147,6 @@ fn round<D: Disk + Drop>(
             };
             pass(rt, alloc, cluster, from, to, kind)?;
         }
-    }
-    Ok(())
-}
-
-/// Does a step.
-fn do_step<D: Disk + Drop>(
-    rt: &impl Abort,
-    alloc: Global,
-    cluster: &mut Cluster<D>,
-    step: Step<'_>,
-) -> Result<(), NodeFault> {
-    match step {
-        Step::Tick(node) => give(rt, cluster, &Event::Tick { node }),
-        Step::Deliver(number) => deliver(rt, alloc, cluster, number),
-        Step::Round(leader, others) => round(rt, alloc, cluster, leader, others),
-        Step::Stop(node) => give(rt, cluster, &Event::Stop { node, pick: 0 }),
-        Step::Connect(node, seat) => give(rt, cluster, &Event::Connect { node, seat }),
-        Step::Say(node, seat, bytes) => say(rt, cluster, node, seat, bytes.to_vec(alloc)?),
-    }
-}
-
-/// Does these steps, one after another; none of them is refused.
-fn do_steps<D: Disk + Drop>(
-    rt: &impl Abort,
-    alloc: Global,
-    cluster: &mut Cluster<D>,
-    steps: &[Step<'_>],
-) -> Result<(), NodeFault> {
-    for step in steps.iter() {
-        do_step(rt, alloc, cluster, *step)?;
     }
     Ok(())
 }
@@ -304,14 +237,15 @@ fn assert_logs<D: Disk + Drop>(
     assert_log(rt, alloc, cluster, 1, b"log: ")
 }
 
-/// Takes the steps of a course, and asserts what is due then.
-pub(crate) fn run<D: Disk + Drop>(
+/// Takes the round of a course, and asserts what is due then.
+fn run<D: Disk + Drop>(
     rt: &impl Abort,
     alloc: Global,
     cluster: &mut Cluster<D>,
     course: &Course<'_>,
 ) -> Result<(), NodeFault> {
-    do_steps(rt, alloc, cluster, course.steps)?;
+    let (leader, others) = course.round;
+    round(rt, alloc, cluster, leader, others)?;
     assert_due(rt, cluster, course);
     assert_logs(rt, alloc, cluster)?;
     Ok(())
@@ -326,17 +260,6 @@ pub(crate) fn cluster_over<D: Disk + Drop>(
     let config = one_hand(rt, alloc, disks.len())?;
     assert!(rt; disks.len() == config.nodes());
     Cluster::new(alloc, config, disks)
-}
-
-/// A cluster of the same match over the stores that these disks have.
-pub(crate) fn opened_over<D: Disk + Drop>(
-    rt: &impl Abort,
-    alloc: Global,
-    disks: Vec<D>,
-) -> Result<Cluster<D>, NodeFault> {
-    let config = one_hand(rt, alloc, disks.len())?;
-    assert!(rt; disks.len() == config.nodes());
-    Cluster::open(alloc, config, disks)
 }
 
 /// A course of a new cluster over these disks: what is due comes of it.

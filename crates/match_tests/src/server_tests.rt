@@ -6,7 +6,7 @@ use crate::lost_leader::assert_forward_lost;
 use crate::samples::{assert_bytes, assert_holds, assert_same, holds};
 use dealer_node::NodeFault;
 use match_links::{MemoryLinks, Reached};
-use promise_store::{MemoryDisk, OnceDisk, StoreFault};
+use promise_store::OnceDisk;
 use serving::{Outages, ServeFault, Server};
 use std::alloc::{AllocError, Global};
 use std::process::Abort;
@@ -161,7 +161,7 @@ fn a_match_outlives_a_node(rt: HostRuntime) -> Result<(), Fail> {
 }
 
 /// Asserts that the match is over and wholly logged.
-pub(crate) fn assert_over(rt: &impl Abort, course: &Course, call: u64) {
+fn assert_over(rt: &impl Abort, course: &Course, call: u64) {
     assert_holds(rt, call, matches!(course.ending, Ending::Over { .. }));
     assert_logged(rt, course, call);
 }
@@ -236,7 +236,7 @@ fn each_call_of_a_link_fails_in_turn(rt: HostRuntime) -> Result<(), Fail> {
 
 /// Where the call of a disk failed that was to.
 #[derive(Clone, Copy)]
-pub(crate) enum Failing {
+enum Failing {
     /// Before the match: no server could be made.
     Before,
     /// In the match.
@@ -246,7 +246,7 @@ pub(crate) enum Failing {
 }
 
 /// Where the call of a disk failed, of which this came.
-pub(crate) fn failed_in(course: &Course) -> Failing {
+fn failed_in(course: &Course) -> Failing {
     if course.failures == 0 {
         Failing::Nowhere
     } else {
@@ -300,7 +300,7 @@ fn goes_on(rt: &impl Abort, failing: Failing, within: &mut u32) -> bool {
 
 /// Each call of a disk fails in turn, up to the first that isn't made. Where the call of a number failed, in a match of its
 /// own, the closure says.
-pub(crate) fn fails_in_turn<F: Fn(u64) -> Result<Failing, AllocError>>(
+fn fails_in_turn<F: Fn(u64) -> Result<Failing, AllocError>>(
     rt: &impl Abort,
     fails_once: F,
 ) -> Result<(), AllocError>
@@ -331,61 +331,5 @@ fn each_call_of_a_disk_fails_in_turn(rt: HostRuntime) -> Result<(), Fail> {
 fn each_call_of_a_disk_fails_about_an_outage(rt: HostRuntime) -> Result<(), Fail> {
     let alloc = rt.alloc();
     fails_in_turn(&rt, |call| fails_about_an_outage(&rt, alloc, call))?;
-    Ok(())
-}
-
-/// Adds the disk of a node.
-fn add_disk(alloc: Global, disks: &mut Vec<MemoryDisk>, fuses: &[u64]) -> Result<(), AllocError> {
-    let disk = MemoryDisk::new(alloc, fuses)?;
-    disks.push(disk)?;
-    Ok(())
-}
-
-/// The disks of three nodes, of which that of node 0 fails from behind so many calls on.
-fn broken_disks(alloc: Global, calls: u64) -> Result<Vec<MemoryDisk>, AllocError> {
-    let mut disks = Vec::new(alloc);
-    add_disk(alloc, &mut disks, &[calls, 0])?;
-    add_disk(alloc, &mut disks, &[])?;
-    add_disk(alloc, &mut disks, &[])?;
-    Ok(disks)
-}
-
-/// The match over these disks.
-fn played_broken(rt: &impl Abort, alloc: Global, calls: u64) -> Result<Option<Course>, AllocError> {
-    let disks = broken_disks(alloc, calls)?;
-    let links = bots_everywhere(alloc, 0)?;
-    play(rt, alloc, disks, links, no_outages(alloc))
-}
-
-/// Asserts that a match was ended by a broken disk, or that no call of a disk failed in it: whether one did.
-fn assert_broken(rt: &impl Abort, course: &Course, calls: u64) -> bool {
-    let broken = ServeFault::Node(NodeFault::Store(StoreFault::Disk));
-    match course.ending {
-        Ending::Over { .. } => assert_holds(rt, calls, course.failures == 0),
-        Ending::Refused(_) | Ending::Never => assert_refused(rt, course, calls, broken),
-    }
-    course.failures > 0
-}
-
-/// A match over a disk of node 0 that fails from behind so many calls on: whether it did. Then its first fault has the
-/// node stopped and started, and the second ends the match.
-fn stays_broken(rt: &impl Abort, alloc: Global, calls: u64) -> Result<bool, AllocError> {
-    match played_broken(rt, alloc, calls)? {
-        None => Ok(true),
-        Some(course) => Ok(assert_broken(rt, &course, calls)),
-    }
-}
-
-/// A node whose disk fails for good ends the match, from whichever call on that is.
-#[test]
-fn a_disk_that_stays_broken_is_told(rt: HostRuntime) -> Result<(), Fail> {
-    let alloc = rt.alloc();
-    for calls in 0..200u64 {
-        if !stays_broken(&rt, alloc, calls)? {
-            holds!(&rt; calls >= 20);
-            return Ok(());
-        }
-    }
-    assert!(rt; false);
     Ok(())
 }

@@ -99,14 +99,6 @@ fn three_play_to_the_end(rt: HostRuntime) -> Result<(), Fail> {
 }
 
 #[test]
-fn five_play_to_the_end(rt: HostRuntime) -> Result<(), Fail> {
-    let mut world = World::new(&rt, rt.alloc(), 5, 2, [4, 2], b'f', (0, 0))?;
-    run(&rt, &mut world, 3_000)?;
-    assert_whole(&rt, &world);
-    Ok(())
-}
-
-#[test]
 fn processes_of_three_die_and_begin_again(rt: HostRuntime) -> Result<(), Fail> {
     for seed in 0..2 {
         let mut world = World::new(&rt, rt.alloc(), 3, 12, [0, 1], b'c', (0, 0))?;
@@ -122,25 +114,6 @@ fn processes_of_five_die_two_at_a_time(rt: HostRuntime) -> Result<(), Fail> {
     let mut world = World::new(&rt, rt.alloc(), 5, 6, [0, 3], b'c', (0, 0))?;
     let deaths = run_with_deaths(&rt, &mut world, 7, 8, 2)?;
     assert!(rt; deaths >= 4);
-    assert_alike(&rt, &world);
-    Ok(())
-}
-
-#[test]
-fn all_die_at_once(rt: HostRuntime) -> Result<(), Fail> {
-    let mut world = World::new(&rt, rt.alloc(), 3, 4, [0, 1], b'c', (0, 0))?;
-    for round in 0..3u32 {
-        for _ in 0..20_000u64 {
-            if world.front() >= 5 + round * 8 {
-                break;
-            }
-            world.step(&rt)?;
-        }
-        for node in 0..3 {
-            world.die(node, node as u64)?;
-        }
-    }
-    run(&rt, &mut world, 60_000)?;
     assert_alike(&rt, &world);
     Ok(())
 }
