@@ -35,7 +35,9 @@ RUN_TAKES, FEWEST, MOST = 2.0, 60, 1000
 COUNTS = (3, 5)
 # Of the runs with losses: how many processes are killed while no other lacks anything, in how many matches at most, how long
 # after the one before, and how long each is away.
-LOSSES, MATCHES, BETWEEN, AWAY = 200, 10, 0.25, 0.1
+LOSSES, MATCHES, BETWEEN, AWAY = 200, 60, 0.25, 0.1
+# How many hands such a match has at most: a process that comes back is told all of it, in some tenths of a second.
+OF_LOSSES = 2000
 # By how many bytes of its log a process may be behind the others and count as one that lacks nothing: a few hands.
 LEVEL = 1000
 # How many commands a process has missed that is begun again.
@@ -274,17 +276,17 @@ def losses(programs, nodes, place, most, chance):
     """One process after another of a match is killed, and begun again, until so many were alone in it at most. How long the next
     line of a log then waited, in milliseconds: of the losses that were alone, and of those that met others still behind."""
     rate = 5000 if str(place) == FAST else 1500
-    match, alone, together = Processes(nodes, min(10_000, int(most * (BETWEEN + AWAY + 0.1) * rate / OF_A_HAND)), place), [], []
+    hands = min(OF_LOSSES, max(FEWEST, int(most * (BETWEEN + AWAY + 0.1) * rate / OF_A_HAND)))
+    match, alone, together = Processes(nodes, hands, place), [], []
     try:
         for node in range(nodes):
             match.begin(node)
         players = Players(programs["players"], match)
         waited(lambda: match.log(0), "the first line of a log")
-        while len(alone) < most and all(process.poll() is None for process in match.running.values()):
+        # Near its end none is killed: whoever comes back behind it finds nobody who could tell it the match.
+        while len(alone) < most and max(match.log(node).count(b"\n") for node in range(nodes)) < 0.8 * hands:
             time.sleep(BETWEEN * (0.5 + chance.random()))
             node = chance.randrange(nodes)
-            if node not in match.running or match.running[node].poll() is not None:
-                break
             waits = alone if is_alone(match, node) else together
             match.kill(node)
             waits.append(line_after(match, node) * 1e3)
