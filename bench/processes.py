@@ -36,7 +36,8 @@ COUNTS = (3, 5)
 # Of the runs with losses: how many processes are killed while no other lacks anything, in how many matches at most, how long
 # after the one before, and how long each is away.
 LOSSES, MATCHES, BETWEEN, AWAY = 200, 60, 0.25, 0.1
-# How many hands such a match has at most: a process that comes back is told all of it, in some tenths of a second.
+# How many hands such a match has, in memory five times as many: a process that comes back is told all of it, in some tenths
+# of a second.
 OF_LOSSES = 2000
 # By how many bytes of its log a process may be behind the others and count as one that lacks nothing: a few hands.
 LEVEL = 1000
@@ -275,17 +276,22 @@ def is_alone(match, node):
 def losses(programs, nodes, place, most, chance):
     """One process after another of a match is killed, and begun again, until so many were alone in it at most. How long the next
     line of a log then waited, in milliseconds: of the losses that were alone, and of those that met others still behind."""
-    rate = 5000 if str(place) == FAST else 1500
-    hands = min(OF_LOSSES, max(FEWEST, int(most * (BETWEEN + AWAY + 0.1) * rate / OF_A_HAND)))
+    hands = 5 * OF_LOSSES if str(place) == FAST else OF_LOSSES
     match, alone, together = Processes(nodes, hands, place), [], []
+
+    def is_near_its_end():
+        return max(match.log(node).count(b"\n") for node in range(nodes)) > 0.8 * hands
+
     try:
         for node in range(nodes):
             match.begin(node)
         players = Players(programs["players"], match)
         waited(lambda: match.log(0), "the first line of a log")
-        # Near its end none is killed: whoever comes back behind it finds nobody who could tell it the match.
-        while len(alone) < most and max(match.log(node).count(b"\n") for node in range(nodes)) < 0.8 * hands:
+        while len(alone) < most:
             time.sleep(BETWEEN * (0.5 + chance.random()))
+            # Whoever comes back behind the end finds nobody who could tell it the match.
+            if is_near_its_end():
+                break
             node = chance.randrange(nodes)
             waits = alone if is_alone(match, node) else together
             match.kill(node)
