@@ -1,5 +1,5 @@
 use crate::test_streams::{
-    Gives, L2, Reading, Run, Takes, Writing, ends, is_begun, reads_or_stops,
+    Gives, L2, Reading, Run, Takes, Writing, ends, is_begun, is_written, reads_or_stops,
 };
 use std::alloc::{AllocError, Global};
 use std::io::{ErrorKind, Read, Write};
@@ -65,6 +65,22 @@ fn says_yes_of_a_log(rt: HostRuntime) -> Result<(), Fail> {
         is_checked(&rt, rt.alloc(), run)?;
     }
     Ok(())
+}
+
+/// Checks the log of a game that is refused: how the run ends. Nothing is read or written.
+fn refused(rt: &impl Abort, alloc: Global) -> Ending {
+    let mut reader = &*LOG;
+    let mut written = Vec::new(alloc);
+    let ending = ran(alloc, b"", &mut reader, &mut written);
+    is_written(rt, &written, b"");
+    is_written(rt, reader, LOG);
+    ending
+}
+
+#[test]
+fn reads_no_log_of_a_refused_game(rt: HostRuntime) -> Result<(), Fail> {
+    let ending = refused(&rt, rt.alloc());
+    Ok(ends(&rt, rt.alloc(), ending, "10 NoGamedef 0")?)
 }
 
 /// Reads bytes one by one, with four reads at most.

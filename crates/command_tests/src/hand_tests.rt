@@ -1,12 +1,14 @@
 use crate::test_streams::{
     Gives, L2, Listener, Reading, Run, Takes, Talker, Writing, ends, is_begun, is_same, is_written,
+    reads_or_stops,
 };
+use game_def::GameDef;
 use std::alloc::{AllocError, Global};
 use std::cell::Cell;
 use std::io::{ErrorKind, Read, Write};
 use std::process::Abort;
 use std::test::Fail;
-use streamed::{Ending, hand_run};
+use streamed::{Ending, MOST_READS, Stop, hand_run, run_script};
 
 const SCRIPT: &[u8] = b"names alice|bob
 deal TdAs|8hTc/2c8c3h/9c/Kh
@@ -37,6 +39,12 @@ fn is_run(rt: &impl Abort, alloc: Global, run: &Run) -> Result<(), AllocError> {
     let ending = ran(alloc, &mut Reading::new(SCRIPT, gives), &mut writer);
     is_begun(rt, &writer.taken, ANSWERS, count);
     ends(rt, alloc, ending, text)
+}
+
+/// Runs a script that comes byte by byte, with four reads at most.
+fn run_by_four(alloc: Global, game: GameDef, bytes: &[u8]) -> Result<(), Stop> {
+    let mut reader = Reading::new(bytes, Gives::OneByOne);
+    run_script(alloc, game, None, 1, 4, &mut reader, &mut Vec::new(alloc))
 }
 
 /// The script at once and in pieces, a reader that fails before its last two lines, a writer that does behind 60 bytes,
@@ -97,4 +105,13 @@ fn answers_each_line_before_the_next_is_awaited(rt: HostRuntime) {
     let ending = ran(rt.alloc(), &mut reader, &mut writer);
     is_same(&rt, ending.status(), 0);
     is_written(&rt, &writer.heard, ANSWERS);
+}
+
+#[test]
+fn reads_a_script_so_often_and_no_more(rt: HostRuntime) -> Result<(), Fail> {
+    is_same(&rt, MOST_READS, 16_777_216);
+    let game = game_def::read(L2)?;
+    reads_or_stops(&rt, run_by_four(rt.alloc(), game, b"xxx"), true);
+    reads_or_stops(&rt, run_by_four(rt.alloc(), game, b"xxxx"), false);
+    Ok(())
 }

@@ -1,6 +1,6 @@
 //! Tests of the commands `hand`, `check`, `play`, `serve` and `node`, over readers and writers of these tests
-//! (`test_streams`), links in memory of `match_links`, wires in memory of `node_wires`, and disks in memory of
-//! `promise_store`.
+//! (`test_streams`), links in memory of `match_links`, which may be slow (`slow_links`), wires in memory of `node_wires`, and
+//! disks in memory of `promise_store`.
 //!
 //! They go through the public calls of `streamed`, `match_runs` and `node_runs` alone. A crate that has tests is proved once by itself
 //! and once with them; this one has nothing but tests, so they are proved once, beside the program and not before it.
@@ -16,5 +16,7 @@ mod node_tests;
 mod play_tests;
 #[cfg(test)]
 mod serve_tests;
+#[cfg(test)]
+mod slow_links;
 #[cfg(test)]
 mod test_streams;

@@ -1,19 +1,176 @@
-//! `node_run` where the start is its end, over wires and disks in memory.
+//! The notes of a node's process and how it ends, and `node_run` where the start is its end, over wires and disks in memory.
 
-use crate::test_streams::{config, holds, is_written, prints};
+use crate::test_streams::{config, holds, is_same, is_written, prints};
 use dealer_node::NodeFault;
-use node_links::Own;
+use match_file::{Difference, Key, MatchFault};
+use match_log::Name;
+use match_runs::Unserved;
+use node_links::{LinkFault, Mismatch, Own, Whose};
 use node_peers::Peers;
-use node_runs::{LifeKeeper, NodeEnd, node_run};
+use node_runs::{
+    KeyFault, LifeKeeper, NodeEnd, NodeNote, key_text, life_path, node_kept_path, node_run,
+    read_key, tell_node_note,
+};
 use node_seats::Seats;
 use node_service::{Member, NodeServer, Terms};
 use node_status::Askers;
 use node_wires::MemoryWire;
-use peer_codes::{Life, MatchDigest};
-use promise_store::{Disk, OnceDisk, Store};
+use paxos_wire::Ballot;
+use peer_codes::{Key as SharedKey, Life, MatchDigest, RecordFault};
+use promise_store::{Disk, OnceDisk, Store, StoreFault};
+use serving::ServeFault;
 use stations::Station;
-use std::alloc::Global;
+use std::alloc::{AllocError, Global};
+use std::net::{IpAddr, SocketAddr};
+use std::process::Abort;
 use std::test::Fail;
+
+/// The lines of all notes that tell nothing of a seat.
+const NOTES: &[u8] = b"match m1 node 2 front 7
+key port isn't used by node
+stores/match.kept: not found: copy it from the machine of node 0
+no key: peers and seats are trusted by their addresses
+match.key: open to others than its owner
+status at 127.0.0.1:7090
+peer 1: joined
+peer 1: gone
+peer 2: 127 WentBack
+peer 0: 123 OtherMatch digest (from 10.0.0.7)
+caller: 122 BadHello
+caller: 120 BadLength (12 times)
+quorum
+quorum lost
+leads (5, 1)
+";
+
+/// Notes of all kinds, in the order of their lines.
+fn notes<'a>(name: Name) -> [NodeNote<'a>; 15] {
+    let bad_length = LinkFault::Record(RecordFault::BadLength);
+    [
+        NodeNote::Begins {
+            name,
+            node: 2,
+            front: 7,
+        },
+        NodeNote::PassedOver("port"),
+        NodeNote::NotCopied("stores/match.kept"),
+        NodeNote::NoKey,
+        NodeNote::BadKey("match.key", KeyFault::NotSecret),
+        NodeNote::Status(SocketAddr::from(([127, 0, 0, 1], 7090))),
+        NodeNote::Joined(1),
+        NodeNote::Gone(1),
+        NodeNote::Refused {
+            peer: 2,
+            fault: LinkFault::WentBack(Whose::Other),
+            source: None,
+        },
+        NodeNote::Refused {
+            peer: 0,
+            fault: LinkFault::OtherMatch(Mismatch::Digest),
+            source: Some(IpAddr::from([10, 0, 0, 7])),
+        },
+        NodeNote::Callers {
+            count: 1,
+            fault: LinkFault::Record(RecordFault::BadHello),
+        },
+        NodeNote::Callers {
+            count: 12,
+            fault: bad_length,
+        },
+        NodeNote::Quorum,
+        NodeNote::QuorumLost,
+        NodeNote::Leads(Ballot { round: 5, node: 1 }),
+    ]
+}
+
+#[test]
+fn each_note_is_a_line(rt: HostRuntime) -> Result<(), Fail> {
+    let name = Name::new(b"m1").expect(&rt, "a name");
+    let mut told = Vec::new(rt.alloc());
+    for note in &notes(name) {
+        tell_node_note(rt.alloc(), &mut told, note);
+    }
+    is_written(&rt, &told, NOTES);
+    Ok(())
+}
+
+/// Sees that a process ends so.
+fn ends(
+    rt: &impl Abort,
+    alloc: Global,
+    why: Unserved,
+    status: u8,
+    text: &str,
+) -> Result<(), AllocError> {
+    let end = NodeEnd::Unserved(why);
+    is_same(rt, end.status(), status);
+    prints(rt, alloc, &end, text)
+}
+
+#[test]
+fn the_status_says_what_is_at_fault(rt: HostRuntime) -> Result<(), Fail> {
+    let alloc = rt.alloc();
+    let store = NodeFault::Store(StoreFault::Disk);
+    ends(
+        &rt,
+        alloc,
+        Unserved::from(ServeFault::Node(store)),
+        3,
+        "91 Store 63 Disk",
+    )?;
+    ends(
+        &rt,
+        alloc,
+        Unserved::from(ServeFault::Node(NodeFault::Conflict)),
+        3,
+        "95 Conflict",
+    )?;
+    ends(&rt, alloc, Unserved::from(AllocError), 1, "92 OutOfMemory")?;
+    ends(
+        &rt,
+        alloc,
+        Unserved::from(ServeFault::LinkFailed),
+        1,
+        "105 LinkFailed",
+    )?;
+    ends(
+        &rt,
+        alloc,
+        Unserved::from(ServeFault::LogFailed),
+        1,
+        "106 LogFailed",
+    )?;
+    ends(&rt, alloc, Unserved::StoreInUse, 2, "108 StoreInUse")?;
+    ends(&rt, alloc, Unserved::Unreadable, 2, "104 Unreadable")?;
+    let other = Unserved::OtherMatch(Difference::Node);
+    ends(&rt, alloc, other, 2, "109 OtherMatch node")?;
+    let entry = Unserved::from(MatchFault::BadEntry(Key::Peers));
+    ends(&rt, alloc, entry, 2, "101 BadEntry peers")?;
+    is_same(&rt, NodeEnd::WentBack.status(), 2);
+    prints(&rt, alloc, &NodeEnd::WentBack, "127 WentBack")?;
+    Ok(())
+}
+
+#[test]
+fn files_beside_a_store_have_names(rt: HostRuntime) -> Result<(), Fail> {
+    let kept = node_kept_path(rt.alloc(), "stores", 2)?;
+    is_written(&rt, kept.as_bytes(), b"stores/node2.kept");
+    let life = life_path(rt.alloc(), "stores", 2, 10)?;
+    is_written(&rt, life.as_bytes(), b"stores/node2.peer10.kept");
+    Ok(())
+}
+
+#[test]
+fn a_key_is_64_digits(rt: HostRuntime) -> Result<(), Fail> {
+    let key = SharedKey { bytes: [0xa0; 32] };
+    let text = key_text(rt.alloc(), &key)?;
+    let digits = b"a0a0a0a0a0a0a0a0a0a0a0a0a0a0a0a0a0a0a0a0a0a0a0a0a0a0a0a0a0a0a0a0\n";
+    is_written(&rt, &text, digits);
+    let read = read_key(&text).expect(&rt, "a key");
+    is_written(&rt, &read.bytes, &key.bytes);
+    holds(&rt, 2u64, read_key(b"a0").is_none());
+    Ok(())
+}
 
 /// Keeps no life: none is told in these tests.
 #[derive(Drop)]

@@ -1,17 +1,55 @@
 use crate::test_streams::{
-    Gives, L2, MATCH, Reading, Run, Takes, Writing, ends, holds, is_begun, is_written,
+    Gives, L2, Listener, MATCH, Reading, Run, Takes, Talker, Writing, config, ends, holds,
+    is_begun, is_same, is_written, reads_or_stops,
 };
-use match_runs::play_run;
+use dealer_kind::Config;
+use match_runs::{play_match, play_run};
 use std::alloc::{AllocError, Global};
+use std::cell::Cell;
 use std::io::{ErrorKind, Read, Write};
 use std::process::Abort;
 use std::test::Fail;
-use streamed::Ending;
+use streamed::{Ending, MOST_READS, Stop};
 
 /// What each node's log begins with.
 const HEADERS: &[u8] = b"0 L # name/game/hands m1 l2.game 1
 1 L # name/game/hands m1 l2.game 1
 2 L # name/game/hands m1 l2.game 1
+";
+
+/// Node 0 has its deal chosen with node 1's vote; all three ask for the lead.
+const CALM: &[u8] = b"connect 0 1
+line 0 1 VERSION:2.0.0
+tick 0
+deliver 0
+deliver 2
+deliver 3
+deliver 7
+deliver 5
+tick 0
+tick 1
+tick 2
+";
+
+const CALM_ANSWERS: &[u8] = b"0 L # name/game/hands m1 l2.game 1
+1 L # name/game/hands m1 l2.game 1
+2 L # name/game/hands m1 l2.game 1
+frame 0 0>1 0000000b0201000000010000000000
+frame 1 0>2 0000000b0201000000010000000000
+frame 2 1>0 0000000c020200000001000000000000
+frame 3 0>1 0000001b02040000000100000000000101000000000921331a200018061c2e
+frame 4 0>2 0000001b02040000000100000000000101000000000921331a200018061c2e
+frame 5 0>1 0000001b02050000000100000000000101000000000921331a200018061c2e
+frame 6 0>2 0000001b02050000000100000000000101000000000921331a200018061c2e
+frame 7 1>0 0000001b02050000000100000000000101000000000921331a200018061c2e
+frame 8 1>2 0000001b02050000000100000000000101000000000921331a200018061c2e
+0 1 MATCHSTATE:1:0::|8hTc
+frame 9 0>1 0000000b0201000000020000000001
+frame 10 0>2 0000000b0201000000020000000001
+frame 11 1>0 0000000b0201000000020100000001
+frame 12 1>2 0000000b0201000000020100000001
+frame 13 2>0 0000000b0201000000010200000000
+frame 14 2>1 0000000b0201000000010200000000
 ";
 
 /// Node 0 stops once its deal is chosen, starts again and asks what it has missed. The last line says nothing.
@@ -75,6 +113,9 @@ fn is_run(
     ends(rt, alloc, ending, text)
 }
 
+/// A script that is answered at once.
+static CALMLY_ANSWERED: Run = (Gives::Whole, Takes::All, CALM_ANSWERS.len(), "");
+
 /// A script that is answered at once and in pieces; a reader that fails before `f` and its line feed; and flushes that
 /// fail: the headers are flushed once they are written, and so is the answer to each line, empty or not.
 static ANSWERED: [Run; 9] = [
@@ -102,10 +143,27 @@ static ANSWERED: [Run; 9] = [
 /// As far as the streams go.
 #[test]
 fn answers_a_script_of_nodes(rt: HostRuntime) -> Result<(), Fail> {
+    is_run(&rt, rt.alloc(), CALM, CALM_ANSWERS, &CALMLY_ANSWERED)?;
     for run in &ANSWERED {
         is_run(&rt, rt.alloc(), STOPPED, STOPPED_ANSWERS, run)?;
     }
     Ok(())
+}
+
+#[test]
+fn answers_each_line_of_nodes_before_the_next_is_awaited(rt: HostRuntime) {
+    let flushed = Cell::new(false);
+    let mut reader = Talker {
+        rest: STOPPED,
+        flushed: &flushed,
+    };
+    let mut writer = Listener {
+        heard: Vec::new(rt.alloc()),
+        flushed: &flushed,
+    };
+    let ending = ran(rt.alloc(), &mut reader, &mut writer);
+    is_same(&rt, ending.status(), 0);
+    is_written(&rt, &writer.heard, STOPPED_ANSWERS);
 }
 
 /// Sees that a beginning of the answers was taken, of so many bytes or a few more.
@@ -138,4 +196,32 @@ fn keeps_what_nodes_answered_before_the_writer_fails(rt: HostRuntime) -> Result<
         }
     }
     panic!(rt; "answers without end")
+}
+
+/// Plays a script that comes byte by byte, with four reads at most: the headers are to be written.
+fn play_by_four(rt: &impl Abort, alloc: Global, config: Config, bytes: &[u8]) -> Result<(), Stop> {
+    let mut reader = Reading::new(bytes, Gives::OneByOne);
+    let mut written = Vec::new(alloc);
+    let ran = play_match(alloc, config, 4, &mut reader, &mut written);
+    is_written(rt, &written, HEADERS);
+    ran
+}
+
+/// Plays such a script: whether all of it is read.
+fn is_read_by_four(
+    rt: &impl Abort,
+    alloc: Global,
+    bytes: &[u8],
+    is_read: bool,
+) -> Result<(), Fail> {
+    let config = config(alloc)?;
+    reads_or_stops(rt, play_by_four(rt, alloc, config, bytes), is_read);
+    Ok(())
+}
+
+#[test]
+fn reads_a_script_of_nodes_so_often_and_no_more(rt: HostRuntime) -> Result<(), Fail> {
+    is_same(&rt, MOST_READS, 16_777_216);
+    is_read_by_four(&rt, rt.alloc(), b"xxx", true)?;
+    is_read_by_four(&rt, rt.alloc(), b"xxxx", false)
 }

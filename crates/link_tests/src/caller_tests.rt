@@ -1,7 +1,10 @@
 //! Those who dial node 0: who is taken, who is refused and how that is told, and who takes another's place.
 
 use crate::pair::{SILENCE, Side, node_0, said, say, take_turns};
-use crate::samples::{ASK, ASK_RECORD, HELLO_RECORD, assert_number, assert_that, coded_hello, own};
+use crate::samples::{
+    ASK, ASK_RECORD, BEAT_RECORD, HELLO_RECORD, assert_bytes, assert_number, assert_that,
+    coded_hello, hello, own,
+};
 use node_links::Own;
 use node_wires::Line;
 use peer_codes::{Record, record_bytes};
@@ -43,11 +46,64 @@ fn a_hello_is_answered_and_its_life_told_once(rt: HostRuntime) -> Result<(), Fai
     Ok(answers_and_tells_once(&rt, &mut side)?)
 }
 
+/// The fault that was told last, and of how many peers and strangers faults were told.
+fn was_told(rt: &impl Abort, side: &Side, fault: u64, refused: u64, strangers: u64) {
+    assert_number(rt, side.seen.fault as u64, fault);
+    assert_number(rt, side.seen.refused as u64, refused);
+    assert_number(rt, side.seen.strangers as u64, strangers);
+}
+
+/// The peer was there, and is gone by its fault.
+fn is_gone(rt: &impl Abort, side: &Side) {
+    assert_that(rt, !has_peer(side));
+    assert_number(rt, side.seen.joined as u64, 1);
+    assert_number(rt, side.seen.gone as u64, 1);
+    was_told(rt, side, 120, 1, 0);
+    assert_that(rt, !side.wire.is_open(Line::Caller(0)));
+}
+
 /// A text behind another.
 fn joined(alloc: Global, first: &[u8], second: &[u8]) -> Result<Vec<u8>, AllocError> {
     let mut both = Vec::from_slice(alloc, first)?;
     both.extend_from_slice(second)?;
     Ok(both)
+}
+
+/// A node to which this is said.
+fn told(alloc: Global, first: &[u8], second: &[u8]) -> Result<Side, AllocError> {
+    let both = joined(alloc, first, second)?;
+    let mut side = node_0(alloc)?;
+    say(&mut side, 0, both.as_slice(), 1_000)?;
+    Ok(side)
+}
+
+/// A Hello and a record of length 0 in one piece: the peer was there, and is gone.
+#[test]
+fn a_peer_at_fault_is_gone(rt: HostRuntime) -> Result<(), Fail> {
+    let side = told(rt.alloc(), &HELLO_RECORD, &[0, 0, 0, 0])?;
+    is_gone(&rt, &side);
+    Ok(())
+}
+
+/// One caller is told at once, and two more after a second.
+fn tells_strangers(rt: &impl Abort, side: &mut Side) -> Result<(), AllocError> {
+    say(side, 0, &ASK_RECORD, 1_000)?;
+    was_told(rt, side, 126, 0, 1);
+    say(side, 0, &ASK_RECORD, 2_000)?;
+    say(side, 0, &[0, 0, 0, 1, 9], 3_000)?;
+    was_told(rt, side, 126, 0, 1);
+    side.turn(1_000_999);
+    was_told(rt, side, 126, 0, 1);
+    side.turn(1_001_000);
+    was_told(rt, side, 121, 0, 3);
+    Ok(())
+}
+
+/// Callers who aren't known are counted, and told once a second.
+#[test]
+fn strangers_are_told_once_a_second(rt: HostRuntime) -> Result<(), Fail> {
+    let mut side = node_0(rt.alloc())?;
+    Ok(tells_strangers(&rt, &mut side)?)
 }
 
 /// When the peer has been silent for too long.
@@ -101,6 +157,67 @@ fn a_second_connection_is_refused_or_takes_the_place(rt: HostRuntime) -> Result<
     Ok(refuses_or_takes(&rt, &mut side)?)
 }
 
+/// What node 0 says first to node 1: its Hello, a beat, and what waited.
+fn greeting(alloc: Global) -> Result<Vec<u8>, AllocError> {
+    let hello = record_bytes(&Record::Hello(hello(0, 1)));
+    let mut all = joined(alloc, hello.as_slice(), &BEAT_RECORD)?;
+    all.extend_from_slice(&ASK_RECORD)?;
+    Ok(all)
+}
+
+/// A node for which something waits, and to which a Hello is said.
+fn greeted(alloc: Global) -> Result<Side, AllocError> {
+    let mut side = node_0(alloc)?;
+    side.peers.send(1, &ASK, 0);
+    say(&mut side, 0, &HELLO_RECORD, 1_000)?;
+    Ok(side)
+}
+
+/// A peer that is there is told a beat, and then what waits for it.
+#[test]
+fn the_beat_goes_before_the_frame(rt: HostRuntime) -> Result<(), Fail> {
+    let side = greeted(rt.alloc())?;
+    let all = greeting(rt.alloc())?;
+    assert_bytes(&rt, side.wire.written(Line::Caller(0)), all.as_slice());
+    Ok(())
+}
+
+/// A frame comes byte by byte.
+fn hears_byte_by_byte(rt: &impl Abort, side: &mut Side) -> Result<(), AllocError> {
+    say(side, 0, &HELLO_RECORD, 1_000)?;
+    for byte in &ASK_RECORD {
+        assert_number(rt, side.seen.frames as u64, 0);
+        side.wire.come(Line::Caller(0), &[*byte])?;
+        side.turn(1_000);
+    }
+    assert_number(rt, side.seen.frames as u64, 1);
+    Ok(())
+}
+
+/// A beat, a second Hello, and behind it a frame that isn't heard.
+fn hears_no_more(rt: &impl Abort, side: &mut Side) -> Result<(), AllocError> {
+    side.wire.come(Line::Caller(0), &BEAT_RECORD)?;
+    side.wire.come(Line::Caller(0), &HELLO_RECORD)?;
+    side.wire.come(Line::Caller(0), &ASK_RECORD)?;
+    side.turn(1_000);
+    assert_number(rt, side.seen.frames as u64, 1);
+    assert_number(rt, side.seen.fault as u64, 126);
+    Ok(())
+}
+
+/// Both, one behind the other.
+fn hears_until_a_second_hello(rt: &impl Abort, side: &mut Side) -> Result<(), AllocError> {
+    hears_byte_by_byte(rt, side)?;
+    hears_no_more(rt, side)
+}
+
+/// In pieces of any length the same is heard; a second Hello closes the connection, and from then on nothing is heard.
+#[test]
+fn bytes_come_one_by_one(rt: HostRuntime) -> Result<(), Fail> {
+    let mut side = node_0(rt.alloc())?;
+    Ok(hears_until_a_second_hello(&rt, &mut side)?)
+}
+
 /// What is told and said of words that are refused by this fault: nothing of what waits.
 fn is_refused(rt: &impl Abort, side: &Side, fault: u64, answer: u64) {
     assert_number(rt, side.seen.fault as u64, fault);
@@ -137,6 +254,12 @@ fn refuses(
     refuses_words(rt, &mut side, words, fault, answer)
 }
 
+/// A frame before the Hello, which is refused.
+fn refuses_a_late_hello(rt: &impl Abort, alloc: Global) -> Result<(), AllocError> {
+    let late = joined(alloc, &ASK_RECORD, &HELLO_RECORD)?;
+    refuses(rt, alloc, own(0, 9, None), late.as_slice(), 126, 0)
+}
+
 /// A Hello without codes and a frame behind it, at this node.
 fn refuses_both(
     rt: &impl Abort,
@@ -149,13 +272,17 @@ fn refuses_both(
     refuses(rt, alloc, own, both.as_slice(), fault, answer)
 }
 
-/// A Hello with codes at a node without a key, and one without at a node with one, each of which is answered.
+/// A frame before the Hello; a kind that there isn't; a Hello with codes at a node without a key, and one without at a node with
+/// one, and one of another match, each of which is answered.
 #[test]
 fn others_are_refused_and_answered(rt: HostRuntime) -> Result<(), Fail> {
     let alloc = rt.alloc();
     let coded = record_bytes(&Record::Hello(coded_hello(1, 0, 3)));
+    refuses_a_late_hello(&rt, alloc)?;
+    refuses(&rt, alloc, own(0, 9, None), &[0, 0, 0, 1, 9], 121, 0)?;
     refuses(&rt, alloc, own(0, 9, None), coded.as_slice(), 122, 82)?;
     refuses_both(&rt, alloc, own(0, 9, Some(7)), 122, 114)?;
+    refuses_both(&rt, alloc, own(0, 8, None), 123, 82)?;
     Ok(())
 }
 

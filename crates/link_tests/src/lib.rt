@@ -4,9 +4,10 @@
 //! - `samples` has two nodes of three and what they say; `pair` two processes whose wires are joined in memory.
 //! - `peer_tests`: processes that meet, with a key and without, refuse each other, lose each other and meet again; each call
 //!   of a wire failing once.
-//! - `caller_tests`: who dials node 0: taken, refused, counted, replaced.
+//! - `caller_tests`: who dials node 0, byte for byte: taken, refused, counted, replaced.
 //! - `again_tests`: what is sent again, and what is owed.
-//! - `seat_tests`: bots that are let go of, and guests at the ports of seats.
+//! - `coded_tests`: what is said over connections with codes: each byte of it changed, said again, and dropped in part.
+//! - `seat_tests`: the bots of seats, with tokens and without.
 //! - `tcp_tests`: strangers over sockets of this machine.
 #![tactic(auto)]
 
@@ -14,6 +15,8 @@
 mod again_tests;
 #[cfg(test)]
 mod caller_tests;
+#[cfg(test)]
+mod coded_tests;
 #[cfg(test)]
 mod pair;
 #[cfg(test)]

@@ -1,7 +1,8 @@
 //! Processes that meet, refuse each other, lose each other and meet again.
 
 use crate::pair::{SILENCE, Side, take_turns};
-use crate::samples::{ACCEPTED, assert_number, life, own};
+use crate::samples::{ACCEPTED, ASK, HELLO_RECORD, assert_bytes, assert_number, life, own};
+use node_wires::Line;
 use std::alloc::{AllocError, Global};
 use std::process::Abort;
 use std::test::Fail;
@@ -65,6 +66,35 @@ fn nodes_meet_or_refuse_each_other(rt: HostRuntime) -> Result<(), Fail> {
         let is_stranger = fault == 123 || fault == 124;
         assert_number(&rt, low.seen.strangers as u64, is_stranger as u64);
     }
+    Ok(())
+}
+
+/// Frames cross both ways; the same Ask so soon is dropped, and so is one to nobody.
+#[test]
+fn frames_cross_both_ways(rt: HostRuntime) -> Result<(), Fail> {
+    let alloc = rt.alloc();
+    for place in [0, 3] {
+        let (mut low, mut high) = held(alloc, MEETINGS[place])?;
+        low.forget();
+        low.peers.send(1, &ASK, 9_000);
+        high.peers.send(0, &ACCEPTED, 9_000);
+        low.peers.send(1, &ASK, 10_000);
+        low.peers.send(9, &ASK, 10_000);
+        take_turns(alloc, &mut low, &mut high, 10_000, 4)?;
+        assert_number(&rt, low.seen.frames as u64, 1);
+        assert_number(&rt, high.seen.frames as u64, 1);
+        assert_number(&rt, high.seen.sum, 1);
+    }
+    Ok(())
+}
+
+/// Who dials says its Hello first, whatever waits.
+#[test]
+fn the_caller_says_its_hello_first(rt: HostRuntime) -> Result<(), Fail> {
+    let mut high = Side::new(rt.alloc(), 1, 9, &[], 0)?;
+    high.peers.send(0, &ASK, 0);
+    high.turn(0);
+    assert_bytes(&rt, high.wire.written(Line::Peer(0)), &HELLO_RECORD);
     Ok(())
 }
 

@@ -1,7 +1,10 @@
 //! Two nodes of three, and what they say.
 
+ghost use Rattle.std.specs.Prelude.{◌≡◌, true};
+ghost use Rattle.peer_codes.specs.Steps.{is_coded};
+
 use node_links::{Own, Told};
-use peer_codes::{Ends, Hello, Key, Life, Link, MatchDigest, Nonce};
+use peer_codes::{Ends, Frame, Hello, Key, Life, Link, MatchDigest, Nonce};
 use std::process::Abort;
 
 /// The frame of an Ask from slot 1.
@@ -29,6 +32,11 @@ pub(crate) const TOLD: Told = Told {
     over: false,
     seats: 5,
 };
+
+/// The record of its first beat.
+pub(crate) const BEAT_RECORD: [u8; 20] = [
+    0, 0, 0, 16, 3, 0, 0, 0, 1, 0, 0, 0, 0, 0, 0, 0, 37, 1, 0, 5,
+];
 
 /// The record of the first beat of a node that has applied 10 commands.
 pub(crate) const LOW_BEAT_RECORD: [u8; 20] = [
@@ -79,7 +87,9 @@ pub(crate) fn hello(from: u8, to: u8) -> Hello {
 }
 
 /// The same with a nonce of such bytes.
-pub(crate) fn coded_hello(from: u8, to: u8, nonce: u8) -> Hello {
+pub(crate) fn coded_hello(from: u8, to: u8, nonce: u8) -> Hello
+    ensures { is_coded result.link ≡ true }
+{
     Hello {
         link: Link::Coded(Nonce { bytes: [nonce; 32] }),
         ..hello(from, to)
@@ -92,6 +102,19 @@ pub(crate) const HELLO_RECORD: [u8; 82] = [
     9, 9, 9, 9, 9, 9, 9, 9, 9, 9, 9, 9, 9, 9, 9, 2, 2, 2, 2, 2, 2, 2, 2, 2, 2, 2, 2, 2, 2, 2, 2, 0,
     0, 0, 0, 0, 0, 0, 0, 0, 0, 0, 0, 0, 0, 0, 0, 0, 0, 0, 0, 0,
 ];
+
+/// A frame of these bytes.
+pub(crate) fn frame(rt: &impl Abort, bytes: &[u8]) -> Frame {
+    match Frame::new(bytes) {
+        Some(frame) => frame,
+        None => panic!(rt; "no frame"),
+    }
+}
+
+/// The two are equal; where they aren't, both are printed.
+pub(crate) fn assert_bytes(rt: &impl Abort, found: &[u8], expected: &[u8]) {
+    assert_eq!(rt; found, expected);
+}
 
 /// This holds.
 pub(crate) fn assert_that(rt: &impl Abort, holds: bool) {

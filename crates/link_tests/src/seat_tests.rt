@@ -1,14 +1,16 @@
-//! The bots of seats, and guests at their ports, over wires in memory.
+//! The bots of seats, over wires in memory.
 
-use crate::samples::assert_number;
+use crate::samples::{assert_bytes, assert_number};
 use node_seats::{SeatNotice, Seats, TokenDigest};
 use node_wires::{Line, MemoryWire};
 use std::alloc::{AllocError, Global};
 use std::process::Abort;
 use std::test::Fail;
 
-/// What shows the token of seat 0, without the line's end. The digests are those that `sha256sum` says of it, and of 64 times f.
+/// What shows the token of seat 0, and of seat 1, without the line's end. The digests are those that `sha256sum` says.
 const FIRST: &[u8] = b"#TOKEN 0123456789abcdef0123456789abcdef0123456789abcdef0123456789abcdef";
+
+const SECOND: &[u8] = b"#TOKEN ffffffffffffffffffffffffffffffffffffffffffffffffffffffffffffffff";
 
 const DIGESTS: [TokenDigest; 2] = [
     TokenDigest {
@@ -74,11 +76,40 @@ impl Table {
         self.wire.come(Line::Guest(place), said)?;
         Ok(told)
     }
+
+    /// Whether the guest at a place still has a connection.
+    fn stands(&self, place: u8) -> bool {
+        self.wire.is_open(Line::Guest(place))
+    }
 }
 
-/// A bot whose connection ended is let go of where it is written to.
 #[test]
-fn a_bot_that_has_gone_is_let_go_of(rt: HostRuntime) -> Result<(), Fail> {
+fn a_bot_comes_is_told_and_goes(rt: HostRuntime) -> Result<(), Fail> {
+    let mut table = open_seats(rt.alloc())?;
+    table.assert_hears(&rt, 0, 0);
+    table.wire.come_to_seat(1);
+    table.assert_hears(&rt, 0, 2);
+    assert_number(&rt, table.seats.bits() as u64, 2);
+    table.wire.come(Line::Seat(1), b"VERSION")?;
+    table.assert_hears(&rt, 0, 7);
+    // Nobody sits at seat 0.
+    assert!(rt;
+        table.seats.tell(1, b"LINE") && table.seats.tell(1, b"NEXT") && table.seats.tell(0, b"LINE")
+    );
+    assert_number(&rt, table.seats.backlog(1) as u64, 12);
+    assert!(rt; table.seats.flush(&mut table.wire).is_none());
+    assert_number(&rt, table.seats.backlog(1) as u64, 0);
+    assert_bytes(&rt, table.wire.written(Line::Seat(1)), b"LINE\r\nNEXT\r\n");
+    assert_bytes(&rt, table.wire.written(Line::Seat(0)), b"");
+    table.wire.end(Line::Seat(1));
+    table.assert_hears(&rt, 0, 3);
+    assert_number(&rt, table.seats.bits() as u64, 0);
+    Ok(())
+}
+
+/// A bot whose connection ended is let go of where it is written to; what waited for it isn't written to the next one.
+#[test]
+fn the_next_bot_gets_nothing_of_the_last(rt: HostRuntime) -> Result<(), Fail> {
     let mut table = open_seats(rt.alloc())?;
     table.wire.come_to_seat(0);
     table.assert_hears(&rt, 0, 1);
@@ -88,8 +119,47 @@ fn a_bot_that_has_gone_is_let_go_of(rt: HostRuntime) -> Result<(), Fail> {
     table.wire.come_to_seat(0);
     table.assert_hears(&rt, 0, 1);
     assert!(rt; table.seats.tell(0, b"NEXT") && table.seats.flush(&mut table.wire).is_none());
+    assert_bytes(&rt, table.wire.written(Line::Seat(0)), b"NEXT\r\n");
     assert!(rt; table.seats.hang_up(&mut table.wire, 0).is_some());
     assert!(rt; table.seats.hang_up(&mut table.wire, 0).is_none());
+    Ok(())
+}
+
+/// Who shows a token has his seat, whichever way his line ends; what stood behind the line comes of the bot, whole. The line
+/// is whole within two seconds.
+#[test]
+fn right_tokens_are_seated(rt: HostRuntime) -> Result<(), Fail> {
+    let mut table = two_seats(rt.alloc())?;
+    assert_number(&rt, table.comes(0, 0, FIRST, 0)?, 0);
+    table.assert_hears(&rt, 0, 0);
+    table.wire.come(Line::Guest(0), b"\nVERSION")?;
+    for expected in [1, 7, 0] {
+        table.assert_hears(&rt, 1_999_999, expected);
+    }
+    assert_number(&rt, table.seats.bits() as u64, 1);
+    assert!(rt; !table.stands(0));
+    assert_number(&rt, table.comes(1, 0, SECOND, 2_000_000)?, 0);
+    table.wire.come(Line::Guest(0), b"\r\nX")?;
+    table.assert_hears(&rt, 2_000_000, 2);
+    table.assert_hears(&rt, 2_000_000, 1);
+    Ok(())
+}
+
+/// The token of another seat is refused once, and the connection closed 0.2 s later; the bot that sits there stays.
+#[test]
+fn another_seats_token_is_refused(rt: HostRuntime) -> Result<(), Fail> {
+    let mut table = two_seats(rt.alloc())?;
+    let _ = table.comes(1, 0, SECOND, 0)?;
+    table.wire.come(Line::Guest(0), b"\n")?;
+    table.assert_hears(&rt, 0, 2);
+    assert_number(&rt, table.comes(1, 0, FIRST, 0)?, 0);
+    table.wire.come(Line::Guest(0), b"\n")?;
+    table.assert_hears(&rt, 1_000, 4);
+    table.assert_hears(&rt, 200_999, 0);
+    assert!(rt; table.stands(0));
+    table.assert_hears(&rt, 201_000, 0);
+    assert!(rt; !table.stands(0) && table.wire.is_open(Line::Seat(1)));
+    assert_number(&rt, table.seats.bits() as u64, 2);
     Ok(())
 }
 
@@ -107,5 +177,38 @@ fn a_guest_has_two_seconds_and_one_line(rt: HostRuntime) -> Result<(), Fail> {
     assert_number(&rt, table.comes(0, 2, FIRST, 2_000_000)?, 0);
     table.wire.end(Line::Guest(2));
     table.assert_hears(&rt, 2_000_000, 4);
+    Ok(())
+}
+
+/// Who shows the token of a seat takes it over; nothing of what waited for the one before is written to him.
+#[test]
+fn a_seat_is_taken_over(rt: HostRuntime) -> Result<(), Fail> {
+    let mut table = two_seats(rt.alloc())?;
+    for turn in 0..2u64 {
+        assert_number(&rt, table.comes(0, 0, FIRST, 0)?, 0);
+        table.wire.come(Line::Guest(0), b"\n")?;
+        if turn == 1 {
+            table.assert_hears(&rt, 0, 3);
+        }
+        table.assert_hears(&rt, 0, 1);
+        assert!(rt; table.seats.tell(0, b"LINE"));
+    }
+    assert!(rt; table.seats.flush(&mut table.wire).is_none());
+    assert_bytes(&rt, table.wire.written(Line::Seat(0)), b"LINE\r\n");
+    Ok(())
+}
+
+/// Of twenty guests who say nothing the first make room; he who shows his token meanwhile is seated.
+#[test]
+fn twenty_guests_stand_at_once(rt: HostRuntime) -> Result<(), Fail> {
+    let mut table = two_seats(rt.alloc())?;
+    for _ in 0..20u64 {
+        table.wire.come_to_seat(0);
+        table.assert_hears(&rt, 0, 0);
+    }
+    assert!(rt; table.stands(0) && table.stands(15));
+    table.wire.come(Line::Guest(15), FIRST)?;
+    table.wire.come(Line::Guest(15), b"\n")?;
+    table.assert_hears(&rt, 0, 1);
     Ok(())
 }
