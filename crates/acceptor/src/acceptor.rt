@@ -52,10 +52,10 @@ impl<D: Disk> Acceptor<D> {
     }
 
     /// Hands the disk back, with what the store kept on it. The store is private.
-    pub fn into_disk(self) -> D
+    pub fn close(self) -> D
         ensures { result ≡ disk_of (store_of self) }
     {
-        self.store.into_disk()
+        self.store.close()
     }
 
     /// Makes room for accepting at so many slots more, so that `on_accept_reserved` takes no memory. An `Err` changes

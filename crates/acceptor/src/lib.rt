@@ -7,7 +7,7 @@
 //! (`PrepareAnswer`, `AcceptAnswer`, `RunAnswer`). `reserve` makes room for slots, so that `on_accept_reserved` and
 //! `on_accept_run_reserved` take no memory. `close` hands the disk back.
 //!
-//! The test `what_was_accepted_is_told` of `part_tests` walks this way. Faults are those of the store, 63, 64 and 92:
+//! The test `what_was_accepted_is_told` of `paxos_tests` walks this way. Faults are those of the store, 63, 64 and 92:
 //! after 63 and 64 the disk is to be opened again, which finds what was stored before the call, with or without what
 //! the call was to store.
 #![tactic(auto)]

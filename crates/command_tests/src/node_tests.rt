@@ -218,7 +218,7 @@ fn ran(alloc: Global, call: u64, notes: &mut Vec<u8>) -> Result<Option<NodeEnd>,
     let Ok(store) = Store::create(alloc, OnceDisk::new(alloc, call), 0, 3) else {
         return Ok(None);
     };
-    let Some(mut server) = server(alloc, store.into_disk(), 1)? else {
+    let Some(mut server) = server(alloc, store.close(), 1)? else {
         return Ok(None);
     };
     let mut lives = NoLives;

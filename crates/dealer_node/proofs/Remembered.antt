@@ -1,4 +1,4 @@
--- What is done in memory alone leaves the store as it is.
+-- What asks nothing of the store leaves it as it is.
 use Rattle.std.proofs.Common.{◌≡◌, ℕ, Bool, true, false, List, refl, ap, sym, ◌∙◌, subst}
 use Rattle.std.specs.Prelude.{Option, Some, None, IfSome, Result, Ok, Err, if◌then◌else◌}
 use Rattle.paxos_wire.specs.declared.ballot.Ballot.{Ballot}
@@ -16,7 +16,7 @@ use Rattle.dealer_node.specs.declared.running.Running.{Running}
 use Rattle.dealer_node.specs.Outs.{Told}
 use Rattle.dealer_node.specs.Members.{Membership}
 use Rattle.dealer_node.specs.Running.{IsRunning}
-use Rattle.dealer_node.specs.Memory.{KeepsStore, TakesInMemory}
+use Rattle.dealer_node.specs.Storeless.{KeepsStore, TakesStoreless}
 use Rattle.node_rules.proofs.Results.{ok_is}
 use Rattle.node_rules.proofs.Asked.{asked_on}
 use Rattle.dealer_node.proofs.Messages.{no_messages}
@@ -67,7 +67,7 @@ believed_keeps place (Err fault) learned s from turn e = absurd (cc)
 
 -- ---- nothing is sent or shown
 
-pub still_taken : (member : Membership) (running : Running) (s after : Standing) (told : Told) → IsRunning member running after → KeepsStore s after → TakesInMemory member running told told s (Ok (still after))
+pub still_taken : (member : Membership) (running : Running) (s after : Standing) (told : Told) → IsRunning member running after → KeepsStore s after → TakesStoreless member running told told s (Ok (still after))
 still_taken member running s after told is keeps = record {
   takes = record { turn = still after; rule = refl; taken = record { runs = is; told = nothing_more told after; fits = no_messages } };
   keeps = keeps;

@@ -14,7 +14,7 @@ pub mod Running
 pub mod Answering
 pub mod Voting
 pub mod Working
-pub mod Memory
+pub mod Storeless
 pub mod Starting
 pub mod Lines
 pub mod Handling

@@ -69,7 +69,7 @@ impl<D: Disk + Drop> Up<D> {
             | Message::Accepted { .. }
             | Message::Chosen { .. }
             | Message::Ask { .. }
-            | Message::Forward { .. } => self.take_in_memory(member, from, message, made),
+            | Message::Forward { .. } => self.take_storeless(member, from, message, made),
         }
     }
 

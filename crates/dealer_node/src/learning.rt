@@ -1,20 +1,18 @@
 ghost use Rattle.std.specs.Prelude.{◌≡◌, ◌+◌, ◌-◌, ◌*◌, ◌≤◌, ◌<◌, length, drop, reverse, OnOk, OnErr, IsOk, IsErr, Err};
-ghost use Rattle.paxos_wire.specs.Fits.{IsInRange, IsSlot, IsCommandRun};
+ghost use Rattle.paxos_wire.specs.Fits.{IsInRange, IsCommandRun};
 ghost use Rattle.paxos_wire.specs.declared.limits.TheConstants.{MOST_SINGLE_FRAME};
 ghost use Rattle.slot_log.specs.Slots.{front};
 ghost use Rattle.learner.specs.Learning.{answer_to_chosen, believing as with_chosen};
 ghost use Rattle.learner.specs.CommandRuns.{answer_to_run, hearing_run};
 ghost use Rattle.node_rules.specs.Applying.{taking_all};
-ghost use Rattle.node_rules.specs.Learning.{counting_votes, believing, telling};
-ghost use Rattle.dealer_node.specs.declared.limits.TheConstants.{FRAMES_OF_AN_ANSWER, FRAME_BYTES_OF_AN_ANSWER};
+ghost use Rattle.node_rules.specs.Learning.{counting_votes, believing};
 ghost use Rattle.dealer_node.specs.Scenes.{IsTableAt, PlaysOn, StaysInRange};
 ghost use Rattle.dealer_node.specs.Members.{place_at};
 ghost use Rattle.dealer_node.specs.Outs.{told_by};
 ghost use Rattle.dealer_node.specs.Rooms.{HasSpace, Grows};
-ghost use Rattle.dealer_node.specs.Running.{TakesBeside, TakesRule, ClashesBy, passed_from, learning_chosen, IsAt, AreInRange, HearsUpTo, CanLearn, Learns};
+ghost use Rattle.dealer_node.specs.Running.{TakesRule, ClashesBy, passed_from, learning_chosen, IsAt, AreInRange, HearsUpTo, CanLearn, Learns};
 
 use crate::applying::apply_commands;
-use crate::chosen_frames::{send_chosen, told_slots};
 use crate::made::Made;
 use crate::member::Member;
 use crate::reader::Reader;
@@ -186,18 +184,5 @@ impl Running {
         self.take_chosen(member, slot, command, made)?;
         self.ask_on(from, before, made);
         Ok(())
-    }
-
-    /// Tells a node what was chosen at the slots that it asks for: 64 at most.
-    pub(crate) fn tell_chosen(&self, from: u8, slot: u32, made: &mut Made)
-        requires slot { IsSlot slot }
-        requires commands { AreInRange self.now.learner.learned.log }
-        requires space { HasSpace made.old.frames FRAMES_OF_AN_ANSWER FRAME_BYTES_OF_AN_ANSWER }
-        ensures taken { TakesBeside (telling from slot) self.now (told_by made.old) (told_by made.new) }
-        ensures frames { Grows made.old.frames made.new.frames FRAMES_OF_AN_ANSWER FRAME_BYTES_OF_AN_ANSWER }
-        ensures rest { made.new ≡ record made.old { frames = made.new.frames } }
-    {
-        let slots = told_slots(self.learner.log(), slot);
-        send_chosen(&mut made.frames, from, self.learner.log(), slot, slots);
     }
 }

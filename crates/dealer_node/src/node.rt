@@ -129,7 +129,7 @@ impl<D: Disk + Drop> Node<D> {
         };
         match Store::create(self.alloc, disk, self.member.node(), self.member.nodes()) {
             Ok(store) => {
-                self.disk = Some(store.into_disk());
+                self.disk = Some(store.close());
                 Ok(())
             }
             Err((disk, fault)) => {
@@ -489,7 +489,7 @@ impl<D: Disk + Drop> Node<D> {
         ensures { self.new ≡ downed self.old }
     {
         if let Some(up) = self.up.take() {
-            self.disk = Some(up.acceptor.into_disk());
+            self.disk = Some(up.acceptor.close());
         }
     }
 }

@@ -15,10 +15,10 @@ ghost use Rattle.dealer_node.specs.Running.{IsRunning, IsTaken, Closes, most_pro
 
 use crate::made::Made;
 use crate::member::Member;
+use crate::own_values::own_value;
 use crate::running::Running;
 use crate::seen_ballot::higher;
 use crate::sending::send_to_others;
-use crate::values::own_value;
 use paxos_wire::limits::{SLOTS, WINDOW};
 use paxos_wire::{Ballot, CommandList, Entries, Message};
 use proposer::AcceptRun;

@@ -17,11 +17,11 @@ ghost use Rattle.dealer_node.specs.Running.{IsRunning, IsTaken, TakesPiece, IsAt
 ghost use Rattle.dealer_node.specs.Calling.{need_of};
 ghost use Rattle.dealer_node.specs.Most.{most_after, most_applied};
 
-use crate::hearing::{take_act, wait};
 use crate::limits::{TEXT_BYTES_OF_A_COMMAND, TEXTS_OF_A_COMMAND};
 use crate::made::{Made, Need};
 use crate::member::Member;
 use crate::most_shown::{MostShown, most_after};
+use crate::seat_input::{take_act, wait};
 use crate::seats::Seats;
 use crate::seen_ballot::seen_in;
 use learner::Learner;

@@ -11,10 +11,10 @@ ghost use Rattle.dealer_node.specs.Hearing.{IsSeatOf};
 ghost use Rattle.dealer_node.specs.Turned.{talks};
 ghost use Rattle.dealer_node.specs.Seated.{without_room, feeds_with, HasRoomAt, IsSeatedAt, PieceTurn};
 
-use crate::hearing::session_hears;
 use crate::lines::is_connected;
 use crate::made::Made;
 use crate::member::Member;
+use crate::seat_input::session_hears;
 use paxos_wire::Ballot;
 use seat_session::{Session, line_feeds};
 use slot_log::{Command, Table};

@@ -7,7 +7,7 @@
 //! `front` is the first slot that isn't. After `reserve` the calls with `reserved` in their names take no memory. It
 //! neither stores nor sends anything.
 //!
-//! The test `nodes_are_counted` of `part_tests` makes a quorum of three nodes, `the_window_moves` moves the front on.
+//! The test `nodes_are_counted` of `paxos_tests` makes a quorum of three nodes, `the_window_moves` moves the front on.
 //! The one fault is `slot_log::SlotFault::Conflict`, 30: another command is known at the slot; nothing has changed
 //! then.
 #![tactic(auto)]

@@ -13,7 +13,7 @@ use card_core::Deal;
 use card_core::limits::PLAYERS;
 use game_def::GameDef;
 use hand_rank::{HandValue, best_of_seven};
-use side_pots::settle_pots;
+use side_pots::settle;
 
 /// What each position wins or loses in a finished hand, in whole chips: the pots go to the best five of
 /// each player's hole cards and the board.
@@ -30,7 +30,7 @@ pub(crate) fn payoffs(game: &GameDef, play: &Play, deal: &Deal) -> ArrayVec<i64,
     let amounts = amounts(game, play);
     let folds = folds(game, play);
     let values = values(deal);
-    settle_pots(
+    settle(
         amounts.as_slice(),
         folds.as_slice(),
         &values[..game.players()],

@@ -142,7 +142,7 @@ impl<D: Disk> Store<D> {
         ensures failed { IfErr result (λ x. x.1 ≡ StoreFault.Disk → Rose (D.count disk) (D.count x.0)) }
     {
         match Store::read_from(alloc, disk, node, nodes) {
-            Ok((store, _)) => Ok(store.into_disk()),
+            Ok((store, _)) => Ok(store.close()),
             Err(refused) => Err(refused),
         }
     }
@@ -181,13 +181,13 @@ impl<D: Disk> Store<D> {
             Stage::New => Ok(self),
             Stage::Old => match self.append(&Record::Opened) {
                 Ok(()) => Ok(self),
-                Err(fault) => Err((self.into_disk(), fault)),
+                Err(fault) => Err((self.close(), fault)),
             },
         }
     }
 
     /// Hands the disk back. What the store kept stays on it.
-    pub fn into_disk(self) -> D
+    pub fn close(self) -> D
         ensures { result ≡ disk_of self }
     {
         let Store {

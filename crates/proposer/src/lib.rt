@@ -7,7 +7,7 @@
 //! slots behind, a command run, of which `most_commands` tells before how long it may be. `on_refuse` and `turn_idle`
 //! give the ballot up. It takes no memory, and neither stores nor sends anything.
 //!
-//! The test `a_window_of_64_slots` of `part_tests` walks this way. Faults: `BallotsSpent`, 70, where there is no
+//! The test `a_window_of_64_slots` of `paxos_tests` walks this way. Faults: `BallotsSpent`, 70, where there is no
 //! further round; `ProposeFault`, 71, for a slot outside the 64; nothing has changed then.
 #![tactic(auto)]
 

@@ -3,7 +3,7 @@ ghost use Rattle.std.specs.Prelude.{◌<◌};
 use crate::asserting::same;
 use card_core::Card;
 use hand_rank::{HandValue, value_of_five};
-use side_pots::settle_pots;
+use side_pots::settle;
 use std::process::Abort;
 
 /// A pair and the cards six, five and four: the higher the rank of the pair, the better the hand.
@@ -21,13 +21,13 @@ fn pair_of(rank: u8) -> HandValue
 
 /// 5, 10 and 10 chips, the first player having folded: one pot of 25.
 fn one_pot(rt: &impl Abort, twos: HandValue, kings: HandValue) {
-    let payoffs = settle_pots(&[5, 10, 10], &[true, false, false], &[twos, kings, kings]);
+    let payoffs = settle(&[5, 10, 10], &[true, false, false], &[twos, kings, kings]);
     same!(rt; payoffs.as_slice(), [-5, 3, 2].as_slice());
 }
 
 /// Pots of 450 and 1700.
 fn two_pots(rt: &impl Abort, twos: HandValue, aces: HandValue, kings: HandValue) {
-    let payoffs = settle_pots(
+    let payoffs = settle(
         &[1000, 150, 1000],
         &[false, false, false],
         &[twos, aces, kings],

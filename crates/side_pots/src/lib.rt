@@ -15,4 +15,4 @@ mod settlement;
 mod shares;
 mod winners;
 
-pub use settlement::settle_pots;
+pub use settlement::settle;

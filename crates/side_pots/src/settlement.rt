@@ -21,7 +21,7 @@ use hand_rank::HandValue;
 ///
 /// For two to ten players, amounts up to 2147483647, and a greatest amount that an unfolded player put
 /// in. The payoffs sum to zero, and nobody loses more than he put in.
-pub fn settle_pots(spent: &[u32], folded: &[bool], values: &[HandValue]) -> ArrayVec<i64, PLAYERS>
+pub fn settle(spent: &[u32], folded: &[bool], values: &[HandValue]) -> ArrayVec<i64, PLAYERS>
     requires two_players { 2 ≤ length spent.now }
     requires ten_players { length spent.now ≤ 10 }
     requires folded { length folded.now ≡ length spent.now }

@@ -12,5 +12,5 @@ returns-in-Ok-clause-made g c =
     let Q : ℕ → Type 0 = λ n. Keeps g.D.Disk (header c.self.inside.member.node n) empty_store c.in-Ok.store in
     let keeps = subst Q c.nodes.ensures.value (subst P c.node.ensures.value c.in-Ok.ensures.made) in
     let leaves = c.what_is_kept_is_left.ensures (head_of c.self.inside.member) empty_store c.in-Ok.store keeps in
-    created_at g.D.Disk c.args.self.now c.self.inside c.into_disk.result c.self.view_is c.requires c.self.invariant.blank
-    (subst (λ (d : g.row.D.Denot). Leaves g.D.Disk (head_of c.self.inside.member) empty_store empty_store d) (sym c.into_disk.ensures) leaves)
+    created_at g.D.Disk c.args.self.now c.self.inside c.close.result c.self.view_is c.requires c.self.invariant.blank
+    (subst (λ (d : g.row.D.Denot). Leaves g.D.Disk (head_of c.self.inside.member) empty_store empty_store d) (sym c.close.ensures) leaves)

@@ -63,12 +63,12 @@ returns-in-Err g c =
     let is_old = λ (head : List ℕ) (held : model.Store) (keeps : KeepsAt g.D.Disk c.args.stage head held c.args.self). subst (λ (s : Stage). KeepsAt g.D.Disk s head held c.args.self) c.in-Old.is keeps in
     record {
       keeps = λ head held keeps. tt;
-      leaves = λ head held keeps. subst (Leaves g.D.Disk head held held) (sym c.into_disk.ensures) (appended.leaves head held (is_old head held keeps));
-      during = λ head held keeps. subst (LeavesDuring g.D.Disk head held held (disk_of c.args.self)) (sym c.into_disk.ensures) (appended.any_moment head held (is_old head held keeps));
+      leaves = λ head held keeps. subst (Leaves g.D.Disk head held held) (sym c.close.ensures) (appended.leaves head held (is_old head held keeps));
+      during = λ head held keeps. subst (LeavesDuring g.D.Disk head held held (disk_of c.args.self)) (sym c.close.ensures) (appended.any_moment head held (is_old head held keeps));
       marks = λ first head records settled. tt;
       quiet = λ new. absurd (old_is_not_new c.args.stage c.in-Old.is new);
-      failed = λ is. subst (λ d. Rose (g.D.Disk.count (disk_of c.args.self)) (g.D.Disk.count d)) (sym c.into_disk.ensures) (appended.failed (ap Err is)).0;
+      failed = λ is. subst (λ d. Rose (g.D.Disk.count (disk_of c.args.self)) (g.D.Disk.count d)) (sym c.close.ensures) (appended.failed (ap Err is)).0;
       only = only_so c.in-Err.fault (λ is. appended.closed.0 (ap Err is)) (λ is. c.in-Err.ensures.memory (ap Err is)) appended.only;
-      begun = subst (λ d. g.D.Disk.begun d ≡ g.D.Disk.begun (disk_of c.args.self)) (sym c.into_disk.ensures) appended.begun;
-      counts = subst (λ d. g.D.Disk.count (disk_of c.args.self) ≤ g.D.Disk.count d) (sym c.into_disk.ensures) appended.counts;
+      begun = subst (λ d. g.D.Disk.begun d ≡ g.D.Disk.begun (disk_of c.args.self)) (sym c.close.ensures) appended.begun;
+      counts = subst (λ d. g.D.Disk.count (disk_of c.args.self) ≤ g.D.Disk.count d) (sym c.close.ensures) appended.counts;
     }
