@@ -269,8 +269,8 @@ class Process:
         peer = self.peers.get(leader)
         if self.world.by_beats:
             return
-        if peer is not None and peer.beat is not None and not peer.beat["leads"]:
-            peer.beat.update(leads=True, told=self.world.now)
+        if peer is not None and peer.beat is not None and not peer.beat["campaigns"]:
+            peer.beat.update(campaigns=True, told=self.world.now)
 
     def hand_on(self, answer):
         frames, shown, _ = answer
@@ -405,7 +405,7 @@ class Process:
         else:
             wire.close(self.number)
 
-    def on_beat(self, peer, wire, number, got, front, leads, over):
+    def on_beat(self, peer, wire, number, got, front, campaigns, over):
         if peer.wire is not wire:
             return
         now = self.world.now
@@ -414,13 +414,13 @@ class Process:
         if got in peer.sent_at:
             peer.trip = now - peer.sent_at[got]
             peer.sent_at = {k: when for k, when in peer.sent_at.items() if k > got}
-        beat = peer.beat or {"below": now, "told": now, "front": front, "leads": leads}
+        beat = peer.beat or {"below": now, "told": now, "front": front, "campaigns": campaigns}
         if beat["front"] != front or front >= self.node.front:
             beat["below"] = now
-        if beat["leads"] != leads:
+        if beat["campaigns"] != campaigns:
             beat["told"] = now
-        peer.beat = {**beat, "front": front, "leads": leads, "over": over}
-        peer.over, self.was_led = peer.over or over, self.was_led or leads
+        peer.beat = {**beat, "front": front, "campaigns": campaigns, "over": over}
+        peer.over, self.was_led = peer.over or over, self.was_led or campaigns
 
     def on_frame(self, peer, wire, message):
         if peer.wire is not wire:
@@ -492,7 +492,7 @@ class Process:
         if peer.beat is None:
             return [*words, *[0] * 6]
         beat = peer.beat
-        return [*words, 1, beat["front"], micros(beat["below"]), int(beat["leads"]), micros(beat["told"]), int(beat["over"])]
+        return [*words, 1, beat["front"], micros(beat["below"]), int(beat["campaigns"]), micros(beat["told"]), int(beat["over"])]
 
     def tick_if_due(self):
         """Asks what is due; whether the node ticks."""

@@ -30,7 +30,7 @@ SAID = {
     "122 BadHello": lambda match, node: hello(match, 2, node, mark=b"HDN2"),
     "123 OtherMatch digest": lambda match, node: hello(match, 2 if node < 2 else 1, node, digest=bytes(32)),
     "123 OtherMatch number": lambda match, node: hello(match, 2, 1 - node) if node < 2 else hello(match, 1, node),
-    "126 OutOfTurn": lambda match, node: record(2, bytes(20)),
+    "126 UnexpectedRecord": lambda match, node: record(2, bytes(20)),
 }
 
 
@@ -83,7 +83,7 @@ def half_records(seed, is_long):
 # No piece of fewer bytes is changed: less than a record, and so of no use.
 LEAST = 20
 # What comes of a change anywhere: of records, and of what goes before them.
-ANY_CHANGE = ["125 WrongCode", "120 BadLength", "121 BadKind", "124 WrongProof", "122 BadHello", "123 OtherMatch"]
+ANY_CHANGE = ["125 WrongTag", "120 BadLength", "121 BadKind", "124 WrongProof", "122 BadHello", "123 OtherMatch"]
 
 
 @contextlib.contextmanager
@@ -184,7 +184,7 @@ def changed_bytes(seed, is_long):
     dice, match = random.Random(seed), League(proxied=True, pace=PACE / 2, hands=240).begin()
     match.goes_on(20)
     for ends in ((2, 0), (0, 2), (1, 0), (0, 1)):
-        changed(match, ends, lambda piece: flipped(piece, len(piece) - 1), ["125 WrongCode", "124 WrongProof"])
+        changed(match, ends, lambda piece: flipped(piece, len(piece) - 1), ["125 WrongTag", "124 WrongProof"])
     for ends in ((2, 1), (1, 2)):
         changed(match, ends, lambda piece: flipped(piece, 5 + dice.randrange(len(piece) - 5)), ANY_CHANGE)
     match.ends()
@@ -213,7 +213,7 @@ def turned_back(seed, is_long):
     match = League(proxied=True, pace=PACE / 2, hands=240).begin()
     match.goes_on(20)
     match.ways.turned = {(2, 0), (0, 2)}
-    heard = lambda: any(f"peer {2 - node}: 125 WrongCode" in note for node in (0, 2) for note in match.notes(node))
+    heard = lambda: any(f"peer {2 - node}: 125 WrongTag" in note for node in (0, 2) for note in match.notes(node))
     waited(heard, "a note of who hears himself", match.last_notes)
     meanwhile(match, 3)
     count = joined(match, 2, 0)

@@ -1,12 +1,12 @@
 -- What is due, on values. Lengths of time are in microseconds.
 use Rattle.std.proofs.Common.{◌≡◌, ℕ, true, false, refl, inl, [], ◌∷◌, List, Option, Some, None, arith}
-use Rattle.clockwork.specs.declared.known.Beat.{Beat}
+use Rattle.clockwork.specs.declared.known.PeerReport.{PeerReport}
 use Rattle.clockwork.specs.declared.known.Link.{Link}
 use Rattle.clockwork.specs.declared.known.Link.TheVariants.{Closed, Open}
 use Rattle.clockwork.specs.declared.known.Peer.{Peer}
 use Rattle.clockwork.specs.declared.known.Known.{Known}
-use Rattle.clockwork.specs.declared.patience.Awaited.{Awaited}
-use Rattle.clockwork.specs.declared.answer.Due.TheVariants.{Tick, Nothing}
+use Rattle.clockwork.specs.declared.action_timeout.Awaited.{Awaited}
+use Rattle.clockwork.specs.declared.answer.Due.TheVariants.{Now, Nothing}
 use Rattle.clockwork.specs.declared.standing.Standing.TheVariants.{Campaigns, Fresh, Led, Lost, Idle, Follows}
 use Rattle.clockwork.specs.Waits.{left, times, doubled, again}
 use Rattle.clockwork.specs.Presence.{trip, slowest, pace_of, lag_of, soon_of, told, present, is_quorate, is_above, is_behind, can_help, one_can_help, behind_wait}
@@ -15,7 +15,7 @@ use Rattle.clockwork.specs.Helping.{lag_within, lagging, has_passed, lagging_lef
 use Rattle.clockwork.specs.Standings.{idle_since, gone_since, standing_over, standing_behind, standing_to}
 use Rattle.clockwork.specs.Work.{has_work, is_reopened, steps_by_number, steps_behind, is_untold, idle_wait, row_left, work_left}
 use Rattle.clockwork.specs.Dues.{due_in, behind_left, awaited, due_of}
-use Rattle.clockwork.specs.Patience.{is_ours, away_wait, away_left, away_due_of, HasWaitedFor, IsOrderedLongAgo}
+use Rattle.clockwork.specs.ActionTimeout.{is_ours, away_wait, away_left, away_due_of, HasWaitedFor, IsOrderedLongAgo}
 use Rattle.clockwork.specs.Laws.{LongAgo, HasWaited, IsReason, to_catch_up, for_a_peer, to_work, to_be_heard, IsLinkPast, heard_again}
 
 -- ---- waits
@@ -79,10 +79,10 @@ unfolding soon_of
 or_as_long_as_the_slowest = refl
 
 -- a peer that told this front at a second
-abbrev beat_of : ℕ → Beat
-beat_of front = record { front = front; below = 1000000; leads = false; told = 1000000; over = false }
+abbrev beat_of : ℕ → PeerReport
+beat_of front = record { front = front; below = 1000000; campaigns = false; told = 1000000; over = false }
 
-abbrev heard_at : ℕ → Option Beat → Link
+abbrev heard_at : ℕ → Option PeerReport → Link
 heard_at heard beat = Open (record { opened = 500000; heard = heard; round_trip = Some 1000; unanswered = false; beat = beat })
 
 abbrev peer_at : ℕ → Link → Peer
@@ -268,7 +268,7 @@ its_leader_is_gone : (any : Known) → standing_to (lost any) 1000000 0 ≡ Lost
 unfolding standing_to standing_behind standing_over gone_since
 its_leader_is_gone any = refl
 
-its_leader_is_silent : (any : Known) → standing_to (among_two any (heard_at 3900000 (Some (record (beat_of 7) { leads = true })))) 1000000 0 ≡ Lost 0 4900000
+its_leader_is_silent : (any : Known) → standing_to (among_two any (heard_at 3900000 (Some (record (beat_of 7) { campaigns = true })))) 1000000 0 ≡ Lost 0 4900000
 unfolding among_two standing_to standing_behind standing_over gone_since
 its_leader_is_silent any = refl
 
@@ -276,7 +276,7 @@ its_leader_told_that_it_does_not_lead : (any : Known) → standing_to (among_two
 unfolding among_two standing_to standing_behind standing_over gone_since idle_since told
 its_leader_told_that_it_does_not_lead any = refl
 
-it_follows : (any : Known) → standing_to (among_two any (heard_at 5000000 (Some (record (beat_of 7) { leads = true })))) 1000000 0 ≡ Follows 0
+it_follows : (any : Known) → standing_to (among_two any (heard_at 5000000 (Some (record (beat_of 7) { campaigns = true })))) 1000000 0 ≡ Follows 0
 unfolding among_two standing_to standing_behind standing_over gone_since idle_since told
 it_follows any = refl
 
@@ -347,7 +347,7 @@ nothing_without_work : (any : Known) → due_of (lost any) ≡ Nothing 6000000
 unfolding due_of slowest trip pace_of is_quorate present told awaited is_behind is_above has_work help_left lag_of least_left lagging_left lagging rank_as_far is_as_far due_in
 nothing_without_work any = refl
 
-a_lost_leader_is_followed_at_once : (any : Known) → due_of (record (lost any) { act_waits = true }) ≡ Tick
+a_lost_leader_is_followed_at_once : (any : Known) → due_of (record (lost any) { act_waits = true }) ≡ Now
 unfolding due_of slowest trip pace_of is_quorate present told awaited is_behind is_above has_work help_left lag_of least_left lagging_left lagging rank_as_far is_as_far due_in work_left standing_to standing_behind standing_over gone_since row_left
 a_lost_leader_is_followed_at_once any = refl
 
@@ -408,7 +408,7 @@ ten_are_left : away_due_of held ≡ Nothing 51000000
 unfolding away_due_of is_ours away_left away_wait due_in
 ten_are_left = refl
 
-it_is_played_for : away_due_of (record held { since = 30000000 }) ≡ Tick
+it_is_played_for : away_due_of (record held { since = 30000000 }) ≡ Now
 unfolding away_due_of is_ours away_left away_wait due_in
 it_is_played_for = refl
 

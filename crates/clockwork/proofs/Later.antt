@@ -5,13 +5,13 @@ use Rattle.std.proofs.lemmas.Bool.{cases_Bool, ltb-false, lt-ltb, le-ltb}
 use Rattle.std.proofs.lemmas.List.{length-map}
 use Rattle.std.proofs.lemmas.List.Sums.{count_by-le-length}
 use Rattle.clockwork.specs.declared.known.Ticks.{Ticks}
-use Rattle.clockwork.specs.declared.known.Beat.{Beat}
+use Rattle.clockwork.specs.declared.known.PeerReport.{PeerReport}
 use Rattle.clockwork.specs.declared.known.Link.{Link}
 use Rattle.clockwork.specs.declared.known.Link.TheVariants.{Closed, Open}
 use Rattle.clockwork.specs.declared.known.Peer.{Peer}
 use Rattle.clockwork.specs.declared.known.Known.{Known}
 use Rattle.clockwork.specs.declared.answer.Due.{Due}
-use Rattle.clockwork.specs.declared.answer.Due.TheVariants.{Tick}
+use Rattle.clockwork.specs.declared.answer.Due.TheVariants.{Now}
 use Rattle.clockwork.specs.declared.standing.Standing.{Standing}
 use Rattle.clockwork.specs.declared.standing.Standing.TheVariants.{Campaigns, Fresh, Led, Lost, Idle, Follows}
 use Rattle.clockwork.specs.declared.limits.TheConstants.{SHORTEST, LONGEST, STEP, LOOK, MOST_HELP, MOST_PEERS, BEHIND, ALONE}
@@ -133,10 +133,10 @@ module _ (time pace after : ℕ) (some : SHORTEST ≤ pace) (more : SHORTEST ≤
         rw not_so (rw gone (omega arith))
   ]
 
-  idle_past : (beat : Option Beat) → IsBeatPast time beat → IfSome (idle_since beat) (λ since. since ≤ time)
+  idle_past : (beat : Option PeerReport) → IsBeatPast time beat → IfSome (idle_since beat) (λ since. since ≤ time)
   unfolding idle_since
   idle_past None past = tt
-  idle_past (Some beat) past = elim (cases_Bool beat.leads) [ inl so ↦ rw so tt | inr not_so ↦ rw not_so (past.1) ]
+  idle_past (Some beat) past = elim (cases_Bool beat.campaigns) [ inl so ↦ rw so tt | inr not_so ↦ rw not_so (past.1) ]
 
   -- ---- a peer that lags
 
@@ -188,7 +188,7 @@ module _ (time pace after : ℕ) (some : SHORTEST ≤ pace) (more : SHORTEST ≤
       | inr not_so ↦ rw not_so (elim (cases_Bool (slot == front)) [ inl so ↦ rw so most | inr other ↦ rw other tt ])
     ]
 
-    lag_none : (front : ℕ) (accepted : Option ℕ) (beat : Option Beat) → IsBeatPast time beat → has_passed time (lagging pace before front accepted beat) ≡ true
+    lag_none : (front : ℕ) (accepted : Option ℕ) (beat : Option PeerReport) → IsBeatPast time beat → has_passed time (lagging pace before front accepted beat) ≡ true
         → lagging_left (time + ten_seconds) steps (lagging after lag front accepted beat) ≡ 0
     unfolding lagging has_passed
     lag_none front accepted None past passed = cc
@@ -232,7 +232,7 @@ one_of_all false second false a b c same none rest needed = elim needed [
   | inr other ↦ elim other [ inl is ↦ cc | inr help ↦ help ]
 ]
 
-tick_when : (test : Bool) (a b : Due) → test ≡ true → a ≡ Tick → (if test then a else b) ≡ Tick
+tick_when : (test : Bool) (a b : Due) → test ≡ true → a ≡ Now → (if test then a else b) ≡ Now
 tick_when true a b is tick = tick
 tick_when false a b is tick = cc
 

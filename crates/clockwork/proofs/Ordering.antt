@@ -2,14 +2,14 @@
 use Rattle.std.proofs.Common.{ℕ, ◌≡◌, ◌+◌, ◌-◌, ◌*◌, ◌<◌, ◌≤◌, true, Option, Some, None, inl, inr, refl, arith}
 use Rattle.std.specs.Prelude.{min, IfSome}
 use Rattle.std.proofs.lemmas.Bool.{cases_Bool}
-use Rattle.clockwork.specs.declared.patience.Awaited.{Awaited}
-use Rattle.clockwork.specs.declared.answer.Due.TheVariants.{Tick, Nothing}
+use Rattle.clockwork.specs.declared.action_timeout.Awaited.{Awaited}
+use Rattle.clockwork.specs.declared.answer.Due.TheVariants.{Now, Nothing}
 use Rattle.clockwork.specs.declared.limits.TheConstants.{LONGEST, STEP, LOOK}
 use Rattle.clockwork.specs.Waits.{left}
-use Rattle.clockwork.specs.Patience.{is_ours, away_wait, order_left, away_left, away_due_of, HasWaitedFor, IsOrderedLongAgo, IsOrderedInTime}
+use Rattle.clockwork.specs.ActionTimeout.{is_ours, away_wait, order_left, away_left, away_due_of, HasWaitedFor, IsOrderedLongAgo, IsOrderedInTime}
 use Rattle.clockwork.proofs.Ticking.{max_parts, none_left, tick_of_none, none_of_tick, until_of}
 
-pub order_by : (awaited : Awaited) → away_due_of awaited ≡ Tick → (is_ours awaited ≡ true) × (away_left awaited ≡ 0)
+pub order_by : (awaited : Awaited) → away_due_of awaited ≡ Now → (is_ours awaited ≡ true) × (away_left awaited ≡ 0)
 unfolding away_due_of
 order_by awaited is = elim (cases_Bool (is_ours awaited)) [
   | inl so ↦ (so, none_of_tick awaited.time (away_left awaited) (rw so at is))

@@ -7,7 +7,7 @@ use Rattle.clockwork.specs.declared.known.Ticks.{Ticks}
 use Rattle.clockwork.specs.declared.known.Peer.{Peer}
 use Rattle.clockwork.specs.declared.known.Known.{Known}
 use Rattle.clockwork.specs.declared.helping.Wait.{Wait}
-use Rattle.clockwork.specs.declared.answer.Due.TheVariants.{Tick, Nothing}
+use Rattle.clockwork.specs.declared.answer.Due.TheVariants.{Now, Nothing}
 use Rattle.clockwork.specs.declared.standing.Standing.{Standing}
 use Rattle.clockwork.specs.declared.limits.TheConstants.{SPACE, LONGEST, MOST_HELP, STEP, LOOK}
 use Rattle.clockwork.specs.Waits.{left, doubled, again, spaced}
@@ -28,11 +28,11 @@ max_parts a b none = (omega arith, omega arith)
 
 -- ---- what is due where so much is left
 
-pub tick_of_none : (time wait : ℕ) → wait ≡ 0 → due_in time wait ≡ Tick
+pub tick_of_none : (time wait : ℕ) → wait ≡ 0 → due_in time wait ≡ Now
 unfolding due_in
 tick_of_none time wait is = elim (cases_Bool (wait == 0)) [ inl so ↦ rw so refl | inr not_so ↦ absurd (eqb-false wait 0 not_so is) ]
 
-pub none_of_tick : (time wait : ℕ) → due_in time wait ≡ Tick → wait ≡ 0
+pub none_of_tick : (time wait : ℕ) → due_in time wait ≡ Now → wait ≡ 0
 unfolding due_in
 none_of_tick time wait is = elim (cases_Bool (wait == 0)) [ inl so ↦ eqb-true wait 0 so | inr not_so ↦ let none = rw not_so at is in cc ]
 
@@ -56,7 +56,7 @@ later_than_now known until is = elim (cases_Bool (quorate known)) [
 
 -- ---- a tick
 
-ticks_by : (known : Known) (pace : ℕ) → due_by known pace ≡ Tick
+ticks_by : (known : Known) (pace : ℕ) → due_by known pace ≡ Now
     → (is_quorate known.time pace known.peers.now ≡ true) × ((awaited known pace ≡ 0) × (spaced known.time known.ticks ≡ 0))
 ticks_by known pace is = elim (cases_Bool (is_quorate known.time pace known.peers.now)) [
   | inl so ↦
@@ -65,7 +65,7 @@ ticks_by known pace is = elim (cases_Bool (is_quorate known.time pace known.peer
   | inr not_so ↦ let none : LOOK ≡ 0 = none_of_tick known.time LOOK (rw not_so at is) in absurd (omega arith)
 ]
 
-pub tick_by : (known : Known) → due_of known ≡ Tick → (quorate known ≡ true) × ((awaited known (pace_in known) ≡ 0) × (spaced known.time known.ticks ≡ 0))
+pub tick_by : (known : Known) → due_of known ≡ Now → (quorate known ≡ true) × ((awaited known (pace_in known) ≡ 0) × (spaced known.time known.ticks ≡ 0))
 unfolding due_of
 tick_by known is = ticks_by known (pace_in known) is
 
@@ -160,5 +160,5 @@ reason_of_none known none = elim (cases_Bool (behind known)) [
       ]
 ]
 
-pub why_it_ticks : (known : Known) → due_of known ≡ Tick → IsReason known
+pub why_it_ticks : (known : Known) → due_of known ≡ Now → IsReason known
 why_it_ticks known is = reason_of_none known (tick_by known is).1.0

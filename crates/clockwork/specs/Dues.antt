@@ -2,7 +2,7 @@
 use Rattle.std.specs.Prelude.{ℕ, ◌+◌, ◌==◌, min, max, if◌then◌else◌}
 use Rattle.clockwork.specs.declared.known.Known.{Known}
 use Rattle.clockwork.specs.declared.answer.Due.{Due}
-use Rattle.clockwork.specs.declared.answer.Due.TheVariants.{Tick, Nothing}
+use Rattle.clockwork.specs.declared.answer.Due.TheVariants.{Now, Nothing}
 use Rattle.clockwork.specs.declared.limits.TheConstants.{LONGEST, LOOK}
 use Rattle.clockwork.specs.Waits.{left, again, spaced}
 use Rattle.clockwork.specs.Presence.{slowest, pace_of, is_quorate, is_behind, behind_wait}
@@ -12,7 +12,7 @@ use Rattle.clockwork.specs.Helping.{help_left}
 
 -- a tick where nothing is left, else the next look
 unfoldable pub due_in : ℕ → ℕ → Due
-due_in time left = if left == 0 then Tick else Nothing (time + min left LOOK)
+due_in time left = if left == 0 then Now else Nothing (time + min left LOOK)
 
 abbrev pub behind_left_by : Known → ℕ → ℕ → ℕ
 behind_left_by known pace wait =

@@ -1,7 +1,7 @@
 -- Peers that lag, and the tick that is for them: by a Prepare at this node's front they ask, and are told all.
 use Rattle.std.specs.Prelude.{ℕ, ◌+◌, ◌-◌, ◌*◌, ◌==◌, min, max, Bool, false, not, if◌then◌else◌, nat_lt, List, Option, Some, None, fold}
 use Rattle.std.specs.List.{list_any}
-use Rattle.clockwork.specs.declared.known.Beat.{Beat}
+use Rattle.clockwork.specs.declared.known.PeerReport.{PeerReport}
 use Rattle.clockwork.specs.declared.known.Peer.{Peer}
 use Rattle.clockwork.specs.declared.known.Known.{Known}
 use Rattle.clockwork.specs.declared.helping.Wait.{Wait}
@@ -21,7 +21,7 @@ waits_since since None = None
 waits_since since (Some length) = Some (record { since = since; length = length })
 
 -- the wait after which a peer lags, where one runs: it is present, its front is below the node's, and no repeat makes it ask
-unfoldable pub lagging : ℕ → ℕ → ℕ → Option ℕ → Option Beat → Option Wait
+unfoldable pub lagging : ℕ → ℕ → ℕ → Option ℕ → Option PeerReport → Option Wait
 lagging pace lag front accepted None = None
 lagging pace lag front accepted (Some beat) = if nat_lt beat.front front then waits_since beat.below (lag_within pace lag accepted beat.front) else None
 

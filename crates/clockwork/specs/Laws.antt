@@ -1,12 +1,12 @@
 -- What holds of every tick, and that each tick that is needed comes.
 use Rattle.std.specs.Prelude.{◌≡◌, ◌⊎◌, ℕ, ◌+◌, ◌-◌, ◌<◌, ◌≤◌, Bool, true, false, if◌then◌else◌, nat_lt, length, map, Option, Some, None, IfSome, All}
 use Rattle.clockwork.specs.declared.known.Ticks.{Ticks}
-use Rattle.clockwork.specs.declared.known.Beat.{Beat}
+use Rattle.clockwork.specs.declared.known.PeerReport.{PeerReport}
 use Rattle.clockwork.specs.declared.known.Link.{Link}
 use Rattle.clockwork.specs.declared.known.Link.TheVariants.{Closed, Open}
 use Rattle.clockwork.specs.declared.known.Peer.{Peer}
 use Rattle.clockwork.specs.declared.known.Known.{Known}
-use Rattle.clockwork.specs.declared.answer.Due.TheVariants.{Tick}
+use Rattle.clockwork.specs.declared.answer.Due.TheVariants.{Now}
 use Rattle.clockwork.specs.declared.limits.TheConstants.{LONGEST, MOST_HELP, MOST_PEERS}
 use Rattle.clockwork.specs.Waits.{doubled}
 use Rattle.clockwork.specs.Presence.{slowest, lag_of, is_quorate, is_behind, behind_wait}
@@ -53,7 +53,7 @@ pub data IsReason (known : Known) : Type 0 where
 -- ---- each tick that is needed
 
 -- what is known of a peer lies behind
-abbrev pub IsBeatPast : ℕ → Option Beat → Type 0
+abbrev pub IsBeatPast : ℕ → Option PeerReport → Type 0
 IsBeatPast time None = Unit {0}
 IsBeatPast time (Some beat) = (beat.below ≤ time) × (beat.told ≤ time)
 
@@ -92,4 +92,4 @@ IsNeeded known = (behind known ≡ true) ⊎ ((has_work known ≡ true) ⊎ (lag
 
 -- where a quorate node needs a tick, one is due within ten seconds
 abbrev pub ComesInTime : Known → Type 0
-ComesInTime known = length known.peers.now ≤ MOST_PEERS → IsPast known → quorate known ≡ true → IsNeeded known → due_of (later known) ≡ Tick
+ComesInTime known = length known.peers.now ≤ MOST_PEERS → IsPast known → quorate known ≡ true → IsNeeded known → due_of (later known) ≡ Now

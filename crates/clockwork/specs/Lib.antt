@@ -6,4 +6,4 @@ pub mod Standings
 pub mod Work
 pub mod Dues
 pub mod Laws
-pub mod Patience
+pub mod ActionTimeout

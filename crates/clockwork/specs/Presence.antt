@@ -1,7 +1,7 @@
 -- Who is present, and how long the slowest took.
 use Rattle.std.specs.Prelude.{ℕ, ◌+◌, ◌-◌, ◌*◌, min, max, Bool, false, not, ◌&&◌, if◌then◌else◌, nat_lt, List, length, Option, Some, None, unwrap_or, is_some, fold, count_by}
 use Rattle.std.specs.List.{list_any}
-use Rattle.clockwork.specs.declared.known.Beat.{Beat}
+use Rattle.clockwork.specs.declared.known.PeerReport.{PeerReport}
 use Rattle.clockwork.specs.declared.known.Link.{Link}
 use Rattle.clockwork.specs.declared.known.Link.TheVariants.{Closed, Open}
 use Rattle.clockwork.specs.declared.known.Peer.{Peer}
@@ -30,7 +30,7 @@ unfoldable pub soon_of : ℕ → ℕ
 soon_of slowest = min LONGEST (max STEP slowest)
 
 -- what a peer told, where it is present: its connection is open, something came over it within so long, and it told its front over it
-unfoldable pub told : ℕ → ℕ → Link → Option Beat
+unfoldable pub told : ℕ → ℕ → Link → Option PeerReport
 told time pace (Closed since) = None
 told time pace (Open connection) = if nat_lt (time - connection.heard) pace then connection.beat else None
 
@@ -43,7 +43,7 @@ unfoldable pub is_quorate : ℕ → ℕ → List Peer → Bool
 is_quorate time pace peers = nat_lt (1 + length peers) (2 * (1 + present time pace peers))
 
 -- a present peer's front is above this one
-unfoldable pub is_above : ℕ → Option Beat → Bool
+unfoldable pub is_above : ℕ → Option PeerReport → Bool
 is_above front None = false
 is_above front (Some beat) = nat_lt front beat.front
 
@@ -52,7 +52,7 @@ unfoldable pub is_behind : ℕ → ℕ → ℕ → List Peer → Bool
 is_behind time pace front peers = list_any (λ peer. is_above front (told time pace peer.link)) peers
 
 -- a present peer is ahead of this front, and its match goes on: a tick at a node whose match is over does nothing
-unfoldable pub can_help : ℕ → Option Beat → Bool
+unfoldable pub can_help : ℕ → Option PeerReport → Bool
 can_help front None = false
 can_help front (Some beat) = nat_lt front beat.front && not beat.over
 

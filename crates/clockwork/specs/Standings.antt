@@ -1,6 +1,6 @@
 -- How a node stands to the node whose ballot it has promised.
 use Rattle.std.specs.Prelude.{ℕ, ◌+◌, ◌-◌, ◌==◌, Bool, true, false, not, ◌&&◌, if◌then◌else◌, nat_lt, Option, Some, None, find}
-use Rattle.clockwork.specs.declared.known.Beat.{Beat}
+use Rattle.clockwork.specs.declared.known.PeerReport.{PeerReport}
 use Rattle.clockwork.specs.declared.known.Link.{Link}
 use Rattle.clockwork.specs.declared.known.Link.TheVariants.{Closed, Open}
 use Rattle.clockwork.specs.declared.known.Peer.{Peer}
@@ -10,9 +10,9 @@ use Rattle.clockwork.specs.declared.standing.Standing.TheVariants.{Campaigns, Fr
 use Rattle.clockwork.specs.Presence.{told}
 
 -- since when a peer has told that it doesn't campaign, where that is what it last told
-unfoldable pub idle_since : Option Beat → Option ℕ
+unfoldable pub idle_since : Option PeerReport → Option ℕ
 idle_since None = None
-idle_since (Some beat) = if beat.leads then None else Some beat.told
+idle_since (Some beat) = if beat.campaigns then None else Some beat.told
 
 -- since when a peer is known to be gone: its connection ended, or it has been silent for too long
 unfoldable pub gone_since : ℕ → ℕ → Link → Option ℕ

@@ -2,7 +2,7 @@
 #[derive(Clone, Copy, Debug, PartialEq, Eq)]
 pub enum Due {
     /// It is.
-    Tick,
+    Now,
     /// It isn't. It is asked again at this moment, whenever something came or a connection opened or ended, and with each
     /// beat.
     Nothing { until: u64 },

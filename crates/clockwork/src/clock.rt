@@ -1,5 +1,5 @@
 ghost use Rattle.std.specs.Prelude.{◌≡◌, ◌+◌, ◌≤◌, ◌<◌, ℕ, true, length};
-ghost use Rattle.clockwork.specs.declared.answer.Due.TheVariants.{Tick, Nothing};
+ghost use Rattle.clockwork.specs.declared.answer.Due.TheVariants.{Now, Nothing};
 ghost use Rattle.clockwork.specs.declared.limits.TheConstants.{SHORTEST, LONGEST, LATEST, MOST_PEERS, SPACE, LOOK};
 ghost use Rattle.clockwork.specs.Dues.{due_in, behind_left, awaited, pace_in, due_of};
 ghost use Rattle.clockwork.specs.Laws.{quorate, LongAgo, IsReason};
@@ -22,9 +22,9 @@ pub fn due(known: &Known<'_>) -> Due
     requires time { known.now.time ≤ LATEST }
     requires peers { length known.now.peers.now ≤ MOST_PEERS }
     ensures value { result ≡ due_of known.now }
-    ensures quorate { result ≡ Tick → quorate known.now ≡ true }
-    ensures reason { result ≡ Tick → IsReason known.now }
-    ensures spaced { result ≡ Tick → LongAgo known.now.time known.now.ticks SPACE }
+    ensures quorate { result ≡ Now → quorate known.now ≡ true }
+    ensures reason { result ≡ Now → IsReason known.now }
+    ensures spaced { result ≡ Now → LongAgo known.now.time known.now.ticks SPACE }
     ensures later { (until : ℕ) → result ≡ Nothing until → (known.now.time < until) × (until ≤ known.now.time + LOOK) }
 {
     due_of(known)
@@ -52,7 +52,7 @@ pub(crate) fn due_in(time: u64, left: u64) -> Due
     ensures { result ≡ due_in time left }
 {
     if left == 0 {
-        Due::Tick
+        Due::Now
     } else {
         Due::Nothing {
             until: time + left.min(LOOK),

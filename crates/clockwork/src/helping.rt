@@ -3,7 +3,7 @@ ghost use Rattle.clockwork.specs.declared.limits.TheConstants.{LONGEST, MOST_PEE
 ghost use Rattle.clockwork.specs.Presence.{told};
 ghost use Rattle.clockwork.specs.Helping.{lag_within, waits_since, lagging, lagging_left, least_left, help_left};
 
-use crate::known::{Beat, Known, Peer};
+use crate::known::{Known, Peer, PeerReport};
 use crate::limits::{LOOK, MOST_HELP, STEP};
 use crate::presence::{lag_of, slowest, told};
 use crate::ranks::rank_as_far;
@@ -59,7 +59,7 @@ fn lagging(
     lag: u64,
     front: u32,
     accepted: Option<u32>,
-    told: Option<Beat>,
+    told: Option<PeerReport>,
 ) -> Option<Wait>
     requires pace { pace ≤ LONGEST }
     requires lag { lag ≤ LONGEST }

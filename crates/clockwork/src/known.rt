@@ -68,12 +68,12 @@ pub enum Link {
     /// None is open: since the last one ended, or where there was none, since the process began.
     Closed { since: u64 },
     /// One is open.
-    Open(Connection),
+    Open(OpenLink),
 }
 
 /// What is known of an open connection.
 #[derive(Clone, Copy, Debug)]
-pub struct Connection {
+pub struct OpenLink {
     /// When it opened.
     pub opened: u64,
     /// When something last came over it; at first, when it opened.
@@ -84,19 +84,19 @@ pub struct Connection {
     /// still serve: it is of the ballot in which this node campaigns, and of no slot below the front.
     pub unanswered: bool,
     /// What the peer has told of itself, once a beat came over this connection.
-    pub beat: Option<Beat>,
+    pub beat: Option<PeerReport>,
 }
 
 /// What a peer has told of itself over an open connection.
 #[derive(Clone, Copy, Debug)]
-pub struct Beat {
+pub struct PeerReport {
     /// How many commands it has applied, by its last beat.
     pub front: u32,
     /// Since when this is what it has told while it was below this node's front, both without a break: a front that stands
     /// still while nothing goes on doesn't lag. It tells nothing where it isn't below.
     pub below: u64,
     /// It campaigns: by its last beat, or by a Prepare or an Accept that came later and that this node promised itself to.
-    pub leads: bool,
+    pub campaigns: bool,
     /// When it first told so, or that it doesn't, over this connection without having told otherwise since.
     pub told: u64,
     /// The match is over there, by its last beat.

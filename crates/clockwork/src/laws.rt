@@ -1,10 +1,10 @@
 //! What holds of what is due.
 
 ghost use Rattle.clockwork.specs.Laws.{ComesInTime};
-ghost use Rattle.clockwork.specs.Patience.{IsOrderedInTime};
+ghost use Rattle.clockwork.specs.ActionTimeout.{IsOrderedInTime};
 
+use crate::action_timeout::Awaited;
 use crate::known::Known;
-use crate::patience::Awaited;
 
 /// Where a node is quorate, and is behind, has work or has a peer that lags, a tick is due ten seconds later, if nothing
 /// else comes to be known by then but that its present peers are heard; no moment that is known may lie ahead.

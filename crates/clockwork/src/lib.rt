@@ -11,23 +11,23 @@
 //! The tests of `clockwork_lines` have the rules row by row, and `tests/processes_sim` lets simulated processes tick by them.
 #![tactic(auto)]
 
+mod action_timeout;
 mod answer;
 mod clock;
 mod helping;
 mod known;
 pub mod laws;
 pub mod limits;
-mod patience;
 mod presence;
 mod ranks;
 mod standing;
 mod waits;
 mod work;
 
+pub use action_timeout::{Awaited, away_due};
 pub use answer::Due;
 pub use clock::due;
-pub use known::{Beat, Connection, Known, Link, Peer, Ticks};
-pub use patience::{Awaited, away_due};
+pub use known::{Known, Link, OpenLink, Peer, PeerReport, Ticks};
 pub use presence::{is_behind, is_quorate, pace};
 pub use ranks::rank;
 pub use work::has_work;

@@ -4,7 +4,7 @@ ghost use Rattle.clockwork.specs.Presence.{trip, slowest, pace_of, lag_of, soon_
 ghost use Rattle.clockwork.specs.Dues.{pace_in};
 ghost use Rattle.clockwork.specs.Laws.{quorate, behind};
 
-use crate::known::{Beat, Known, Link, Peer};
+use crate::known::{Known, Link, Peer, PeerReport};
 use crate::limits::{ALONE, BEHIND, LAG, LONGEST, SHORTEST, SLACK, STEP};
 
 /// How long the last round trip to a peer took, where that was measured and something came of the peer within the longest
@@ -83,7 +83,7 @@ pub fn pace(known: &Known<'_>) -> u64
 /// What a peer told, where it is present: its connection is open, something came over it within so long, and it told its
 /// front over it.
 #[tactic(auto, unfolding(crate::specs::Presence::told))]
-pub(crate) fn told(time: u64, pace: u64, link: Link) -> Option<Beat>
+pub(crate) fn told(time: u64, pace: u64, link: Link) -> Option<PeerReport>
     ensures { result ≡ told time pace link }
 {
     match link {
@@ -128,7 +128,7 @@ pub(crate) fn is_quorate_by(time: u64, pace: u64, peers: &[Peer]) -> bool
 
 /// Whether a present peer's front is above this one.
 #[tactic(auto, unfolding(crate::specs::Presence::is_above))]
-fn is_above(front: u32, told: Option<Beat>) -> bool
+fn is_above(front: u32, told: Option<PeerReport>) -> bool
     ensures { result ≡ is_above front told }
 {
     match told {
@@ -156,7 +156,7 @@ pub(crate) fn is_behind_by(time: u64, pace: u64, front: u32, peers: &[Peer]) -> 
 /// Whether a present peer is ahead of this front and its match isn't over: a tick at a node whose match is over does
 /// nothing.
 #[tactic(auto, unfolding(crate::specs::Presence::can_help))]
-fn can_help(front: u32, told: Option<Beat>) -> bool
+fn can_help(front: u32, told: Option<PeerReport>) -> bool
     ensures { result ≡ can_help front told }
 {
     match told {

@@ -2,7 +2,7 @@ ghost use Rattle.std.specs.Prelude.{◌≡◌, ◌≤◌, length};
 ghost use Rattle.clockwork.specs.Dues.{pace_in};
 ghost use Rattle.clockwork.specs.Ranks.{turn, is_before, comes_sooner, is_as_far, rank_by_number, rank_behind, rank_as_far};
 
-use crate::known::{Beat, Known, Peer};
+use crate::known::{Known, Peer, PeerReport};
 use crate::presence::{pace, told};
 
 /// How late a node's turn comes where nodes are counted cyclically from behind a leader on.
@@ -39,7 +39,7 @@ pub fn rank(known: &Known<'_>) -> usize
 
 /// Whether a peer is present and has a lower number than this.
 #[tactic(auto, unfolding(crate::specs::Ranks::is_before))]
-fn is_before(told: Option<Beat>, peer: u8, number: u8) -> bool
+fn is_before(told: Option<PeerReport>, peer: u8, number: u8) -> bool
     ensures { result ≡ is_before told peer number }
 {
     match told {
@@ -62,7 +62,7 @@ pub(crate) fn rank_behind(time: u64, pace: u64, leader: u8, number: u8, peers: &
 
 /// Whether a peer is present and comes before this number, counted cyclically from behind a leader on.
 #[tactic(auto, unfolding(crate::specs::Ranks::comes_sooner))]
-fn comes_sooner(told: Option<Beat>, leader: u8, peer: u8, number: u8) -> bool
+fn comes_sooner(told: Option<PeerReport>, leader: u8, peer: u8, number: u8) -> bool
     ensures { result ≡ comes_sooner told leader peer number }
 {
     match told {
@@ -85,7 +85,7 @@ pub(crate) fn rank_as_far(time: u64, pace: u64, front: u32, number: u8, peers: &
 
 /// Whether a peer is present, has told this front or a greater one, and has a lower number than this.
 #[tactic(auto, unfolding(crate::specs::Ranks::is_as_far))]
-fn is_as_far(told: Option<Beat>, front: u32, peer: u8, number: u8) -> bool
+fn is_as_far(told: Option<PeerReport>, front: u32, peer: u8, number: u8) -> bool
     ensures { result ≡ is_as_far told front peer number }
 {
     match told {

@@ -2,7 +2,7 @@ ghost use Rattle.std.specs.Prelude.{◌≡◌, ◌==◌, ◌≤◌, find};
 ghost use Rattle.clockwork.specs.declared.limits.TheConstants.{SHORTEST, LONGEST, LATEST};
 ghost use Rattle.clockwork.specs.Standings.{idle_since, gone_since, standing_over, standing_behind, standing, standing_to, is_campaign, is_follower};
 
-use crate::known::{Beat, Known, Link, Peer};
+use crate::known::{Known, Link, Peer, PeerReport};
 use crate::presence::told;
 
 /// How a node stands to the node whose ballot it has promised.
@@ -24,11 +24,11 @@ pub(crate) enum Standing {
 
 /// Since when a peer has told that it doesn't campaign, where that is what it last told.
 #[tactic(auto, unfolding(crate::specs::Standings::idle_since))]
-fn idle_since(beat: Option<Beat>) -> Option<u64>
+fn idle_since(beat: Option<PeerReport>) -> Option<u64>
     ensures { result ≡ idle_since beat }
 {
     match beat {
-        Some(beat) if !beat.leads => Some(beat.told),
+        Some(beat) if !beat.campaigns => Some(beat.told),
         _ => None,
     }
 }

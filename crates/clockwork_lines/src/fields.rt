@@ -2,7 +2,7 @@ ghost use Rattle.std.specs.Prelude.{◌≤◌, ◌≡◌, length};
 ghost use Rattle.clockwork.specs.declared.limits.TheConstants.{LATEST, MOST_PEERS};
 
 use clockwork::limits::{LATEST, MOST_PEERS};
-use clockwork::{Awaited, Beat, Connection, Known, Link, Peer, Ticks};
+use clockwork::{Awaited, Known, Link, OpenLink, Peer, PeerReport, Ticks};
 use std::alloc::{AllocError, Global};
 
 /// How many words of a line tell of the process itself, and of each peer.
@@ -140,7 +140,7 @@ fn accepted_of(words: &[Option<u64>]) -> Option<u32> {
 
 fn link_of(words: &[Option<u64>]) -> Link {
     if flag(words, 2) {
-        Link::Open(Connection {
+        Link::Open(OpenLink {
             opened: number(words, 3),
             heard: number(words, 4),
             round_trip: optional(words, 5),
@@ -154,12 +154,12 @@ fn link_of(words: &[Option<u64>]) -> Link {
     }
 }
 
-fn beat_of(words: &[Option<u64>]) -> Option<Beat> {
+fn beat_of(words: &[Option<u64>]) -> Option<PeerReport> {
     if flag(words, 7) {
-        Some(Beat {
+        Some(PeerReport {
             front: small(words, 8),
             below: number(words, 9),
-            leads: flag(words, 10),
+            campaigns: flag(words, 10),
             told: number(words, 11),
             over: flag(words, 12),
         })

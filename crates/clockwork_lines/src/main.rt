@@ -3,7 +3,7 @@
 //! A line has words with one blank between: numbers, or `-` for none. The first are `time number front moved promised
 //! promised_since campaigns was_led over hand_runs act_waits work_since behind_since last in_vain last_call`, as the
 //! fields of `Known` and its `Ticks`; a flag is 0 or 1. Then come those of each peer: `number accepted open since heard
-//! round_trip unanswered told front below leads told over`; `open` tells whether a connection is open, `since` when it
+//! round_trip unanswered told front below campaigns told over`; `open` tells whether a connection is open, `since` when it
 //! opened or the last one ended, the first `told` whether a beat came.
 //!
 //! The answer is `tick`, or `nothing` and until when, and then three flags and a length of time: whether there is work,
@@ -77,7 +77,7 @@ fn print_known(rt: &impl Print, known: &Known<'_>) -> io::Result<()>
 /// Prints whether something is due.
 fn print_due(rt: &impl Print, due: Due) -> io::Result<()> {
     match due {
-        Due::Tick => rt.print("tick"),
+        Due::Now => rt.print("tick"),
         Due::Nothing { until } => print!(rt; "nothing {until}"),
     }
 }

@@ -11,7 +11,7 @@ mod check_tests;
 #[cfg(test)]
 mod hand_tests;
 #[cfg(test)]
-mod node_tests;
+mod node_command_tests;
 #[cfg(test)]
 mod play_tests;
 #[cfg(test)]

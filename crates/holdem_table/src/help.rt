@@ -235,7 +235,7 @@ and dials another one where its connection ends.
 Standard error has notes, one a line: that no key is named, where the status
 is, which node of which match begins, which peers joined or are gone, faults
 of connections, whether more than half of the nodes are here, when this one
-leads, which seats were seated or are gone, came with a wrong token, or are
+campaigns, which seats were seated or are gone, came with a wrong token, or are
 played for; with --times the time (UTC) stands before each. Nothing is printed
 on standard output.
 

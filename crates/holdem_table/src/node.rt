@@ -20,7 +20,7 @@ use node_links::Own;
 use node_peers::Peers;
 use node_runs::{NodeEnd, NodeNote, node_run};
 use node_seats::{Seats, TokenDigest};
-use node_service::{Member, NodeServer, Terms};
+use node_service::{LocalNode, NodeServer, Terms};
 use node_status::Askers;
 use node_wires::{BindFault, Failed, TcpWire};
 use peer_codes::Key;
@@ -228,7 +228,7 @@ impl<'a> Place<'a> {
         let peers = Peers::new(alloc, self.own(nodes, identity, key), &known, SHORTEST)?;
         let seats = Seats::new(alloc, players, tokens)?;
         let askers = Askers::new(alloc)?;
-        let member = Member::new(alloc, station);
+        let member = LocalNode::new(alloc, station);
         let terms = Terms {
             nodes,
             patience: patience.map(in_microseconds),

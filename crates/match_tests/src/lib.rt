@@ -5,7 +5,7 @@
 //! `serving`) is so proved once.
 //!
 //! - `samples` has the matches that are played: alice and bob, limit, one hand or two.
-//! - `peer` and `node_tests`: an order to one node of three that refuses it.
+//! - `peer` and `dealer_node_tests`: an order to one node of three that refuses it.
 //! - `rounds` and `choice_tests`: a round of all nodes of a match, and the record of it; `run_tests`: events that are given
 //!   at once, and the rest of them again where memory was wanting.
 //! - `course` and `server_tests`: a match that is served over links in memory, whose calls fail in turn, and over disks
@@ -29,11 +29,11 @@ mod choice_tests;
 #[cfg(test)]
 mod course;
 #[cfg(test)]
+mod dealer_node_tests;
+#[cfg(test)]
 mod links_tests;
 #[cfg(test)]
 mod lost_leader;
-#[cfg(test)]
-mod node_tests;
 #[cfg(test)]
 mod peer;
 #[cfg(test)]

@@ -22,9 +22,9 @@ use Rattle.peer_codes.specs.Kinds.{kind_byte}
 use Rattle.peer_codes.specs.Spelling.{enveloped, hello_text, record_text}
 use Rattle.node_links.specs.declared.own.Own.{Own}
 use Rattle.node_links.specs.declared.own.Met.{Met}
-use Rattle.node_links.specs.declared.link_fault.Mismatch.TheVariants.{Digest}
-use Rattle.node_links.specs.declared.link_fault.Whose.TheVariants as whose
-use Rattle.node_links.specs.declared.link_fault.LinkFault.TheVariants as faults
+use Rattle.node_links.specs.declared.peer_fault.Mismatch.TheVariants.{Digest}
+use Rattle.node_links.specs.declared.peer_fault.Whose.TheVariants as whose
+use Rattle.node_links.specs.declared.peer_fault.PeerFault.TheVariants as faults
 use Rattle.node_links.specs.declared.heard.Heard.TheVariants as heards
 use Rattle.node_links.specs.declared.phase.Phase.TheVariants as phases
 use Rattle.node_links.specs.declared.stage.Stage.TheVariants as stages
@@ -75,7 +75,7 @@ here_not_judged_yet = refl
 pub here_judged_when_proved : settled_stage own None here (stages.Proved theirs) ≡ stages.Closed faults.AlreadyHere
 here_judged_when_proved = refl
 
-pub store_judged_when_proved : settled_stage own None gone_back (stages.Proved theirs) ≡ stages.Closed (faults.WentBack whose.Other)
+pub store_judged_when_proved : settled_stage own None gone_back (stages.Proved theirs) ≡ stages.Closed (faults.StoreReplaced whose.Other)
 store_judged_when_proved = refl
 
 pub opens_when_proved : settled_stage own None [] (stages.Proved theirs) ≡ stages.Open theirs
@@ -96,7 +96,7 @@ proof_told = refl
 pub wrong_proof : coded_step (stages.Matched theirs) (Err channel_faults.WrongProof) ≡ closed faults.WrongProof
 wrong_proof = refl
 
-pub frame_before_it_is_open : coded_step (stages.Proved theirs) (Ok (events.Frame frame)) ≡ closed faults.OutOfTurn
+pub frame_before_it_is_open : coded_step (stages.Proved theirs) (Ok (events.Frame frame)) ≡ closed faults.UnexpectedRecord
 frame_before_it_is_open = refl
 
 pub frame_told : coded_step (stages.Open theirs) (Ok (events.Frame frame)) ≡ record { stage = stages.Open theirs; heard = Ok (heards.Frame frame) }

@@ -32,7 +32,7 @@ use Rattle.peer_codes.specs.Steps.{only_coded, greeted, front_step, step_by, ste
 use Rattle.peer_codes.specs.Telling.{ToldBy, IsGreeting, IsOpened, IsHeard}
 use Rattle.node_links.specs.declared.heard.Heard.{Heard}
 use Rattle.node_links.specs.declared.heard.Heard.TheVariants as heards
-use Rattle.node_links.specs.declared.link_fault.LinkFault.{LinkFault}
+use Rattle.node_links.specs.declared.peer_fault.PeerFault.{PeerFault}
 use Rattle.node_links.specs.declared.own.Own.{Own}
 use Rattle.node_links.specs.declared.stage.Stage.{Stage}
 use Rattle.node_links.specs.declared.stage.Stage.TheVariants as stages
@@ -43,7 +43,7 @@ use Rattle.node_links.specs.Talks.{Talk, way_behind, bytes_of, role_of, hellos_o
 use Rattle.node_links.specs.Going.{Begins, HasHello, Awaits, Proved, CodedAt, CodedOn, CodedGoes, GoesOn, Goes, peer_of, TellsFrame}
 
 abbrev Told : Type 0
-Told = Result Heard LinkFault
+Told = Result Heard PeerFault
 
 abbrev Came : Type 0
 Came = Result Event ConnectionFault
@@ -196,7 +196,7 @@ opens own talk old new theirs (Some mine) reads is said key begins (matches, gre
         hello = greeted.hello;
         hello_is = greeted.is;
         proof = front old.came.waiting;
-        proof_is = (is.came.kind_is, is.came.content_is ∙ ap (λ (p : Proof). p.code) proof);
+        proof_is = (is.came.kind_is, is.came.content_is ∙ ap (λ (p : Proof). p.tag) proof);
         said = [];
         are = tt;
         reading = ap (λ (w : Ways). w.reading) ways;
@@ -367,7 +367,7 @@ hears_says stands own talk old new frame from hears peer goes =
 none_told : (told : Told) → Some told ≡ None → ⊥
 none_told told e = absurd cc
 
-fault_told : (frame : Frame) (fault : LinkFault) → ◌≡◌ {A = Option Told} (Some (Ok (heards.Frame frame))) (Some (Err fault)) → ⊥
+fault_told : (frame : Frame) (fault : PeerFault) → ◌≡◌ {A = Option Told} (Some (Ok (heards.Frame frame))) (Some (Err fault)) → ⊥
 fault_told frame fault e = absurd cc
 
 proof_says : (stands : Stands) (own : Own) (talk : Talk) (said : Bool) (old new : CodedConnection) (frame : Frame) (from : ℕ) → HearsProof said old (Some (Ok (heards.Frame frame))) new → peer_at new.stage ≡ Some from → GoesOf own talk old

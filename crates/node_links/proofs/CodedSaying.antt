@@ -21,7 +21,7 @@ use Rattle.peer_codes.specs.Histories.{IsCoded, said_phase}
 use Rattle.peer_codes.specs.Outgoings.{unwritten}
 use Rattle.peer_codes.specs.Spelling.{record_text}
 use Rattle.peer_codes.specs.Steps.{proving}
-use Rattle.node_links.specs.declared.link_fault.LinkFault.{LinkFault}
+use Rattle.node_links.specs.declared.peer_fault.PeerFault.{PeerFault}
 use Rattle.node_links.specs.declared.own.Own.{Own}
 use Rattle.node_links.specs.declared.own.Met.{Met}
 use Rattle.node_links.specs.declared.stage.Stage.{Stage}
@@ -115,12 +115,12 @@ coded_takes old new piece waiting others own talk goes =
 
 -- ---- judging
 
-matched_goes : (own : Own) (talk : Talk) (c : Channel) (theirs : Hello) (verdict : Result (Unit {0}) LinkFault) → judged_match own talk.dialled theirs ≡ verdict → CodedOn own talk c (stages.Asked theirs)
+matched_goes : (own : Own) (talk : Talk) (c : Channel) (theirs : Hello) (verdict : Result (Unit {0}) PeerFault) → judged_match own talk.dialled theirs ≡ verdict → CodedOn own talk c (stages.Asked theirs)
     → CodedGoes own talk c (matched verdict theirs)
 matched_goes own talk c theirs (Ok done) is goes = record { key = goes.key; mine = goes.mine; begins = goes.begins; at = (is, goes.at.0, goes.at.1) }
 matched_goes own talk c theirs (Err fault) is goes = tt
 
-taken_goes : (own : Own) (met : List Met) (talk : Talk) (c : Channel) (theirs : Hello) (verdict : Result (Unit {0}) LinkFault) → judged_known own met theirs ≡ verdict → CodedOn own talk c (stages.Proved theirs)
+taken_goes : (own : Own) (met : List Met) (talk : Talk) (c : Channel) (theirs : Hello) (verdict : Result (Unit {0}) PeerFault) → judged_known own met theirs ≡ verdict → CodedOn own talk c (stages.Proved theirs)
     → CodedGoes own talk c (taken verdict theirs)
 taken_goes own met talk c theirs (Ok done) is goes = record { key = goes.key; mine = goes.mine; begins = goes.begins; at = (record { matches = goes.at.0; met = met; known = is }, goes.at.1) }
 taken_goes own met talk c theirs (Err fault) is goes = tt

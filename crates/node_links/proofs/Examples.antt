@@ -11,9 +11,9 @@ use Rattle.peer_codes.specs.declared.records.Record.TheVariants as record_of
 use Rattle.peer_codes.specs.Spelling.{record_text}
 use Rattle.node_links.specs.declared.own.Own.{Own}
 use Rattle.node_links.specs.declared.own.Met.{Met}
-use Rattle.node_links.specs.declared.link_fault.Mismatch.TheVariants.{Digest, Nodes, Number}
-use Rattle.node_links.specs.declared.link_fault.Whose.TheVariants as whose
-use Rattle.node_links.specs.declared.link_fault.LinkFault.TheVariants as faults
+use Rattle.node_links.specs.declared.peer_fault.Mismatch.TheVariants.{Digest, Nodes, Number}
+use Rattle.node_links.specs.declared.peer_fault.Whose.TheVariants as whose
+use Rattle.node_links.specs.declared.peer_fault.PeerFault.TheVariants as faults
 use Rattle.node_links.specs.declared.heard.Heard.TheVariants as heards
 use Rattle.node_links.specs.declared.phase.Phase.{Phase}
 use Rattle.node_links.specs.declared.phase.Phase.TheVariants as phases
@@ -21,7 +21,7 @@ use Rattle.node_links.specs.declared.plain_connection.PlainConnection.{PlainConn
 use Rattle.node_links.specs.declared.dial.Dial.TheVariants as dials
 use Rattle.node_links.specs.declared.dial.DialDue.TheVariants as dues
 use Rattle.node_links.specs.declared.pulse.Pulse.{Pulse}
-use Rattle.node_links.specs.Lines.{link_fault_code, link_fault_line}
+use Rattle.node_links.specs.Lines.{peer_fault_code, peer_fault_line}
 use Rattle.node_links.specs.Judging.{is_awaited, judged}
 use Rattle.node_links.specs.Steps.{closed, stepped, settled}
 use Rattle.node_links.specs.Waits.{Waits}
@@ -43,13 +43,13 @@ use Rattle.node_links.specs.Refusing.{noted, and_refused}
 
 -- ---- faults
 
-pub went_back_line : link_fault_line (faults.WentBack whose.Own) ≡ codes "127 WentBack"
-went_back_line = refl
+pub store_replaced_line : peer_fault_line (faults.StoreReplaced whose.Own) ≡ codes "127 StoreReplaced"
+store_replaced_line = refl
 
-pub other_digest_line : link_fault_line (faults.OtherMatch Digest) ≡ codes "123 OtherMatch digest"
+pub other_digest_line : peer_fault_line (faults.OtherMatch Digest) ≡ codes "123 OtherMatch digest"
 other_digest_line = refl
 
-pub bad_hello_is_122 : link_fault_code (faults.Record BadHello) ≡ 122
+pub bad_hello_is_122 : peer_fault_code (faults.Record BadHello) ≡ 122
 bad_hello_is_122 = refl
 
 -- ---- which Hello is taken: node 0 of three is called by node 1, and keeps no life of it yet
@@ -123,10 +123,10 @@ pub already_here : judged own None (met ∷ record { kept = Some (life 4); is_he
 already_here = refl
 
 -- node 1 keeps another life of node 0: it is node 0 whose store was made anew
-pub own_store_anew : judged own None known (hello_by 1 0 3 9 (Some (life 7)) Plain) ≡ Err (faults.WentBack whose.Own)
+pub own_store_anew : judged own None known (hello_by 1 0 3 9 (Some (life 7)) Plain) ≡ Err (faults.StoreReplaced whose.Own)
 own_store_anew = refl
 
-pub other_store_anew : judged own None (met ∷ record { kept = Some (life 4); is_here = false } ∷ met ∷ []) hello ≡ Err (faults.WentBack whose.Other)
+pub other_store_anew : judged own None (met ∷ record { kept = Some (life 4); is_here = false } ∷ met ∷ []) hello ≡ Err (faults.StoreReplaced whose.Other)
 other_store_anew = refl
 
 -- ---- connections
@@ -135,15 +135,15 @@ abbrev frame : Frame
 frame = record { bytes = record { items = 0 ∷ 0 ∷ 0 ∷ 6 ∷ 2 ∷ 7 ∷ 0 ∷ 0 ∷ 0 ∷ 1 ∷ [] } }
 
 abbrev beat : Beat
-beat = record { number = 1; got = 0; front = 37; leads = true; over = false; seats = 5 }
+beat = record { number = 1; got = 0; front = 37; campaigns = true; over = false; seats = 5 }
 
 pub frame_comes : stepped (phases.Open hello) (record_of.Frame frame) ≡ record { phase = phases.Open hello; heard = Ok (heards.Frame frame) }
 frame_comes = refl
 
-pub frame_before_the_hello : stepped phases.Greeting (record_of.Frame frame) ≡ closed faults.OutOfTurn
+pub frame_before_the_hello : stepped phases.Greeting (record_of.Frame frame) ≡ closed faults.UnexpectedRecord
 frame_before_the_hello = refl
 
-pub second_hello : stepped (phases.Open hello) (record_of.Hello hello) ≡ closed faults.OutOfTurn
+pub second_hello : stepped (phases.Open hello) (record_of.Hello hello) ≡ closed faults.UnexpectedRecord
 second_hello = refl
 
 -- it is refused where it is judged, so that it is answered
@@ -264,7 +264,7 @@ pub fifth_refusal : pause_after faults.WrongProof 8000000 ≡ 8000000
 fifth_refusal = refl
 
 -- a record that is none may have been an accident
-pub fault_on_the_way : pause_after faults.WrongCode 4000000 ≡ 1000000
+pub fault_on_the_way : pause_after faults.WrongTag 4000000 ≡ 1000000
 fault_on_the_way = refl
 
 -- ---- beats
@@ -278,14 +278,14 @@ beat_in_50_ms = refl
 pub beat_due : wait_of pulse 51000 ≡ 0
 beat_due = refl
 
-pub beat_has_both_numbers : beat_of pulse (record { front = 37; leads = true; over = false; seats = 5 }) ≡ record { number = 4; got = 8; front = 37; leads = true; over = false; seats = 5 }
+pub beat_has_both_numbers : beat_of pulse (record { front = 37; campaigns = true; over = false; seats = 5 }) ≡ record { number = 4; got = 8; front = 37; campaigns = true; over = false; seats = 5 }
 beat_has_both_numbers = refl
 
 -- the first beat that tells of beat 2, or of a later one, measures the way
-pub way_measured : heard_at pulse (record { number = 9; got = 2; front = 37; leads = true; over = false; seats = 5 }) 1700 ≡ record { number = 3; got = 9; told = Some 1000; probe = None; round_trip = Some 1200 }
+pub way_measured : heard_at pulse (record { number = 9; got = 2; front = 37; campaigns = true; over = false; seats = 5 }) 1700 ≡ record { number = 3; got = 9; told = Some 1000; probe = None; round_trip = Some 1200 }
 way_measured = refl
 
-pub way_not_measured : (heard_at pulse (record { number = 9; got = 1; front = 37; leads = true; over = false; seats = 5 }) 1700).round_trip ≡ None
+pub way_not_measured : (heard_at pulse (record { number = 9; got = 1; front = 37; campaigns = true; over = false; seats = 5 }) 1700).round_trip ≡ None
 way_not_measured = refl
 
 -- ---- Asks and Accepteds
@@ -395,12 +395,12 @@ other_ballot = refl
 -- ---- callers who were refused
 
 abbrev refusals : Refusals
-refusals = record { since = Some (record { count = 2; fault = faults.OutOfTurn }); noted = Some 5000 }
+refusals = record { since = Some (record { count = 2; fault = faults.UnexpectedRecord }); noted = Some 5000 }
 
 pub not_noted_yet : noted refusals 1004999 ≡ None
 not_noted_yet = refl
 
-pub noted_a_second_later : noted refusals 1005000 ≡ Some (record { count = 2; fault = faults.OutOfTurn })
+pub noted_a_second_later : noted refusals 1005000 ≡ Some (record { count = 2; fault = faults.UnexpectedRecord })
 noted_a_second_later = refl
 
 pub last_fault_told : and_refused faults.AlreadyHere refusals.since ≡ record { count = 3; fault = faults.AlreadyHere }
@@ -418,5 +418,5 @@ told_again = refl
 pub not_told_again : is_told (Some 5000) 10004999 ≡ false
 not_told_again = refl
 
-pub stores_apart : fault_place (faults.WentBack whose.Own) ≡ 9
+pub stores_apart : fault_place (faults.StoreReplaced whose.Own) ≡ 9
 stores_apart = refl

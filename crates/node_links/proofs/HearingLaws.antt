@@ -7,7 +7,7 @@ use Rattle.peer_codes.specs.declared.records.Record.TheVariants as record_of
 use Rattle.peer_codes.specs.Fits.{IsRecord}
 use Rattle.peer_codes.specs.Spelling.{record_text}
 use Rattle.peer_codes.specs.Faults.{IsPartial}
-use Rattle.node_links.specs.declared.link_fault.LinkFault.{LinkFault}
+use Rattle.node_links.specs.declared.peer_fault.PeerFault.{PeerFault}
 use Rattle.node_links.specs.declared.heard.Heard.{Heard}
 use Rattle.node_links.specs.declared.phase.Phase.{Phase}
 use Rattle.node_links.specs.declared.phase.Phase.TheVariants as phases
@@ -39,13 +39,13 @@ read_is apart bytes (Ok found) left said rest is text front =
     let same = apart found said left rest front.0 is (sym front.1 ∙ text) in
     (ap (λ (r : Record). let x : Result Record RecordFault = Ok r in x) same.0, same.1)
 
-record One (old new : PlainConnection) (other : Hello) (told : Result Heard LinkFault) (said : Record) (rest : List ℕ) : Type 0 where
+record One (old new : PlainConnection) (other : Hello) (told : Result Heard PeerFault) (said : Record) (rest : List ℕ) : Type 0 where
   pub told_is : told ≡ (on_open other said).heard
   pub phase : new.phase ≡ phases.Open other
   pub left : new.came.waiting ≡ rest
 
 -- one call on an open connection
-one_read : ToldApart → (old new : PlainConnection) (other : Hello) (told : Result Heard LinkFault) (said : Record) (rest : List ℕ) → IsSaid said → old.phase ≡ phases.Open other
+one_read : ToldApart → (old new : PlainConnection) (other : Hello) (told : Result Heard PeerFault) (said : Record) (rest : List ℕ) → IsSaid said → old.phase ≡ phases.Open other
     → old.came.waiting ≡ record_text said ++ rest → Reads old new told → One old new other told said rest
 one_read apart old new other told said rest is is_open text reads =
     let same = read_is apart old.came.waiting reads.read new.came.waiting said rest (is_record said is) text reads.front in
@@ -56,7 +56,7 @@ one_read apart old new other told said rest is is_open text reads =
       left = same.1;
     }
 
-next_reads : (phase : Phase) (other : Hello) (old new : PlainConnection) (told : Result Heard LinkFault) → phase ≡ phases.Open other → Next phase old (Some told) new → Reads old new told
+next_reads : (phase : Phase) (other : Hello) (old new : PlainConnection) (told : Result Heard PeerFault) → phase ≡ phases.Open other → Next phase old (Some told) new → Reads old new told
 next_reads phase other old new told e next = subst (λ (p : Phase). Next p old (Some told) new) e next
 
 heard : ToldApart → SaidIsHeard
@@ -68,7 +68,7 @@ heard apart old new other (said ∷ behind) rest (told ∷ more) are is_open tex
     let first : One old between other told said (texts behind ++ rest) =
     one_read apart old between other told said (texts behind ++ rest) are.0 is_open (text ∙ append_assoc (record_text said) (texts behind) rest) (next_reads old.phase other old between told is_open hears.1) in
     let others = heard apart between new other behind rest more are.1 first.phase first.left (omega (arith, count)) hears.2 in
-    (ap (λ (t : Result Heard LinkFault). t ∷ more) first.told_is ∙ ap (λ (ts : List (Result Heard LinkFault)). (on_open other said).heard ∷ ts) others.0, others.1, others.2)
+    (ap (λ (t : Result Heard PeerFault). t ∷ more) first.told_is ∙ ap (λ (ts : List (Result Heard PeerFault)). (on_open other said).heard ∷ ts) others.0, others.1, others.2)
 
 pub said_is_heard : ToldApart → SaidIsHeard
 said_is_heard apart = heard apart

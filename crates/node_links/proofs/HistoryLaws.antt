@@ -8,7 +8,7 @@ use Rattle.peer_codes.specs.declared.records.Record.{Record}
 use Rattle.peer_codes.specs.declared.records.Record.TheVariants as record_of
 use Rattle.node_links.specs.declared.own.Own.{Own}
 use Rattle.node_links.specs.declared.own.Met.{Met}
-use Rattle.node_links.specs.declared.link_fault.LinkFault.{LinkFault}
+use Rattle.node_links.specs.declared.peer_fault.PeerFault.{PeerFault}
 use Rattle.node_links.specs.declared.heard.Heard.{Heard}
 use Rattle.node_links.specs.declared.heard.Heard.TheVariants as heards
 use Rattle.node_links.specs.declared.phase.Phase.{Phase}
@@ -44,7 +44,7 @@ came_sound : (before : List Happening) (phase : Phase) (read : Result Record Rec
 came_sound before phase (Err fault) sound = tt
 came_sound before phase (Ok said) sound = stepped_sound before (Ok said) phase said refl sound
 
-opened_sound : (before : List Happening) (own : Own) (dialled : Option ℕ) (met : List Met) (hello : Hello) (verdict : Result (Unit {0}) LinkFault) → judged own dialled met hello ≡ verdict
+opened_sound : (before : List Happening) (own : Own) (dialled : Option ℕ) (met : List Met) (hello : Hello) (verdict : Result (Unit {0}) PeerFault) → judged own dialled met hello ≡ verdict
     → Happened (HelloCame hello) before → IsSound (Judged own dialled met ∷ before) (opened verdict hello)
 opened_sound before own dialled met hello (Ok done) is came = inl (is, came)
 opened_sound before own dialled met hello (Err fault) is came = tt
@@ -65,17 +65,17 @@ open_is_taken before hello e = subst (λ (phase : Phase). IsSound before phase) 
 
 -- ---- calls
 
-reads : (old : PlainConnection) (result : Option (Result Heard LinkFault)) (new : PlainConnection) → ReadsOrWaits old result new → HasRead old new
+reads : (old : PlainConnection) (result : Option (Result Heard PeerFault)) (new : PlainConnection) → ReadsOrWaits old result new → HasRead old new
 reads old None new h = inl h.1
 reads old (Some told) new h = inr (h.read, (h.front, ap (λ (c : PlainConnection). c.phase) h.others))
 
-next_by : (phase : Phase) (old : PlainConnection) (result : Option (Result Heard LinkFault)) (new : PlainConnection) → Next phase old result new → HasRead old new
+next_by : (phase : Phase) (old : PlainConnection) (result : Option (Result Heard PeerFault)) (new : PlainConnection) → Next phase old result new → HasRead old new
 next_by (phases.Asked hello) old result new h = inl h.1
 next_by (phases.Closed fault) old result new h = inl h.1
 next_by phases.Greeting old result new h = reads old result new h
 next_by (phases.Open other) old result new h = reads old result new h
 
-pub next_happens : (old new : PlainConnection) (result : Option (Result Heard LinkFault)) → Next old.phase old result new → HasRead old new
+pub next_happens : (old new : PlainConnection) (result : Option (Result Heard PeerFault)) → Next old.phase old result new → HasRead old new
 next_happens old new result h = next_by old.phase old result new h
 
 pub settle_happens : (own : Own) (dialled : Option ℕ) (met : List Met) (phase : Phase) → settled own dialled met phase ≡ phase_after phase (Judged own dialled met)
@@ -84,7 +84,7 @@ settle_happens own dialled met phase = refl
 -- ---- frames
 
 abbrev Told : Type 0
-Told = Result Heard LinkFault
+Told = Result Heard PeerFault
 
 abbrev IsOfOpen : Phase → Result Record RecordFault → Frame → Type 0
 IsOfOpen phase read frame = (read ≡ Ok (record_of.Frame frame)) × ((other : Hello) × (phase ≡ phases.Open other))

@@ -10,7 +10,7 @@ use Rattle.peer_codes.specs.Fits.{IsRecord}
 use Rattle.peer_codes.specs.Spelling.{record_text}
 use Rattle.node_links.specs.declared.heard.Heard.{Heard}
 use Rattle.node_links.specs.declared.heard.Heard.TheVariants as heards
-use Rattle.node_links.specs.declared.link_fault.LinkFault.{LinkFault}
+use Rattle.node_links.specs.declared.peer_fault.PeerFault.{PeerFault}
 use Rattle.node_links.specs.declared.own.Own.{Own}
 use Rattle.node_links.specs.declared.own.Met.{Met}
 use Rattle.node_links.specs.declared.phase.Phase.{Phase}
@@ -28,7 +28,7 @@ use Rattle.node_links.specs.Talks.{Talk, SaysPlain, SaysBy, Says}
 use Rattle.node_links.specs.Going.{PlainAt, GoesOn, GoesOnWith, GoesOnWritten, Goes, silence, peer_of, TellsFrame}
 
 abbrev Told : Type 0
-Told = Result Heard LinkFault
+Told = Result Heard PeerFault
 
 -- ---- texts
 
@@ -154,7 +154,7 @@ reads_says own dialled came old new frame from reads at peer =
 none_told : (told : Told) → Some told ≡ None → ⊥
 none_told told e = absurd cc
 
-fault_told : (frame : Frame) (fault : LinkFault) → ◌≡◌ {A = Option Told} (Some (Ok (heards.Frame frame))) (Some (Err fault)) → ⊥
+fault_told : (frame : Frame) (fault : PeerFault) → ◌≡◌ {A = Option Told} (Some (Ok (heards.Frame frame))) (Some (Err fault)) → ⊥
 fault_told frame fault e = absurd cc
 
 next_says : (own : Own) (dialled : Option ℕ) (came : List ℕ) (phase : Phase) (old new : PlainConnection) (frame : Frame) (from : ℕ) → Next phase old (Some (Ok (heards.Frame frame))) new → AtOf own dialled came old → peer_in new.phase ≡ Some from
@@ -166,7 +166,7 @@ next_says own dialled came (phases.Open other) old new frame from next at peer =
 
 -- ---- a Hello that is judged
 
-opened_at : (own : Own) (dialled : Option ℕ) (met : List Met) (came waiting : List ℕ) (hello : Hello) (verdict : Result (Unit {0}) LinkFault) → judged own dialled met hello ≡ verdict → PlainAt own dialled came waiting (phases.Asked hello)
+opened_at : (own : Own) (dialled : Option ℕ) (met : List Met) (came waiting : List ℕ) (hello : Hello) (verdict : Result (Unit {0}) PeerFault) → judged own dialled met hello ≡ verdict → PlainAt own dialled came waiting (phases.Asked hello)
     → PlainAt own dialled came waiting (opened verdict hello)
 opened_at own dialled met came waiting hello (Ok done) is at = record { is = at.is; takes = (met, is); said = []; are = tt; text = at.text }
 opened_at own dialled met came waiting hello (Err fault) is at = tt

@@ -15,8 +15,8 @@ use Rattle.peer_codes.specs.Connections as channels
 use Rattle.peer_codes.specs.Outgoings.{unwritten}
 use Rattle.node_links.specs.declared.own.Own.{Own}
 use Rattle.node_links.specs.declared.own.Met.{Met}
-use Rattle.node_links.specs.declared.link_fault.LinkFault.{LinkFault}
-use Rattle.node_links.specs.declared.link_fault.LinkFault.TheVariants as faults
+use Rattle.node_links.specs.declared.peer_fault.PeerFault.{PeerFault}
+use Rattle.node_links.specs.declared.peer_fault.PeerFault.TheVariants as faults
 use Rattle.node_links.specs.declared.heard.Heard.{Heard}
 use Rattle.node_links.specs.declared.heard.Heard.TheVariants as heards
 use Rattle.node_links.specs.declared.stage.Stage.{Stage}
@@ -29,57 +29,57 @@ use Rattle.node_links.specs.Waiting.{next_of, rest_of, has_next}
 
 -- ---- what came
 
-abbrev pub link_fault_of : ConnectionFault → LinkFault
-link_fault_of (channel_faults.Record fault) = faults.Record fault
-link_fault_of channel_faults.WrongProof = faults.WrongProof
-link_fault_of channel_faults.WrongCode = faults.WrongCode
-link_fault_of channel_faults.OutOfTurn = faults.OutOfTurn
+abbrev pub peer_fault_of : ConnectionFault → PeerFault
+peer_fault_of (channel_faults.Record fault) = faults.Record fault
+peer_fault_of channel_faults.WrongProof = faults.WrongProof
+peer_fault_of channel_faults.WrongTag = faults.WrongTag
+peer_fault_of channel_faults.UnexpectedRecord = faults.UnexpectedRecord
 
-abbrev pub closed : LinkFault → CodedStep
+abbrev pub closed : PeerFault → CodedStep
 closed fault = record { stage = stages.Closed fault; heard = Err fault }
 
 -- first of all comes a Hello, which is judged next
 abbrev pub on_greeting : Event → CodedStep
 on_greeting (events.Greeted hello) = record { stage = stages.Asked hello; heard = Ok (heards.Hello hello) }
-on_greeting events.Opened = closed faults.OutOfTurn
-on_greeting (events.Frame frame) = closed faults.OutOfTurn
-on_greeting (events.Beat beat) = closed faults.OutOfTurn
+on_greeting events.Opened = closed faults.UnexpectedRecord
+on_greeting (events.Frame frame) = closed faults.UnexpectedRecord
+on_greeting (events.Beat beat) = closed faults.UnexpectedRecord
 
 -- then the proof: what its Hello changes is judged next
 abbrev pub on_matched : Hello → Event → CodedStep
 on_matched hello events.Opened = record { stage = stages.Proved hello; heard = Ok (heards.Proved hello) }
-on_matched hello (events.Greeted other) = closed faults.OutOfTurn
-on_matched hello (events.Frame frame) = closed faults.OutOfTurn
-on_matched hello (events.Beat beat) = closed faults.OutOfTurn
+on_matched hello (events.Greeted other) = closed faults.UnexpectedRecord
+on_matched hello (events.Frame frame) = closed faults.UnexpectedRecord
+on_matched hello (events.Beat beat) = closed faults.UnexpectedRecord
 
 -- and then frames and beats
 abbrev pub on_open : Hello → Event → CodedStep
 on_open hello (events.Frame frame) = record { stage = stages.Open hello; heard = Ok (heards.Frame frame) }
 on_open hello (events.Beat beat) = record { stage = stages.Open hello; heard = Ok (heards.Beat beat) }
-on_open hello (events.Greeted other) = closed faults.OutOfTurn
-on_open hello events.Opened = closed faults.OutOfTurn
+on_open hello (events.Greeted other) = closed faults.UnexpectedRecord
+on_open hello events.Opened = closed faults.UnexpectedRecord
 
 abbrev pub on_event : Stage → Event → CodedStep
 on_event stages.Greeting event = on_greeting event
 on_event (stages.Matched hello) event = on_matched hello event
 on_event (stages.Open hello) event = on_open hello event
-on_event (stages.Asked hello) event = closed faults.OutOfTurn
-on_event (stages.Proved hello) event = closed faults.OutOfTurn
+on_event (stages.Asked hello) event = closed faults.UnexpectedRecord
+on_event (stages.Proved hello) event = closed faults.UnexpectedRecord
 on_event (stages.Closed fault) event = closed fault
 
 -- what the channel tells does, or its fault
 abbrev pub coded_step : Stage → Result Event ConnectionFault → CodedStep
 coded_step stage (Ok event) = on_event stage event
-coded_step stage (Err fault) = closed (link_fault_of fault)
+coded_step stage (Err fault) = closed (peer_fault_of fault)
 
 -- the channel tells this next, and it does what it does
-pub record Hears (old new : CodedConnection) (told : Result Heard LinkFault) : Type 0 where
+pub record Hears (old new : CodedConnection) (told : Result Heard PeerFault) : Type 0 where
   pub came : Result Event ConnectionFault
   pub next : channels.Next old.channel.phase old.channel (Some came) new.channel
   pub told_is : told ≡ (coded_step old.stage came).heard
   pub stage : new.stage ≡ (coded_step old.stage came).stage
 
-abbrev pub HearsOrWaits : CodedConnection → Option (Result Heard LinkFault) → CodedConnection → Type 0
+abbrev pub HearsOrWaits : CodedConnection → Option (Result Heard PeerFault) → CodedConnection → Type 0
 HearsOrWaits old None new = channels.Next old.channel.phase old.channel None new.channel × (new.stage ≡ old.stage)
 HearsOrWaits old (Some told) new = Hears old new told
 
@@ -88,12 +88,12 @@ abbrev pub has_said_hello : Outgoing → Bool
 has_said_hello out = length (unwritten out) == 0 && is_none out.hello
 
 -- the other's proof is read once the own Hello is written
-abbrev pub HearsProof : Bool → CodedConnection → Option (Result Heard LinkFault) → CodedConnection → Type 0
+abbrev pub HearsProof : Bool → CodedConnection → Option (Result Heard PeerFault) → CodedConnection → Type 0
 HearsProof true old result new = HearsOrWaits old result new
 HearsProof false old result new = (result ≡ None) × (new ≡ old)
 
 -- nothing is read while something waits to be judged, and a fault is told again from then on
-abbrev pub NextCoded : Stage → CodedConnection → Option (Result Heard LinkFault) → CodedConnection → Type 0
+abbrev pub NextCoded : Stage → CodedConnection → Option (Result Heard PeerFault) → CodedConnection → Type 0
 NextCoded (stages.Asked hello) old result new = (result ≡ None) × (new ≡ old)
 NextCoded (stages.Proved hello) old result new = (result ≡ None) × (new ≡ old)
 NextCoded (stages.Closed fault) old result new = (result ≡ Some (Err fault)) × (new ≡ old)
@@ -103,11 +103,11 @@ NextCoded (stages.Open hello) old result new = HearsOrWaits old result new
 
 -- ---- judging
 
-abbrev pub matched : Result (Unit {0}) LinkFault → Hello → Stage
+abbrev pub matched : Result (Unit {0}) PeerFault → Hello → Stage
 matched (Ok done) hello = stages.Matched hello
 matched (Err fault) hello = stages.Closed fault
 
-abbrev pub taken : Result (Unit {0}) LinkFault → Hello → Stage
+abbrev pub taken : Result (Unit {0}) PeerFault → Hello → Stage
 taken (Ok done) hello = stages.Open hello
 taken (Err fault) hello = stages.Closed fault
 
@@ -130,7 +130,7 @@ peer_at (stages.Proved hello) = None
 peer_at (stages.Closed fault) = None
 
 -- what closed it
-abbrev pub fault_at : Stage → Option LinkFault
+abbrev pub fault_at : Stage → Option PeerFault
 fault_at (stages.Closed fault) = Some fault
 fault_at stages.Greeting = None
 fault_at (stages.Asked hello) = None

@@ -7,7 +7,7 @@ use Rattle.peer_codes.specs.declared.records.Record.TheVariants as record_of
 use Rattle.peer_codes.specs.Fits.{IsRecord}
 use Rattle.peer_codes.specs.Spelling.{record_text}
 use Rattle.peer_codes.specs.Faults.{IsPartial, IsFaulty}
-use Rattle.node_links.specs.declared.link_fault.LinkFault.{LinkFault}
+use Rattle.node_links.specs.declared.peer_fault.PeerFault.{PeerFault}
 use Rattle.node_links.specs.declared.heard.Heard.{Heard}
 use Rattle.node_links.specs.declared.phase.Phase.{Phase}
 use Rattle.node_links.specs.declared.phase.Phase.TheVariants as phases
@@ -25,19 +25,19 @@ IsFront bytes (Ok said) rest = IsRecord said × (bytes ≡ record_text said ++ r
 IsFront bytes (Err fault) rest = IsFaulty bytes fault
 
 -- what stands in front does what a record does, and is taken
-pub record Reads (old new : PlainConnection) (told : Result Heard LinkFault) : Type 0 where
+pub record Reads (old new : PlainConnection) (told : Result Heard PeerFault) : Type 0 where
   pub read : Result Record RecordFault
   pub front : IsFront old.came.waiting read new.came.waiting
   pub told_is : told ≡ (step_by old.phase read).heard
   pub others : new ≡ record old { phase = (step_by old.phase read).phase; came = new.came }
 
 -- it waits where what stands in front isn't whole, and reads it else
-abbrev pub ReadsOrWaits : PlainConnection → Option (Result Heard LinkFault) → PlainConnection → Type 0
+abbrev pub ReadsOrWaits : PlainConnection → Option (Result Heard PeerFault) → PlainConnection → Type 0
 ReadsOrWaits old None new = IsPartial old.came.waiting × (new ≡ old)
 ReadsOrWaits old (Some told) new = Reads old new told
 
 -- nothing is read before the Hello that came is judged, and a fault is told again from then on
-abbrev pub Next : Phase → PlainConnection → Option (Result Heard LinkFault) → PlainConnection → Type 0
+abbrev pub Next : Phase → PlainConnection → Option (Result Heard PeerFault) → PlainConnection → Type 0
 Next (phases.Asked hello) old result new = (result ≡ None) × (new ≡ old)
 Next (phases.Closed fault) old result new = (result ≡ Some (Err fault)) × (new ≡ old)
 Next phases.Greeting old result new = ReadsOrWaits old result new
@@ -51,7 +51,7 @@ peer_in (phases.Asked hello) = None
 peer_in (phases.Closed fault) = None
 
 -- what closed it
-abbrev pub fault_in : Phase → Option LinkFault
+abbrev pub fault_in : Phase → Option PeerFault
 fault_in (phases.Closed fault) = Some fault
 fault_in phases.Greeting = None
 fault_in (phases.Asked hello) = None

@@ -18,7 +18,7 @@ use Rattle.peer_codes.specs.Outgoings.{unwritten}
 use Rattle.peer_codes.specs.Spelling.{record_text}
 use Rattle.peer_codes.specs.Steps.{is_coded, proving}
 use Rattle.node_links.specs.declared.own.Own.{Own}
-use Rattle.node_links.specs.declared.link_fault.LinkFault.{LinkFault}
+use Rattle.node_links.specs.declared.peer_fault.PeerFault.{PeerFault}
 use Rattle.node_links.specs.declared.heard.Heard.{Heard}
 use Rattle.node_links.specs.declared.heard.Heard.TheVariants as heards
 use Rattle.node_links.specs.declared.phase.Phase.{Phase}
@@ -190,7 +190,7 @@ OpensAs None c = Unit {0}
 OpensAs (Some hello) c = (own : Own) (talk : Talk) → Goes own talk c → ∥ Opens own hello talk ∥₁
 
 -- the fault that closed it
-abbrev pub fault_of : Connection → Option LinkFault
+abbrev pub fault_of : Connection → Option PeerFault
 fault_of (Plain c) = fault_in c.phase
 fault_of (Coded c) = fault_at c.stage
 
@@ -200,7 +200,7 @@ IsOfKey None link = Unit {0}
 IsOfKey (Some key) link = is_coded link ≡ true
 
 -- a frame that a connection tells is one that came as it has to
-abbrev pub TellsFrame : Option (Result Heard LinkFault) → Connection → Connection → Type 0
+abbrev pub TellsFrame : Option (Result Heard PeerFault) → Connection → Connection → Type 0
 TellsFrame None old new = Unit {0}
 TellsFrame (Some (Err fault)) old new = Unit {0}
 TellsFrame (Some (Ok (heards.Hello hello))) old new = Unit {0}

@@ -5,7 +5,7 @@ use Rattle.peer_codes.specs.declared.records.Record.{Record}
 use Rattle.peer_codes.specs.declared.records.Record.TheVariants as record_of
 use Rattle.peer_codes.specs.Fits.{IsRecord}
 use Rattle.peer_codes.specs.Spelling.{record_text}
-use Rattle.node_links.specs.declared.link_fault.LinkFault.{LinkFault}
+use Rattle.node_links.specs.declared.peer_fault.PeerFault.{PeerFault}
 use Rattle.node_links.specs.declared.heard.Heard.{Heard}
 use Rattle.node_links.specs.declared.phase.Phase.TheVariants as phases
 use Rattle.node_links.specs.declared.plain_connection.PlainConnection.{PlainConnection}
@@ -13,7 +13,7 @@ use Rattle.node_links.specs.Steps.{on_open}
 use Rattle.node_links.specs.Connections.{Next}
 
 -- what so many calls told, and how they left the connection
-abbrev pub Hears : PlainConnection → List (Result Heard LinkFault) → PlainConnection → Type 0
+abbrev pub Hears : PlainConnection → List (Result Heard PeerFault) → PlainConnection → Type 0
 Hears old [] new = new ≡ old
 Hears old (told ∷ more) new = (between : PlainConnection) × Next old.phase old (Some told) between × Hears between more new
 
@@ -34,12 +34,12 @@ texts [] = []
 texts (said ∷ more) = record_text said ++ texts more
 
 -- what an open connection tells of them
-abbrev pub told_of : Hello → List Record → List (Result Heard LinkFault)
+abbrev pub told_of : Hello → List Record → List (Result Heard PeerFault)
 told_of other [] = []
 told_of other (said ∷ more) = (on_open other said).heard ∷ told_of other more
 
 -- frames and beats whose texts came, on a connection that is open, come as they were said, in order, whatever stands behind
 abbrev pub SaidIsHeard : Type 0
-SaidIsHeard = (old new : PlainConnection) (other : Hello) (said : List Record) (rest : List ℕ) (told : List (Result Heard LinkFault)) → AreSaid said
+SaidIsHeard = (old new : PlainConnection) (other : Hello) (said : List Record) (rest : List ℕ) (told : List (Result Heard PeerFault)) → AreSaid said
     → old.phase ≡ phases.Open other → old.came.waiting ≡ texts said ++ rest → length told ≡ length said → Hears old told new
     → (told ≡ told_of other said) × (new.phase ≡ phases.Open other) × (new.came.waiting ≡ rest)

@@ -9,10 +9,10 @@ use Rattle.peer_codes.specs.declared.hello.Hello.{Hello}
 use Rattle.peer_codes.specs.declared.fault.RecordFault.TheVariants.{BadHello}
 use Rattle.node_links.specs.declared.own.Own.{Own}
 use Rattle.node_links.specs.declared.own.Met.{Met}
-use Rattle.node_links.specs.declared.link_fault.Mismatch.TheVariants.{Digest, Nodes, Number}
-use Rattle.node_links.specs.declared.link_fault.Whose.TheVariants as whose
-use Rattle.node_links.specs.declared.link_fault.LinkFault.{LinkFault}
-use Rattle.node_links.specs.declared.link_fault.LinkFault.TheVariants as faults
+use Rattle.node_links.specs.declared.peer_fault.Mismatch.TheVariants.{Digest, Nodes, Number}
+use Rattle.node_links.specs.declared.peer_fault.Whose.TheVariants as whose
+use Rattle.node_links.specs.declared.peer_fault.PeerFault.{PeerFault}
+use Rattle.node_links.specs.declared.peer_fault.PeerFault.TheVariants as faults
 
 -- of a connection with codes
 abbrev pub is_coded : Link → Bool
@@ -37,15 +37,15 @@ abbrev pub met_at : List Met → ℕ → Met
 met_at met number = get_or met number unmet
 
 -- of a node of this match
-abbrev pub judged_node : Own → Met → Hello → Result (Unit {0}) LinkFault
+abbrev pub judged_node : Own → Met → Hello → Result (Unit {0}) PeerFault
 judged_node own known hello =
     if known.is_here then Err faults.AlreadyHere
-    else (if is_other hello.kept own.life then Err (faults.WentBack whose.Own)
-    else (if is_other known.kept hello.life then Err (faults.WentBack whose.Other)
+    else (if is_other hello.kept own.life then Err (faults.StoreReplaced whose.Own)
+    else (if is_other known.kept hello.life then Err (faults.StoreReplaced whose.Other)
     else Ok tt))
 
 -- of this match, of as many nodes, and of the node that was to speak
-abbrev pub judged_match : Own → Option ℕ → Hello → Result (Unit {0}) LinkFault
+abbrev pub judged_match : Own → Option ℕ → Hello → Result (Unit {0}) PeerFault
 judged_match own dialled hello =
     if not (bytes_eq hello.digest.bytes own.digest.bytes) then Err (faults.OtherMatch Digest)
     else (if not (hello.ends.nodes == own.nodes) then Err (faults.OtherMatch Nodes)
@@ -53,15 +53,15 @@ judged_match own dialled hello =
     else Ok tt))
 
 -- and then as the node that it is
-abbrev pub judged_known : Own → List Met → Hello → Result (Unit {0}) LinkFault
+abbrev pub judged_known : Own → List Met → Hello → Result (Unit {0}) PeerFault
 judged_known own met hello = judged_node own (met_at met hello.ends.from) hello
 
-abbrev pub both : Result (Unit {0}) LinkFault → Result (Unit {0}) LinkFault → Result (Unit {0}) LinkFault
+abbrev pub both : Result (Unit {0}) PeerFault → Result (Unit {0}) PeerFault → Result (Unit {0}) PeerFault
 both (Err fault) next = Err fault
 both (Ok done) next = next
 
 -- on a connection without codes both at once
-abbrev pub judged : Own → Option ℕ → List Met → Hello → Result (Unit {0}) LinkFault
+abbrev pub judged : Own → Option ℕ → List Met → Hello → Result (Unit {0}) PeerFault
 judged own dialled met hello =
     if is_coded hello.link then Err (faults.Record BadHello)
     else both (judged_match own dialled hello) (judged_known own met hello)

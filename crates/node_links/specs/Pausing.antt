@@ -1,22 +1,22 @@
 -- How long a peer isn't dialled that refuses this node, or is refused.
 use Rattle.std.specs.Prelude.{ℕ, ◌*◌, nat_lt, nat_le, Bool, true, false, if◌then◌else◌}
 use Rattle.node_links.specs.declared.limits.TheConstants.{REFUSED, LONGEST}
-use Rattle.node_links.specs.declared.link_fault.LinkFault.{LinkFault}
-use Rattle.node_links.specs.declared.link_fault.LinkFault.TheVariants as faults
+use Rattle.node_links.specs.declared.peer_fault.PeerFault.{PeerFault}
+use Rattle.node_links.specs.declared.peer_fault.PeerFault.TheVariants as faults
 
 -- it stays so until somebody changes a file or a process ends
-abbrev pub is_standing : LinkFault → Bool
+abbrev pub is_standing : PeerFault → Bool
 is_standing (faults.Record fault) = false
 is_standing (faults.OtherMatch what) = true
 is_standing faults.WrongProof = true
-is_standing faults.WrongCode = false
-is_standing faults.OutOfTurn = false
-is_standing (faults.WentBack whose) = true
+is_standing faults.WrongTag = false
+is_standing faults.UnexpectedRecord = false
+is_standing (faults.StoreReplaced whose) = true
 is_standing faults.AlreadyHere = true
 
 -- twice as long as the last one, from REFUSED to LONGEST; 0 stands for none
 abbrev pub longer : ℕ → ℕ
 longer last = if nat_lt last REFUSED then REFUSED else (if nat_le LONGEST (last * 2) then LONGEST else last * 2)
 
-abbrev pub pause_after : LinkFault → ℕ → ℕ
+abbrev pub pause_after : PeerFault → ℕ → ℕ
 pause_after fault last = if is_standing fault then longer last else REFUSED

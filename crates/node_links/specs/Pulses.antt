@@ -2,7 +2,7 @@
 use Rattle.std.specs.Prelude.{ℕ, ◌+◌, ◌-◌, nat_le, min, if◌then◌else◌, Option, Some, None}
 use Rattle.peer_codes.specs.declared.beat.Beat.{Beat}
 use Rattle.node_links.specs.declared.limits.TheConstants.{BEAT}
-use Rattle.node_links.specs.declared.pulse.Told.{Told}
+use Rattle.node_links.specs.declared.pulse.OwnReport.{OwnReport}
 use Rattle.node_links.specs.declared.pulse.Probe.{Probe}
 use Rattle.node_links.specs.declared.pulse.Pulse.{Pulse}
 
@@ -19,8 +19,8 @@ abbrev pub next_number : Pulse → ℕ
 next_number p = min 4294967295 (p.number + 1)
 
 -- a beat has the next number, and the number of the last that came
-abbrev pub beat_of : Pulse → Told → Beat
-beat_of p told = record { number = next_number p; got = p.got; front = told.front; leads = told.leads; over = told.over; seats = told.seats }
+abbrev pub beat_of : Pulse → OwnReport → Beat
+beat_of p told = record { number = next_number p; got = p.got; front = told.front; campaigns = told.campaigns; over = told.over; seats = told.seats }
 
 -- the one whose answer is awaited already, or else the one that is told now
 abbrev pub probe_at : Option Probe → ℕ → ℕ → Option Probe

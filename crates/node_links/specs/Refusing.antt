@@ -1,12 +1,12 @@
 -- The callers who were refused and aren't known, for notes.
 use Rattle.std.specs.Prelude.{ℕ, ◌+◌, ◌-◌, nat_le, min, Bool, true, if◌then◌else◌, Option, Some, None}
 use Rattle.node_links.specs.declared.limits.TheConstants.{NOTED}
-use Rattle.node_links.specs.declared.link_fault.LinkFault.{LinkFault}
+use Rattle.node_links.specs.declared.peer_fault.PeerFault.{PeerFault}
 use Rattle.node_links.specs.declared.refusals.Refused.{Refused}
 use Rattle.node_links.specs.declared.refusals.Refusals.{Refusals}
 
 -- they are counted as far as four bytes hold, and the last one's fault is told
-abbrev pub and_refused : LinkFault → Option Refused → Refused
+abbrev pub and_refused : PeerFault → Option Refused → Refused
 and_refused fault None = record { count = 1; fault = fault }
 and_refused fault (Some refused) = record { count = min 4294967295 (refused.count + 1); fault = fault }
 

@@ -6,8 +6,8 @@ use Rattle.peer_codes.specs.declared.records.Record.{Record}
 use Rattle.peer_codes.specs.declared.records.Record.TheVariants as record_of
 use Rattle.node_links.specs.declared.own.Own.{Own}
 use Rattle.node_links.specs.declared.own.Met.{Met}
-use Rattle.node_links.specs.declared.link_fault.LinkFault.{LinkFault}
-use Rattle.node_links.specs.declared.link_fault.LinkFault.TheVariants as faults
+use Rattle.node_links.specs.declared.peer_fault.PeerFault.{PeerFault}
+use Rattle.node_links.specs.declared.peer_fault.PeerFault.TheVariants as faults
 use Rattle.node_links.specs.declared.heard.Heard.TheVariants as heards
 use Rattle.node_links.specs.declared.phase.Phase.{Phase}
 use Rattle.node_links.specs.declared.phase.Phase.TheVariants as phases
@@ -15,7 +15,7 @@ use Rattle.node_links.specs.declared.step.Step.{Step}
 use Rattle.node_links.specs.Judging.{judged}
 
 -- the fault closes the connection
-abbrev pub closed : LinkFault → Step
+abbrev pub closed : PeerFault → Step
 closed fault = record { phase = phases.Closed fault; heard = Err fault }
 
 -- the other's Hello is judged next
@@ -25,21 +25,21 @@ greeted hello = record { phase = phases.Asked hello; heard = Ok (heards.Hello he
 -- first of all comes a Hello
 abbrev pub on_greeting : Record → Step
 on_greeting (record_of.Hello hello) = greeted hello
-on_greeting (record_of.Proof proof) = closed faults.OutOfTurn
-on_greeting (record_of.Frame frame) = closed faults.OutOfTurn
-on_greeting (record_of.Beat beat) = closed faults.OutOfTurn
+on_greeting (record_of.Proof proof) = closed faults.UnexpectedRecord
+on_greeting (record_of.Frame frame) = closed faults.UnexpectedRecord
+on_greeting (record_of.Beat beat) = closed faults.UnexpectedRecord
 
 -- and then frames and beats
 abbrev pub on_open : Hello → Record → Step
 on_open other (record_of.Frame frame) = record { phase = phases.Open other; heard = Ok (heards.Frame frame) }
 on_open other (record_of.Beat beat) = record { phase = phases.Open other; heard = Ok (heards.Beat beat) }
-on_open other (record_of.Hello hello) = closed faults.OutOfTurn
-on_open other (record_of.Proof proof) = closed faults.OutOfTurn
+on_open other (record_of.Hello hello) = closed faults.UnexpectedRecord
+on_open other (record_of.Proof proof) = closed faults.UnexpectedRecord
 
 -- what a record does
 abbrev pub stepped : Phase → Record → Step
 stepped phases.Greeting said = on_greeting said
-stepped (phases.Asked hello) said = closed faults.OutOfTurn
+stepped (phases.Asked hello) said = closed faults.UnexpectedRecord
 stepped (phases.Open other) said = on_open other said
 stepped (phases.Closed fault) said = closed fault
 
@@ -48,7 +48,7 @@ abbrev pub step_by : Phase → Result Record RecordFault → Step
 step_by phase (Ok said) = stepped phase said
 step_by phase (Err fault) = closed (faults.Record fault)
 
-abbrev pub opened : Result (Unit {0}) LinkFault → Hello → Phase
+abbrev pub opened : Result (Unit {0}) PeerFault → Hello → Phase
 opened (Ok done) hello = phases.Open hello
 opened (Err fault) hello = phases.Closed fault
 

@@ -11,7 +11,7 @@ use Rattle.peer_codes.specs.declared.records.Record.TheVariants as record_of
 use Rattle.peer_codes.specs.declared.role.Role.{Role}
 use Rattle.peer_codes.specs.declared.role.Role.TheVariants.{Caller, Called}
 use Rattle.peer_codes.specs.declared.way.Way.{Way}
-use Rattle.peer_codes.specs.Codes.{proof_code, way_of, after, covered}
+use Rattle.peer_codes.specs.Codes.{proof_tag, way_of, after, covered}
 use Rattle.peer_codes.specs.Faults.{kind_in}
 use Rattle.peer_codes.specs.Fits.{IsRecord}
 use Rattle.peer_codes.specs.Histories.{across, IsCoded}
@@ -94,7 +94,7 @@ their_way key role mine theirs = way_of key.bytes (across role) (hellos_of role 
 
 -- what the other says to prove itself
 abbrev pub their_proof : Key → Role → Hello → Hello → List ℕ
-their_proof key role mine theirs = proof_code key.bytes (across role) (hellos_of role mine theirs)
+their_proof key role mine theirs = proof_tag key.bytes (across role) (hellos_of role mine theirs)
 
 -- what was written begins with the whole of this Hello
 abbrev pub IsWritten : Hello → List ℕ → Type 0

@@ -11,9 +11,9 @@ ghost use Rattle.peer_codes.specs.declared.records.Record.TheVariants as record_
 
 use crate::coded_step::{CodedStep, coded_step, settled_stage};
 use crate::heard::Heard;
-use crate::link_fault::LinkFault;
 use crate::outbox::Outbox;
 use crate::own::{Met, Own};
+use crate::peer_fault::PeerFault;
 use crate::stage::Stage;
 use peer_codes::limits::LEAST_FRAME;
 use peer_codes::{Connection as Channel, Frame, Hello, Key, Record};
@@ -73,7 +73,7 @@ impl CodedConnection {
     }
 
     /// What the channel tells next.
-    fn hear(&mut self) -> Option<Result<Heard, LinkFault>>
+    fn hear(&mut self) -> Option<Result<Heard, PeerFault>>
         ensures { HearsOrWaits self.old result self.new }
     {
         let came = self.channel.next()?;
@@ -83,7 +83,7 @@ impl CodedConnection {
     }
 
     /// The same where the other's proof comes next, which is over both Hellos: so not before this side's own is written.
-    fn hear_proof(&mut self) -> Option<Result<Heard, LinkFault>>
+    fn hear_proof(&mut self) -> Option<Result<Heard, PeerFault>>
         ensures { HearsProof (has_said_hello self.old.channel.out) self.old result self.new }
     {
         if !self.channel.has_said_hello() {
@@ -97,7 +97,7 @@ impl CodedConnection {
     /// `None` where the record in front isn't whole, while something waits to be judged, while the Hello that came isn't
     /// answered, and while this side's own Hello isn't wholly written, or anything behind it before the other's proof came. The
     /// fault is that of the channel: 120 to 122, 124, 125 or 126.
-    pub fn next(&mut self) -> Option<Result<Heard, LinkFault>>
+    pub fn next(&mut self) -> Option<Result<Heard, PeerFault>>
         ensures { NextCoded self.old.stage self.old result self.new }
     {
         match self.stage {
@@ -155,7 +155,7 @@ impl CodedConnection {
     }
 
     /// The fault that closed the connection, if one did.
-    pub fn fault(&self) -> Option<LinkFault>
+    pub fn fault(&self) -> Option<PeerFault>
         ensures { result ≡ fault_at self.now.stage }
     {
         match self.stage {

@@ -1,12 +1,12 @@
 //! What an event of a channel with codes does to a connection, and how the Hello that came is judged.
 
 ghost use Rattle.std.specs.Prelude.{◌≡◌};
-ghost use Rattle.node_links.specs.Coding.{link_fault_of, closed, on_greeting, on_matched, on_open, on_event, coded_step, matched, taken, settled_stage};
+ghost use Rattle.node_links.specs.Coding.{peer_fault_of, closed, on_greeting, on_matched, on_open, on_event, coded_step, matched, taken, settled_stage};
 
 use crate::heard::Heard;
 use crate::judging::{judge_known, judge_match};
-use crate::link_fault::LinkFault;
 use crate::own::{Met, Own};
+use crate::peer_fault::PeerFault;
 use crate::stage::Stage;
 use peer_codes::{ConnectionFault, Event, Hello};
 
@@ -14,23 +14,23 @@ use peer_codes::{ConnectionFault, Event, Hello};
 #[derive(Drop)]
 pub(crate) struct CodedStep {
     pub(crate) stage: Stage,
-    pub(crate) heard: Result<Heard, LinkFault>,
+    pub(crate) heard: Result<Heard, PeerFault>,
 }
 
 /// The fault of a channel as one of a connection.
-fn link_fault_of(fault: ConnectionFault) -> LinkFault
-    ensures { result ≡ link_fault_of fault }
+fn peer_fault_of(fault: ConnectionFault) -> PeerFault
+    ensures { result ≡ peer_fault_of fault }
 {
     match fault {
-        ConnectionFault::Record(fault) => LinkFault::Record(fault),
-        ConnectionFault::WrongProof => LinkFault::WrongProof,
-        ConnectionFault::WrongCode => LinkFault::WrongCode,
-        ConnectionFault::OutOfTurn => LinkFault::OutOfTurn,
+        ConnectionFault::Record(fault) => PeerFault::Record(fault),
+        ConnectionFault::WrongProof => PeerFault::WrongProof,
+        ConnectionFault::WrongTag => PeerFault::WrongTag,
+        ConnectionFault::UnexpectedRecord => PeerFault::UnexpectedRecord,
     }
 }
 
 /// The fault closes the connection.
-fn closed(fault: LinkFault) -> CodedStep
+fn closed(fault: PeerFault) -> CodedStep
     ensures { result ≡ closed fault }
 {
     CodedStep {
@@ -48,9 +48,9 @@ fn on_greeting(event: Event) -> CodedStep
             stage: Stage::Asked(hello),
             heard: Ok(Heard::Hello(hello)),
         },
-        Event::Opened => closed(LinkFault::OutOfTurn),
-        Event::Frame(_) => closed(LinkFault::OutOfTurn),
-        Event::Beat(_) => closed(LinkFault::OutOfTurn),
+        Event::Opened => closed(PeerFault::UnexpectedRecord),
+        Event::Frame(_) => closed(PeerFault::UnexpectedRecord),
+        Event::Beat(_) => closed(PeerFault::UnexpectedRecord),
     }
 }
 
@@ -63,9 +63,9 @@ fn on_matched(hello: Hello, event: Event) -> CodedStep
             stage: Stage::Proved(hello),
             heard: Ok(Heard::Proved(hello)),
         },
-        Event::Greeted(_) => closed(LinkFault::OutOfTurn),
-        Event::Frame(_) => closed(LinkFault::OutOfTurn),
-        Event::Beat(_) => closed(LinkFault::OutOfTurn),
+        Event::Greeted(_) => closed(PeerFault::UnexpectedRecord),
+        Event::Frame(_) => closed(PeerFault::UnexpectedRecord),
+        Event::Beat(_) => closed(PeerFault::UnexpectedRecord),
     }
 }
 
@@ -82,8 +82,8 @@ fn on_open(hello: Hello, event: Event) -> CodedStep
             stage: Stage::Open(hello),
             heard: Ok(Heard::Beat(beat)),
         },
-        Event::Greeted(_) => closed(LinkFault::OutOfTurn),
-        Event::Opened => closed(LinkFault::OutOfTurn),
+        Event::Greeted(_) => closed(PeerFault::UnexpectedRecord),
+        Event::Opened => closed(PeerFault::UnexpectedRecord),
     }
 }
 
@@ -95,8 +95,8 @@ fn on_event(stage: Stage, event: Event) -> CodedStep
         Stage::Greeting => on_greeting(event),
         Stage::Matched(hello) => on_matched(hello, event),
         Stage::Open(hello) => on_open(hello, event),
-        Stage::Asked(_) => closed(LinkFault::OutOfTurn),
-        Stage::Proved(_) => closed(LinkFault::OutOfTurn),
+        Stage::Asked(_) => closed(PeerFault::UnexpectedRecord),
+        Stage::Proved(_) => closed(PeerFault::UnexpectedRecord),
         Stage::Closed(fault) => closed(fault),
     }
 }
@@ -107,12 +107,12 @@ pub(crate) fn coded_step(stage: Stage, came: Result<Event, ConnectionFault>) -> 
 {
     match came {
         Ok(event) => on_event(stage, event),
-        Err(fault) => closed(link_fault_of(fault)),
+        Err(fault) => closed(peer_fault_of(fault)),
     }
 }
 
 /// The other's Hello is one of this match, or isn't taken.
-fn matched(verdict: Result<(), LinkFault>, hello: Hello) -> Stage
+fn matched(verdict: Result<(), PeerFault>, hello: Hello) -> Stage
     ensures { result ≡ matched verdict hello }
 {
     match verdict {
@@ -122,7 +122,7 @@ fn matched(verdict: Result<(), LinkFault>, hello: Hello) -> Stage
 }
 
 /// The other's Hello is taken, or isn't.
-fn taken(verdict: Result<(), LinkFault>, hello: Hello) -> Stage
+fn taken(verdict: Result<(), PeerFault>, hello: Hello) -> Stage
     ensures { result ≡ taken verdict hello }
 {
     match verdict {

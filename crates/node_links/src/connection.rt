@@ -6,9 +6,9 @@ ghost use Rattle.node_links.specs.Going.{Goes, GoesOn, GoesOnWith, GoesOnWritten
 
 use crate::coded_connection::CodedConnection;
 use crate::heard::Heard;
-use crate::link_fault::LinkFault;
 use crate::outbox::Outbox;
 use crate::own::{Met, Own};
+use crate::peer_fault::PeerFault;
 use crate::plain_connection::PlainConnection;
 use peer_codes::{Hello, Key, Link, calls_happen, events_stand_in_front};
 use std::alloc::{AllocError, Global};
@@ -79,7 +79,7 @@ impl Connection {
     /// `None` where the record in front isn't whole, and while something waits to be judged or answered. A frame came from the
     /// node at the other end: without codes behind its Hello; with them as the next coded record of its way, behind both
     /// Hellos and its proof.
-    pub fn next(&mut self) -> Option<Result<Heard, LinkFault>>
+    pub fn next(&mut self) -> Option<Result<Heard, PeerFault>>
         ensures goes { GoesOn self.old self.new }
         ensures frame { TellsFrame result self.old self.new }
     {
@@ -138,7 +138,7 @@ impl Connection {
     }
 
     /// The fault that closed the connection, if one did.
-    pub fn fault(&self) -> Option<LinkFault>
+    pub fn fault(&self) -> Option<PeerFault>
         ensures { result ≡ fault_of self.now }
     {
         match self {

@@ -4,8 +4,8 @@ ghost use Rattle.std.specs.Prelude.{◌≡◌};
 ghost use Rattle.std.specs.Str.{bytes_eq};
 ghost use Rattle.node_links.specs.Judging.{is_coded, is_awaited, is_other, met_at, judged_node, judged_match, judged_known, judged};
 
-use crate::link_fault::{LinkFault, Mismatch, Whose};
 use crate::own::{Met, Own};
+use crate::peer_fault::{Mismatch, PeerFault, Whose};
 use peer_codes::{Ends, Hello, Life, Link, RecordFault};
 
 fn is_same(bytes: &[u8], others: &[u8]) -> bool
@@ -59,17 +59,17 @@ fn met_at(met: &[Met], number: u8) -> Met
 }
 
 /// Judges the Hello of a node of this match of which this is known.
-fn judge_node(own: &Own, known: Met, hello: &Hello) -> Result<(), LinkFault>
+fn judge_node(own: &Own, known: Met, hello: &Hello) -> Result<(), PeerFault>
     ensures { result ≡ judged_node own.now known hello.now }
 {
     if known.is_here {
-        return Err(LinkFault::AlreadyHere);
+        return Err(PeerFault::AlreadyHere);
     }
     if is_other(hello.kept, own.life) {
-        return Err(LinkFault::WentBack(Whose::Own));
+        return Err(PeerFault::StoreReplaced(Whose::Own));
     }
     if is_other(known.kept, hello.life) {
-        return Err(LinkFault::WentBack(Whose::Other));
+        return Err(PeerFault::StoreReplaced(Whose::Other));
     }
     Ok(())
 }
@@ -77,25 +77,25 @@ fn judge_node(own: &Own, known: Met, hello: &Hello) -> Result<(), LinkFault>
 /// Judges what a Hello says of the match and of who speaks to whom, where this node dialled that one, or else was dialled.
 ///
 /// The fault is 123 `OtherMatch`, by the first of: the digest, the count of nodes, the numbers.
-pub(crate) fn judge_match(own: &Own, dialled: Option<u8>, hello: &Hello) -> Result<(), LinkFault>
+pub(crate) fn judge_match(own: &Own, dialled: Option<u8>, hello: &Hello) -> Result<(), PeerFault>
     ensures { result ≡ judged_match own.now dialled hello.now }
 {
     if !is_same(&hello.digest.bytes, &own.digest.bytes) {
-        return Err(LinkFault::OtherMatch(Mismatch::Digest));
+        return Err(PeerFault::OtherMatch(Mismatch::Digest));
     }
     if hello.ends.nodes != own.nodes {
-        return Err(LinkFault::OtherMatch(Mismatch::Nodes));
+        return Err(PeerFault::OtherMatch(Mismatch::Nodes));
     }
     if !is_awaited(own.number, dialled, hello.ends) {
-        return Err(LinkFault::OtherMatch(Mismatch::Number));
+        return Err(PeerFault::OtherMatch(Mismatch::Number));
     }
     Ok(())
 }
 
 /// Judges the Hello of a node of this match; of each node stands in its place what is known of it.
 ///
-/// The fault is the first of: 128 `AlreadyHere`, 127 `WentBack` (this node's own store, then the other's).
-pub(crate) fn judge_known(own: &Own, met: &[Met], hello: &Hello) -> Result<(), LinkFault>
+/// The fault is the first of: 128 `AlreadyHere`, 127 `StoreReplaced` (this node's own store, then the other's).
+pub(crate) fn judge_known(own: &Own, met: &[Met], hello: &Hello) -> Result<(), PeerFault>
     ensures { result ≡ judged_known own.now met.now hello.now }
 {
     judge_node(own, met_at(met, hello.ends.from), hello)
@@ -105,12 +105,12 @@ pub(crate) fn judge_known(own: &Own, met: &[Met], hello: &Hello) -> Result<(), L
 /// stands in its place what is known of it.
 ///
 /// The fault is the first of: 122 `BadHello` (of a connection with codes), 123 `OtherMatch` (the digest, the count of nodes,
-/// then the numbers), 128 `AlreadyHere`, 127 `WentBack` (this node's own store, then the other's).
-pub fn judge(own: &Own, dialled: Option<u8>, met: &[Met], hello: &Hello) -> Result<(), LinkFault>
+/// then the numbers), 128 `AlreadyHere`, 127 `StoreReplaced` (this node's own store, then the other's).
+pub fn judge(own: &Own, dialled: Option<u8>, met: &[Met], hello: &Hello) -> Result<(), PeerFault>
     ensures { result ≡ judged own.now dialled met.now hello.now }
 {
     if is_coded(hello.link) {
-        return Err(LinkFault::Record(RecordFault::BadHello));
+        return Err(PeerFault::Record(RecordFault::BadHello));
     }
     match judge_match(own, dialled, hello) {
         Ok(()) => judge_known(own, met, hello),

@@ -11,7 +11,7 @@ ghost use Rattle.peer_codes.specs.Fits.{IsRecord};
 ghost use Rattle.peer_codes.specs.Spelling.{record_text};
 ghost use Rattle.node_links.specs.declared.heard.Heard.{Heard};
 ghost use Rattle.node_links.specs.declared.heard.Heard.TheVariants as heards;
-ghost use Rattle.node_links.specs.declared.link_fault.LinkFault.{LinkFault};
+ghost use Rattle.node_links.specs.declared.peer_fault.PeerFault.{PeerFault};
 ghost use Rattle.node_links.specs.declared.own.Met.{Met};
 ghost use Rattle.node_links.specs.declared.own.Own.{Own};
 ghost use Rattle.node_links.specs.declared.phase.Phase.{Phase};
@@ -52,7 +52,7 @@ pub fn open_connections_were_judged()
 /// to it; by `settle` the Hello is judged with what it was given. `take`, `answer`, `begin` and `wrote` say by their
 /// contracts that they don't change that.
 pub fn calls_happen()
-    ensures next { (old new : PlainConnection) (result : Option (Result Heard LinkFault)) → Next old.phase old result new → HasRead old new }
+    ensures next { (old new : PlainConnection) (result : Option (Result Heard PeerFault)) → Next old.phase old result new → HasRead old new }
     ensures settle { (own : Own) (dialled : Option ℕ) (met : List Met) (phase : Phase) → settled own dialled met phase ≡ phase_after phase (Judged own dialled met) }
 {}
 

@@ -21,7 +21,7 @@
 //! that was taken (`open_connections_were_judged`). A peer is dialled neither too soon nor later than was told
 //! (`peers_are_dialled_in_time`).
 //!
-//! Faults: `LinkFault`, 120 to 128; each closes the connection, and is told again from then on.
+//! Faults: `PeerFault`, 120 to 128; each closes the connection, and is told again from then on.
 #![tactic(auto)]
 
 mod accepted;
@@ -35,13 +35,13 @@ mod heard;
 mod judging;
 pub mod laws;
 pub mod limits;
-mod link_fault;
 mod notes;
 mod outbox;
 mod outgoing;
 mod owed;
 mod own;
 mod pausing;
+mod peer_fault;
 mod phase;
 mod plain_connection;
 mod pulse;
@@ -57,15 +57,15 @@ pub use dial::{Dial, DialDue};
 pub use forwarded::Forwarded;
 pub use heard::Heard;
 pub use judging::judge;
-pub use link_fault::{LinkFault, Mismatch, Whose};
 pub use notes::Notes;
 pub use outbox::Outbox;
 pub use outgoing::Outgoing;
 pub use owed::{Owed, Question, answered_in};
 pub use own::{Met, Own};
 pub use pausing::{longer, pause_after};
+pub use peer_fault::{Mismatch, PeerFault, Whose};
 pub use phase::Phase;
 pub use plain_connection::PlainConnection;
-pub use pulse::{Probe, Pulse, Told};
+pub use pulse::{OwnReport, Probe, Pulse};
 pub use refusals::{Refusals, Refused};
 pub use stage::Stage;

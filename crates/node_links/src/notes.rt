@@ -4,7 +4,7 @@ ghost use Rattle.std.specs.Prelude.{◌≡◌, ◌<◌, replicate, None};
 ghost use Rattle.node_links.specs.Noting.{fault_place, is_told, told_last, and_told};
 
 use crate::limits::REPEATED;
-use crate::link_fault::{LinkFault, Mismatch, Whose};
+use crate::peer_fault::{Mismatch, PeerFault, Whose};
 use peer_codes::RecordFault;
 
 /// How many faults there are.
@@ -17,23 +17,23 @@ pub struct Notes {
 }
 
 /// Each fault's place among them.
-fn place(fault: LinkFault) -> usize
+fn place(fault: PeerFault) -> usize
     ensures place { result ≡ fault_place fault }
     ensures within { result < 12 }
 {
     match fault {
-        LinkFault::Record(RecordFault::BadLength) => 0,
-        LinkFault::Record(RecordFault::BadKind) => 1,
-        LinkFault::Record(RecordFault::BadHello) => 2,
-        LinkFault::OtherMatch(Mismatch::Digest) => 3,
-        LinkFault::OtherMatch(Mismatch::Nodes) => 4,
-        LinkFault::OtherMatch(Mismatch::Number) => 5,
-        LinkFault::WrongProof => 6,
-        LinkFault::WrongCode => 7,
-        LinkFault::OutOfTurn => 8,
-        LinkFault::WentBack(Whose::Own) => 9,
-        LinkFault::WentBack(Whose::Other) => 10,
-        LinkFault::AlreadyHere => 11,
+        PeerFault::Record(RecordFault::BadLength) => 0,
+        PeerFault::Record(RecordFault::BadKind) => 1,
+        PeerFault::Record(RecordFault::BadHello) => 2,
+        PeerFault::OtherMatch(Mismatch::Digest) => 3,
+        PeerFault::OtherMatch(Mismatch::Nodes) => 4,
+        PeerFault::OtherMatch(Mismatch::Number) => 5,
+        PeerFault::WrongProof => 6,
+        PeerFault::WrongTag => 7,
+        PeerFault::UnexpectedRecord => 8,
+        PeerFault::StoreReplaced(Whose::Own) => 9,
+        PeerFault::StoreReplaced(Whose::Other) => 10,
+        PeerFault::AlreadyHere => 11,
     }
 }
 
@@ -58,7 +58,7 @@ impl Notes {
     }
 
     /// Whether this fault is told at this moment; it counts as told then.
-    pub fn tell(&mut self, fault: LinkFault, now: u64) -> bool
+    pub fn tell(&mut self, fault: PeerFault, now: u64) -> bool
         ensures told { result ≡ is_told (told_last self.old fault) now }
         ensures rest { self.new ≡ and_told self.old fault now }
     {

@@ -5,20 +5,20 @@ ghost use Rattle.node_links.specs.declared.limits.TheConstants as limits;
 ghost use Rattle.node_links.specs.Pausing.{is_standing, longer, pause_after};
 
 use crate::limits::{LONGEST, REFUSED};
-use crate::link_fault::LinkFault;
+use crate::peer_fault::PeerFault;
 
 /// Whether a fault stays until somebody changes a file or a process ends.
-fn is_standing(fault: LinkFault) -> bool
+fn is_standing(fault: PeerFault) -> bool
     ensures { result ≡ is_standing fault }
 {
     match fault {
-        LinkFault::Record(_) => false,
-        LinkFault::OtherMatch(_) => true,
-        LinkFault::WrongProof => true,
-        LinkFault::WrongCode => false,
-        LinkFault::OutOfTurn => false,
-        LinkFault::WentBack(_) => true,
-        LinkFault::AlreadyHere => true,
+        PeerFault::Record(_) => false,
+        PeerFault::OtherMatch(_) => true,
+        PeerFault::WrongProof => true,
+        PeerFault::WrongTag => false,
+        PeerFault::UnexpectedRecord => false,
+        PeerFault::StoreReplaced(_) => true,
+        PeerFault::AlreadyHere => true,
     }
 }
 
@@ -36,7 +36,7 @@ pub fn longer(last: u64) -> u64
 }
 
 /// How long a peer isn't dialled behind this fault, where the last pause lasted so long since something came of it.
-pub fn pause_after(fault: LinkFault, last: u64) -> u64
+pub fn pause_after(fault: PeerFault, last: u64) -> u64
     ensures { result ≡ pause_after fault last }
 {
     if is_standing(fault) {

@@ -8,10 +8,10 @@ ghost use Rattle.node_links.specs.Going.{taken_in};
 ghost use Rattle.node_links.specs.Connections.{ReadsOrWaits, Next, begun_open, begun_first, begun_next, peer_in, fault_in};
 
 use crate::heard::Heard;
-use crate::link_fault::LinkFault;
 use crate::outbox::Outbox;
 use crate::outgoing::Outgoing;
 use crate::own::{Met, Own};
+use crate::peer_fault::PeerFault;
 use crate::phase::Phase;
 use crate::step::{Step, settled, step_by};
 use byte_queue::ByteQueue;
@@ -70,7 +70,7 @@ impl PlainConnection {
     }
 
     /// What stands in front of what came; `None` where it isn't whole.
-    fn read(&mut self) -> Option<Result<Heard, LinkFault>>
+    fn read(&mut self) -> Option<Result<Heard, PeerFault>>
         ensures { ReadsOrWaits self.old result self.new }
     {
         let (read, end) = read_record(self.came.waiting())?;
@@ -83,9 +83,9 @@ impl PlainConnection {
     /// What came next, or the fault that closed the connection, told again from then on.
     ///
     /// `None` where the record in front isn't whole, and while the Hello that came isn't judged. The fault is the first of:
-    /// 120 `BadLength`, 121 `BadKind` and 122 `BadHello` of the record in front, and 126 `OutOfTurn` (a kind that may not
+    /// 120 `BadLength`, 121 `BadKind` and 122 `BadHello` of the record in front, and 126 `UnexpectedRecord` (a kind that may not
     /// come now).
-    pub fn next(&mut self) -> Option<Result<Heard, LinkFault>>
+    pub fn next(&mut self) -> Option<Result<Heard, PeerFault>>
         ensures { Next self.old.phase self.old result self.new }
     {
         match self.phase {
@@ -135,7 +135,7 @@ impl PlainConnection {
     }
 
     /// The fault that closed the connection, if one did.
-    pub fn fault(&self) -> Option<LinkFault>
+    pub fn fault(&self) -> Option<PeerFault>
         ensures { result ≡ fault_in self.now.phase }
     {
         match self.phase {

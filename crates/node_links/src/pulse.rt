@@ -6,11 +6,11 @@ use peer_codes::Beat;
 
 /// What a node tells of itself in a beat.
 #[derive(Clone, Copy, Debug, PartialEq, Eq)]
-pub struct Told {
+pub struct OwnReport {
     /// The first slot that it knows nothing chosen of.
     pub front: u32,
-    /// Whether it leads.
-    pub leads: bool,
+    /// Whether it campaigns.
+    pub campaigns: bool,
     /// Whether the match is over there.
     pub over: bool,
     /// The seats that sit there, a bit each, seat 0 the lowest.
@@ -84,7 +84,7 @@ impl Pulse {
 
     /// The beat that is told at this moment. The numbers end at the greatest that four bytes hold, after years: then it is
     /// told again and again.
-    pub fn beat(&mut self, told: Told, now: u64) -> Beat
+    pub fn beat(&mut self, told: OwnReport, now: u64) -> Beat
         ensures beat { result ≡ beat_of self.old told }
         ensures pulse { self.new ≡ told_at self.old now }
     {
@@ -100,7 +100,7 @@ impl Pulse {
             number: self.number,
             got: self.got,
             front: told.front,
-            leads: told.leads,
+            campaigns: told.campaigns,
             over: told.over,
             seats: told.seats,
         }

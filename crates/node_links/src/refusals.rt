@@ -4,13 +4,13 @@ ghost use Rattle.std.specs.Prelude.{◌≡◌, None};
 ghost use Rattle.node_links.specs.Refusing.{and_refused, is_noted, noted, behind_note};
 
 use crate::limits::NOTED;
-use crate::link_fault::LinkFault;
+use crate::peer_fault::PeerFault;
 
 /// So many callers who aren't known were refused, the last by this fault.
 #[derive(Clone, Copy, Debug, PartialEq, Eq)]
 pub struct Refused {
     pub count: u32,
-    pub fault: LinkFault,
+    pub fault: PeerFault,
 }
 
 /// The callers who were refused since the last note, and when that was: there is one a second at most.
@@ -22,7 +22,7 @@ pub struct Refusals {
 }
 
 /// Those who were refused, and one more.
-fn and_refused(fault: LinkFault, since: Option<Refused>) -> Refused
+fn and_refused(fault: PeerFault, since: Option<Refused>) -> Refused
     ensures { result ≡ and_refused fault since }
 {
     match since {
@@ -56,7 +56,7 @@ impl Refusals {
     }
 
     /// One more is refused.
-    pub fn refuse(&mut self, fault: LinkFault)
+    pub fn refuse(&mut self, fault: PeerFault)
         ensures { self.new ≡ record self.old { since = Some (and_refused fault self.old.since) } }
     {
         self.since = Some(and_refused(fault, self.since));

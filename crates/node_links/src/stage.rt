@@ -1,4 +1,4 @@
-use crate::link_fault::LinkFault;
+use crate::peer_fault::PeerFault;
 use peer_codes::Hello;
 
 /// How far a connection with codes is, as one side has it.
@@ -15,5 +15,5 @@ pub enum Stage {
     /// The other's Hello was taken.
     Open(Hello),
     /// Closed by a fault.
-    Closed(LinkFault),
+    Closed(PeerFault),
 }

@@ -5,8 +5,8 @@ ghost use Rattle.node_links.specs.Steps.{closed, greeted, on_greeting, on_open, 
 
 use crate::heard::Heard;
 use crate::judging::judge;
-use crate::link_fault::LinkFault;
 use crate::own::{Met, Own};
+use crate::peer_fault::PeerFault;
 use crate::phase::Phase;
 use peer_codes::{Hello, Record, RecordFault};
 
@@ -14,11 +14,11 @@ use peer_codes::{Hello, Record, RecordFault};
 #[derive(Drop)]
 pub(crate) struct Step {
     pub(crate) phase: Phase,
-    pub(crate) heard: Result<Heard, LinkFault>,
+    pub(crate) heard: Result<Heard, PeerFault>,
 }
 
 /// The fault closes the connection.
-fn closed(fault: LinkFault) -> Step
+fn closed(fault: PeerFault) -> Step
     ensures { result ≡ closed fault }
 {
     Step {
@@ -43,9 +43,9 @@ fn on_greeting(said: Record) -> Step
 {
     match said {
         Record::Hello(hello) => greeted(hello),
-        Record::Proof(_) => closed(LinkFault::OutOfTurn),
-        Record::Frame(_) => closed(LinkFault::OutOfTurn),
-        Record::Beat(_) => closed(LinkFault::OutOfTurn),
+        Record::Proof(_) => closed(PeerFault::UnexpectedRecord),
+        Record::Frame(_) => closed(PeerFault::UnexpectedRecord),
+        Record::Beat(_) => closed(PeerFault::UnexpectedRecord),
     }
 }
 
@@ -62,8 +62,8 @@ fn on_open(other: Hello, said: Record) -> Step
             phase: Phase::Open(other),
             heard: Ok(Heard::Beat(beat)),
         },
-        Record::Hello(_) => closed(LinkFault::OutOfTurn),
-        Record::Proof(_) => closed(LinkFault::OutOfTurn),
+        Record::Hello(_) => closed(PeerFault::UnexpectedRecord),
+        Record::Proof(_) => closed(PeerFault::UnexpectedRecord),
     }
 }
 
@@ -73,7 +73,7 @@ fn stepped(phase: Phase, said: Record) -> Step
 {
     match phase {
         Phase::Greeting => on_greeting(said),
-        Phase::Asked(_) => closed(LinkFault::OutOfTurn),
+        Phase::Asked(_) => closed(PeerFault::UnexpectedRecord),
         Phase::Open(other) => on_open(other, said),
         Phase::Closed(fault) => closed(fault),
     }
@@ -85,7 +85,7 @@ pub(crate) fn step_by(phase: Phase, read: Result<Record, RecordFault>) -> Step
 {
     match read {
         Ok(said) => stepped(phase, said),
-        Err(fault) => closed(LinkFault::Record(fault)),
+        Err(fault) => closed(PeerFault::Record(fault)),
     }
 }
 

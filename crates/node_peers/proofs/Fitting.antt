@@ -15,7 +15,7 @@ use Rattle.peer_codes.specs.declared.hello.Life.{Life}
 use Rattle.node_links.specs.declared.connection.Connection.{Connection}
 use Rattle.node_links.specs.declared.heard.Heard.{Heard}
 use Rattle.node_links.specs.declared.heard.Heard.TheVariants as heards
-use Rattle.node_links.specs.declared.link_fault.LinkFault.{LinkFault}
+use Rattle.node_links.specs.declared.peer_fault.PeerFault.{PeerFault}
 use Rattle.node_links.specs.declared.own.Own.{Own}
 use Rattle.node_links.specs.Talks.{Talk, Says, Opens}
 use Rattle.node_links.specs.Going.{Goes, GoesOn, GoesOnWritten, OpensAs, TellsFrame, silence, unwritten_of, peer_of}
@@ -203,7 +203,7 @@ pub opens_in : (own : Own) (link : Link) (result : Option Hello) → link.is_los
 opens_in own link None kept opens = tt
 opens_in own link (Some hello) kept opens = λ talk is. opens own talk (goes_in link.is_lost own talk link.connection kept is)
 
-pub says_next : (old new : Link) (result : Option (Result Heard LinkFault)) → old.is_lost ≡ false → TellsFrame result old.connection new.connection → SaysFrame result old new
+pub says_next : (old new : Link) (result : Option (Result Heard PeerFault)) → old.is_lost ≡ false → TellsFrame result old.connection new.connection → SaysFrame result old new
 says_next old new None lost tells = tt
 says_next old new (Some (Err fault)) lost tells = tt
 says_next old new (Some (Ok (heards.Hello hello))) lost tells = tt
@@ -211,7 +211,7 @@ says_next old new (Some (Ok (heards.Proved hello))) lost tells = tt
 says_next old new (Some (Ok (heards.Beat beat))) lost tells = tt
 says_next old new (Some (Ok (heards.Frame frame))) lost tells = λ own talk from is at. tells own talk from (goes_in old.is_lost own talk old.connection lost is) at
 
-pub said_of : (heard : Option (Result Heard LinkFault)) (from : Option ℕ) (old new : Link) → SaysFrame heard old new → from ≡ peer_of new.connection → SaidBy (saying_of heard from) (Some old)
+pub said_of : (heard : Option (Result Heard PeerFault)) (from : Option ℕ) (old new : Link) → SaysFrame heard old new → from ≡ peer_of new.connection → SaidBy (saying_of heard from) (Some old)
 said_of None from old new says is = tt
 said_of (Some (Err fault)) from old new says is = tt
 said_of (Some (Ok (heards.Hello hello))) from old new says is = tt

@@ -4,7 +4,7 @@ use Rattle.std.specs.Coded.{×_prop, Π_prop, Unit-prop}
 use Rattle.node_links.specs.declared.connection.Connection.{Connection}
 use Rattle.node_links.specs.declared.heard.Heard.{Heard}
 use Rattle.node_links.specs.declared.heard.Heard.TheVariants as heards
-use Rattle.node_links.specs.declared.link_fault.LinkFault.{LinkFault}
+use Rattle.node_links.specs.declared.peer_fault.PeerFault.{PeerFault}
 use Rattle.node_links.specs.declared.own.Own.{Own}
 use Rattle.node_links.specs.Talks.{Talk, Says, Opens}
 use Rattle.node_links.specs.Going.{Goes, goes_prop, GoesOnWith, silence, peer_of}
@@ -132,7 +132,7 @@ abbrev pub TakesIn : Link → Link → List ℕ → Type 0
 TakesIn old new piece = (new.is_lost ≡ true) ⊎ ((new.is_lost ≡ old.is_lost) × GoesOnWith old.connection new.connection piece)
 
 -- a frame that a connection says is one that came as it has to
-abbrev pub SaysFrame : Option (Result Heard LinkFault) → Link → Link → Type 0
+abbrev pub SaysFrame : Option (Result Heard PeerFault) → Link → Link → Type 0
 SaysFrame None old new = Unit {0}
 SaysFrame (Some (Err fault)) old new = Unit {0}
 SaysFrame (Some (Ok (heards.Hello hello))) old new = Unit {0}

@@ -2,7 +2,7 @@
 use Rattle.std.specs.Prelude.{ℕ, List, Option, Some, None, Result, Ok, Err}
 use Rattle.node_links.specs.declared.heard.Heard.{Heard}
 use Rattle.node_links.specs.declared.heard.Heard.TheVariants as heards
-use Rattle.node_links.specs.declared.link_fault.LinkFault.{LinkFault}
+use Rattle.node_links.specs.declared.peer_fault.PeerFault.{PeerFault}
 use Rattle.node_links.specs.declared.own.Own.{Own}
 use Rattle.node_peers.specs.declared.link.Link.{Link}
 use Rattle.node_peers.specs.declared.saying.Saying.{Saying}
@@ -11,7 +11,7 @@ use Rattle.node_links.specs.Talks.{Talk, Says}
 use Rattle.node_peers.specs.Hearing.{IsOf, FitsBy}
 
 -- a frame and a beat are those of the node at the other end, where the connection is open
-abbrev pub saying_of : Option (Result Heard LinkFault) → Option ℕ → Saying
+abbrev pub saying_of : Option (Result Heard PeerFault) → Option ℕ → Saying
 saying_of None from = sayings.Waits
 saying_of (Some (Err fault)) from = sayings.Fault fault
 saying_of (Some (Ok (heards.Hello hello))) from = sayings.Hello hello

@@ -5,20 +5,20 @@ use crate::limits::{LINKS, SILENCES, STRANGER};
 use crate::link::dialled_at;
 use crate::peer::Peer;
 use crate::peers::Peers;
-use node_links::LinkFault;
+use node_links::PeerFault;
 use node_links::limits::NODES;
 use node_wires::Wire;
 use std::net::IpAddr;
 
 /// The dial of a peer is closed by this fault.
-pub(crate) fn refuse_dial(peers: &mut Vec<Peer>, number: u8, fault: LinkFault, now: u64) {
+pub(crate) fn refuse_dial(peers: &mut Vec<Peer>, number: u8, fault: PeerFault, now: u64) {
     if let Some(peer) = peers.get_mut(number as usize) {
         peer.refuse_dial(fault, now);
     }
 }
 
 /// Whether this fault of a peer is told now.
-pub(crate) fn tells(peers: &mut Vec<Peer>, number: u8, fault: LinkFault, now: u64) -> bool {
+pub(crate) fn tells(peers: &mut Vec<Peer>, number: u8, fault: PeerFault, now: u64) -> bool {
     match peers.get_mut(number as usize) {
         Some(peer) => peer.tells(fault, now),
         None => false,
@@ -94,7 +94,7 @@ impl Peers {
     pub(crate) fn note_refused(
         &mut self,
         peer: u8,
-        fault: LinkFault,
+        fault: PeerFault,
         source: Option<IpAddr>,
         now: u64,
     )
@@ -110,7 +110,7 @@ impl Peers {
     pub(crate) fn refuse(
         &mut self,
         place: usize,
-        fault: LinkFault,
+        fault: PeerFault,
         source: Option<IpAddr>,
         now: u64,
     )

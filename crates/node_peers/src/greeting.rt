@@ -7,7 +7,7 @@ ghost use Rattle.node_peers.specs.Hearing.{IsOpened};
 use crate::peer::Peer;
 use crate::peers::Peers;
 use node_links::limits::NODES;
-use node_links::{LinkFault, Met, Own};
+use node_links::{Met, Own, PeerFault};
 use node_wires::Wire;
 use paxos_wire::Ballot;
 use peer_codes::{Ends, Hello, Key, Life, Link as Kind, Nonce, RecordFault};
@@ -153,18 +153,18 @@ impl Peers {
     }
 
     /// Whether one who dialled at a place said no Hello of a connection with codes, and wasn't told of it yet.
-    pub(crate) fn is_unread(&self, place: usize, fault: LinkFault) -> bool {
+    pub(crate) fn is_unread(&self, place: usize, fault: PeerFault) -> bool {
         let Some(link) = self.lines.at(place) else {
             return false;
         };
         self.lines.own.key.is_some()
             && !link.is_refused
-            && fault == LinkFault::Record(RecordFault::BadHello)
+            && fault == PeerFault::Record(RecordFault::BadHello)
     }
 
     /// One who dialled at a place and said no Hello of a connection with codes is answered all the same, so that he sees why.
     #[tactic(auto, using(crate::proofs::Growing::grew_on, crate::proofs::Growing::stayed, crate::proofs::Growing::stays_on))]
-    pub(crate) fn answer_unread<W: Wire>(&mut self, wire: &mut W, place: usize, fault: LinkFault)
+    pub(crate) fn answer_unread<W: Wire>(&mut self, wire: &mut W, place: usize, fault: PeerFault)
         ensures { Grew self.old self.new (W.passed wire.old) (W.passed wire.new) }
     {
         if self.is_unread(place, fault) {

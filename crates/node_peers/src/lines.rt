@@ -13,7 +13,7 @@ use crate::links::{
 };
 use crate::notice::Notice;
 use crate::saying::Saying;
-use node_links::{Connection, LinkFault, Met, Outbox, Own, Question, answered_in};
+use node_links::{Connection, Met, Outbox, Own, PeerFault, Question, answered_in};
 use node_wires::limits::NODES;
 use node_wires::{Line, Passages, Wire};
 use peer_codes::{Beat, Hello, Life};
@@ -134,7 +134,7 @@ impl Lines {
     }
 
     /// Tells by which fault a connection to a peer is closed.
-    pub(crate) fn note_refused(&mut self, peer: u8, fault: LinkFault, source: Option<IpAddr>)
+    pub(crate) fn note_refused(&mut self, peer: u8, fault: PeerFault, source: Option<IpAddr>)
         ensures { Stays self.old self.new }
     {
         let _ = self.note(Notice::Refused {
@@ -145,7 +145,7 @@ impl Lines {
     }
 
     /// Tells how many callers were refused.
-    pub(crate) fn note_strangers(&mut self, count: u32, fault: LinkFault)
+    pub(crate) fn note_strangers(&mut self, count: u32, fault: PeerFault)
         ensures { Stays self.old self.new }
     {
         let _ = self.note(Notice::Strangers { count, fault });
@@ -213,7 +213,7 @@ impl Lines {
     /// What the connection at a place says next, or the fault that closed it. A frame waits to be told from then on; without
     /// memory it is lost, as one on the way may be.
     #[tactic(auto, using(crate::proofs::Fitting::told_now))]
-    pub(crate) fn next(&mut self, place: usize) -> Option<Result<Came, LinkFault>>
+    pub(crate) fn next(&mut self, place: usize) -> Option<Result<Came, PeerFault>>
         ensures { Stays self.old self.new }
     {
         match next_at(&mut self.links, place) {

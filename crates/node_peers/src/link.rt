@@ -8,7 +8,7 @@ ghost use Rattle.node_peers.specs.Adding.{Grows};
 ghost use Rattle.node_peers.specs.Hearing.{IsOf, KeepsOn, Moves, OpensIn, TakesIn, SaysFrame};
 
 use crate::limits::{LINKS, PIECE, PIECES};
-use node_links::{Connection, Heard, LinkFault, Met, Outbox, Own};
+use node_links::{Connection, Heard, Met, Outbox, Own, PeerFault};
 use node_wires::limits::NODES;
 use node_wires::{Halt, Line, Passages, Wire};
 use peer_codes::Hello;
@@ -67,7 +67,7 @@ impl Link {
         &self,
         dialled: Option<u8>,
         joined: Option<u8>,
-        fault: LinkFault,
+        fault: PeerFault,
     ) -> Option<u8> {
         if dialled.is_some() {
             return dialled;
@@ -76,8 +76,8 @@ impl Link {
             return joined;
         }
         match fault {
-            LinkFault::WentBack(_) => self.said,
-            LinkFault::AlreadyHere => self.said,
+            PeerFault::StoreReplaced(_) => self.said,
+            PeerFault::AlreadyHere => self.said,
             _ => None,
         }
     }
@@ -202,7 +202,7 @@ pub(crate) fn write<W: Wire>(
 
 /// What a connection says next, or the fault that closed it; nothing of one of which a piece was lost.
 #[tactic(auto, using(crate::proofs::Fitting::keeps_still, crate::proofs::Fitting::keeps_on, crate::proofs::Fitting::says_next))]
-pub(crate) fn next_of(link: &mut Link) -> Option<Result<Heard, LinkFault>>
+pub(crate) fn next_of(link: &mut Link) -> Option<Result<Heard, PeerFault>>
     ensures keeps { KeepsOn (Some link.old) (Some link.new) }
     ensures says { SaysFrame result link.old link.new }
 {

@@ -1,4 +1,4 @@
-use node_links::LinkFault;
+use node_links::PeerFault;
 use peer_codes::{Frame, Life};
 use std::net::IpAddr;
 
@@ -24,13 +24,13 @@ pub enum Notice {
     /// same peer is told once in ten seconds.
     Refused {
         peer: u8,
-        fault: LinkFault,
+        fault: PeerFault,
         source: Option<IpAddr>,
     },
     /// So many callers who aren't known were refused since the last such notice, the last of them by this fault; there is
     /// one a second at most.
     Strangers {
         count: u32,
-        fault: LinkFault,
+        fault: PeerFault,
     },
 }

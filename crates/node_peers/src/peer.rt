@@ -5,7 +5,7 @@ use crate::lines::Lines;
 use crate::view::View;
 use node_links::limits::{KEPT, WAITING};
 use node_links::{
-    Accepted, Asked, Dial, Forwarded, LinkFault, Notes, Outbox, Owed, Pulse, Question, Told,
+    Accepted, Asked, Dial, Forwarded, Notes, Outbox, Owed, OwnReport, PeerFault, Pulse, Question,
     ends_block, longer, pause_after,
 };
 use peer_codes::{Beat, Frame, Life};
@@ -75,13 +75,13 @@ impl Peer {
     }
 
     /// The connection that was dialled is closed by this fault.
-    pub(crate) fn refuse_dial(&mut self, fault: LinkFault, now: u64) {
+    pub(crate) fn refuse_dial(&mut self, fault: PeerFault, now: u64) {
         self.pause = pause_after(fault, self.pause);
         self.dial = self.dial.ended(now, Some(self.pause));
     }
 
     /// Whether this fault of the peer is told now.
-    pub(crate) fn tells(&mut self, fault: LinkFault, now: u64) -> bool {
+    pub(crate) fn tells(&mut self, fault: PeerFault, now: u64) -> bool {
         self.notes.tell(fault, now)
     }
 
@@ -212,7 +212,7 @@ impl Peer {
     }
 
     /// Tells the peer how this node is, where a beat is due over an open connection, and says again what is to go again.
-    pub(crate) fn tell(&mut self, told: Told, now: u64) {
+    pub(crate) fn tell(&mut self, told: OwnReport, now: u64) {
         self.note_front(told.front);
         if self.open.is_none() {
             return;

@@ -10,7 +10,7 @@ use crate::notice::Notice;
 use crate::peer::Peer;
 use crate::view::View;
 use node_links::limits::{LOOK, NODES};
-use node_links::{Dial, DialDue, Outbox, Own, Refusals, Told};
+use node_links::{Dial, DialDue, Outbox, Own, OwnReport, Refusals};
 use node_wires::Wire;
 use paxos_wire::Ballot;
 use peer_codes::Life;
@@ -207,7 +207,7 @@ impl Peers {
     }
 
     /// Tells each peer how this node is, where that is due.
-    pub fn tell(&mut self, told: Told, now: u64)
+    pub fn tell(&mut self, told: OwnReport, now: u64)
         ensures { Stays self.old self.new }
     {
         tell_all(&mut self.peers, told, now);
@@ -270,7 +270,7 @@ impl Peers {
 }
 
 /// Tells each peer how this node is, where that is due.
-fn tell_all(peers: &mut Vec<Peer>, told: Told, now: u64) {
+fn tell_all(peers: &mut Vec<Peer>, told: OwnReport, now: u64) {
     for number in 0..NODES {
         if let Some(peer) = peers.get_mut(number) {
             peer.tell(told, now);

@@ -3,7 +3,7 @@
 ghost use Rattle.std.specs.Prelude.{◌≡◌};
 ghost use Rattle.node_peers.specs.Saying.{saying_of};
 
-use node_links::{Heard, LinkFault};
+use node_links::{Heard, PeerFault};
 use peer_codes::{Beat, Frame, Hello};
 
 /// What is said by a connection, and by which node, where it is open.
@@ -20,11 +20,11 @@ pub(crate) enum Saying {
     /// A frame or a beat of nobody.
     Nothing,
     /// It is closed by a fault.
-    Fault(LinkFault),
+    Fault(PeerFault),
 }
 
 /// What was heard of a connection at whose other end this node is.
-pub(crate) fn saying_of(heard: Option<Result<Heard, LinkFault>>, from: Option<u8>) -> Saying
+pub(crate) fn saying_of(heard: Option<Result<Heard, PeerFault>>, from: Option<u8>) -> Saying
     ensures { result ≡ saying_of heard from }
 {
     match heard {

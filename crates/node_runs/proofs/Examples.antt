@@ -10,20 +10,20 @@ use Rattle.std.specs.declared.fs.attrs.Metadata.{Metadata}
 use Rattle.hex.specs.Hex.{decode_pairs}
 use Rattle.hex.specs.declared.error.FromHexError.TheVariants.{InvalidHexCharacter, InvalidStringLength, OddLength}
 use Rattle.peer_codes.specs.declared.fault.RecordFault.TheVariants.{BadHello, BadLength}
-use Rattle.node_links.specs.declared.link_fault.LinkFault.TheVariants.{Record, AlreadyHere, WentBack as NotTheStore}
-use Rattle.node_links.specs.declared.link_fault.Whose.TheVariants.{Own}
+use Rattle.node_links.specs.declared.peer_fault.PeerFault.TheVariants.{Record, AlreadyHere, StoreReplaced as NotTheStore}
+use Rattle.node_links.specs.declared.peer_fault.Whose.TheVariants.{Own}
 use Rattle.promise_store.specs.declared.fault.StoreFault.TheVariants.{Disk}
 use Rattle.dealer_node.specs.declared.fault.NodeFault.TheVariants as fault
 use Rattle.serving.specs.declared.serve_fault.ServeFault.TheVariants as serve
 use Rattle.match_file.specs.declared.match_fault.MatchFault.TheVariants as file
 use Rattle.match_runs.specs.declared.unserved.Unserved.TheVariants as unserved
-use Rattle.node_service.specs.declared.told.Told.{Told}
-use Rattle.node_service.specs.declared.told.Told.TheVariants as told
+use Rattle.node_service.specs.declared.server_notice.ServerNotice.{ServerNotice}
+use Rattle.node_service.specs.declared.server_notice.ServerNotice.TheVariants as told
 use Rattle.node_runs.specs.BesideStore.{node_kept_name, life_name}
 use Rattle.node_runs.specs.KeyFiles.{fault_of, keyed}
 use Rattle.node_runs.specs.NodeNotes.{note_text, note_line}
 use Rattle.node_runs.specs.NodeEnds.{status_of, end_text}
-use Rattle.node_runs.specs.ToldNotes.{told_lines}
+use Rattle.node_runs.specs.ServerNotes.{notice_lines}
 use Rattle.node_runs.specs.declared.key_file.KeyFault.TheVariants as key
 use Rattle.node_runs.specs.declared.node_end.NodeEnd.{NodeEnd}
 use Rattle.node_runs.specs.declared.node_end.NodeEnd.TheVariants as end
@@ -90,9 +90,9 @@ one_joined : note_line (note.Joined 1) ≡ codes "peer 1: joined" ++ 10 ∷ []
 unfolding digits
 one_joined = refl
 
-one_went_back : note_text (note.Refused 1 (NotTheStore Own) None) ≡ codes "peer 1: 127 WentBack"
+one_store_replaced : note_text (note.Refused 1 (NotTheStore Own) None) ≡ codes "peer 1: 127 StoreReplaced"
 unfolding digits
-one_went_back = refl
+one_store_replaced = refl
 
 -- where it came from is told where it is known
 there_already : (address : Ipv4Addr) → ipv4_octets address ≡ 10 ∷ 0 ∷ 0 ∷ 7 ∷ [] → note_text (note.Refused 1 AlreadyHere (Some (V4 address))) ≡ codes "peer 1: 128 AlreadyHere (from 10.0.0.7)"
@@ -124,7 +124,7 @@ log_at_fault = refl
 store_in_use : status_of (end.Unserved unserved.StoreInUse) ≡ 2
 store_in_use = refl
 
-store_of_another_life : end_text end.WentBack ≡ codes "127 WentBack"
+store_of_another_life : end_text end.StoreReplaced ≡ codes "127 StoreReplaced"
 store_of_another_life = refl
 
 -- ---- what is told, by the seats' names, at node 1, which awaits seat 0 at port 7010
@@ -132,26 +132,26 @@ store_of_another_life = refl
 abbrev names : List (List ℕ)
 names = codes "alice" ∷ codes "bob" ∷ []
 
-bob_is_seated : told_lines names 1 7010 (told.Seated 1) ≡ (codes "seat 1 (bob) at node 1: seated" ++ 10 ∷ []) ∷ []
+bob_is_seated : notice_lines names 1 7010 (told.Seated 1) ≡ (codes "seat 1 (bob) at node 1: seated" ++ 10 ∷ []) ∷ []
 unfolding digits
 bob_is_seated = refl
 
-bob_is_played_for : told_lines names 1 7010 (told.Ordered 1) ≡ (codes "seat 1 (bob) at node 1: played for" ++ 10 ∷ []) ∷ []
+bob_is_played_for : notice_lines names 1 7010 (told.Ordered 1) ≡ (codes "seat 1 (bob) at node 1: played for" ++ 10 ∷ []) ∷ []
 unfolding digits
 bob_is_played_for = refl
 
-somebody_else_came_for_alice : told_lines names 1 7010 (told.WrongToken 0 1) ≡ (codes "seat 0 (alice) at node 1: wrong token" ++ 10 ∷ []) ∷ []
+somebody_else_came_for_alice : notice_lines names 1 7010 (told.WrongToken 0 1) ≡ (codes "seat 0 (alice) at node 1: wrong token" ++ 10 ∷ []) ∷ []
 unfolding digits
 somebody_else_came_for_alice = refl
 
-many_others_came_for_alice : told_lines names 1 7010 (told.WrongToken 0 37) ≡ (codes "seat 0 (alice) at node 1: wrong token (37 times)" ++ 10 ∷ []) ∷ []
+many_others_came_for_alice : notice_lines names 1 7010 (told.WrongToken 0 37) ≡ (codes "seat 0 (alice) at node 1: wrong token (37 times)" ++ 10 ∷ []) ∷ []
 unfolding digits
 many_others_came_for_alice = refl
 
-bob_is_waited_for : told_lines names 1 7010 (told.Waits 1) ≡ (codes "waiting for seat 1 (bob) at node 1, port 7011" ++ 10 ∷ []) ∷ []
+bob_is_waited_for : notice_lines names 1 7010 (told.Waits 1) ≡ (codes "waiting for seat 1 (bob) at node 1, port 7011" ++ 10 ∷ []) ∷ []
 unfolding digits
 bob_is_waited_for = refl
 
 -- of a seat that there isn't nothing is told
-no_seat_2 : told_lines names 1 7010 (told.Left 2) ≡ []
+no_seat_2 : notice_lines names 1 7010 (told.Left 2) ≡ []
 no_seat_2 = refl

@@ -2,8 +2,8 @@
 use Rattle.std.proofs.Common.{◌≡◌, ℕ, ◌+◌, ◌-◌, ◌^◌, List, [], ◌∷◌, ◌++◌, Some, None, Ok, Err, refl, arith}
 use Rattle.std.specs.Prelude.{Result, Option}
 use Rattle.node_service.specs.declared.outcome.Outcome.TheVariants as outcome
-use Rattle.node_service.specs.declared.told.Told.{Told}
-use Rattle.node_service.specs.declared.told.Told.TheVariants as told
+use Rattle.node_service.specs.declared.server_notice.ServerNotice.{ServerNotice}
+use Rattle.node_service.specs.declared.server_notice.ServerNotice.TheVariants as told
 use Rattle.node_runs.specs.Running.{EndsBy, by_turn, end_of, KeepsLife}
 use Rattle.node_runs.specs.declared.node_end.NodeEnd.{NodeEnd}
 use Rattle.node_runs.specs.declared.node_end.NodeEnd.TheVariants as end
@@ -13,8 +13,8 @@ over : EndsBy outcome.Over 9 (told.Gone 1 ∷ []) (told.Gone 1 ∷ []) (Ok tt)
 over = by_turn (told.Gone 1 ∷ []) (Ok tt) refl
 
 -- of a node that lost its store it is no good end
-lost_store : EndsBy outcome.WentBack 0 [] [] (Err end.WentBack)
-lost_store = by_turn [] (Err end.WentBack) refl
+lost_store : EndsBy outcome.StoreReplaced 0 [] [] (Err end.StoreReplaced)
+lost_store = by_turn [] (Err end.StoreReplaced) refl
 
 -- a turn after which a further one comes is no end
 going_on : (answer : Result (Unit {0}) NodeEnd) → end_of outcome.GoesOn ≡ Some answer → ⊥

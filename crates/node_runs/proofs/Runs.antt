@@ -19,20 +19,20 @@ use Rattle.node_service.specs.Serving.{served_of, told_in}
 use Rattle.node_service.specs.declared.outcome.Outcome.{Outcome}
 use Rattle.node_service.specs.declared.outcome.Outcome.TheVariants as leaves
 use Rattle.node_service.specs.declared.server.NodeServer.{NodeServer}
-use Rattle.node_service.specs.declared.told.Told.{Told}
-use Rattle.node_service.specs.declared.told.Told.TheVariants as tells
-use Rattle.node_runs.specs.ToldNotes.{told_lines}
+use Rattle.node_service.specs.declared.server_notice.ServerNotice.{ServerNotice}
+use Rattle.node_service.specs.declared.server_notice.ServerNotice.TheVariants as tells
+use Rattle.node_runs.specs.ServerNotes.{notice_lines}
 use Rattle.node_runs.specs.Running as run
 use Rattle.node_runs.specs.Running.{Turns, Tells, TellsOne, HasLife, EndsBy, Went, GoesOnTo, end_of, by_fault, by_turn, unkept, by_count}
 use Rattle.node_runs.specs.declared.node_end.NodeEnd.{NodeEnd}
 
 -- what is told at a node goes by its match and its number alone
-tells_at : {K N : Type 0} (kept : K → ℕ → Life → K → Type 0) (look other : Look N) (port : ℕ) (thing : Told) (held held_after : Option (List ℕ)) (lives lives_after : K) → other.config ≡ look.config
+tells_at : {K N : Type 0} (kept : K → ℕ → Life → K → Type 0) (look other : Look N) (port : ℕ) (thing : ServerNotice) (held held_after : Option (List ℕ)) (lives lives_after : K) → other.config ≡ look.config
     → other.number ≡ look.number → TellsOne kept other port thing held held_after lives lives_after → TellsOne kept look port thing held held_after lives lives_after
 tells_at kept look other port thing held held_after lives lives_after config number one = record {
   keeps = one.keeps;
-  noted = subst (λ (n : ℕ). AreNoted (told_lines look.config.setting.names n port thing) held held_after) number
-      (subst (λ (plan : Plan). AreNoted (told_lines plan.setting.names other.number port thing) held held_after) config one.noted);
+  noted = subst (λ (n : ℕ). AreNoted (notice_lines look.config.setting.names n port thing) held held_after) number
+      (subst (λ (plan : Plan). AreNoted (notice_lines plan.setting.names other.number port thing) held held_after) config one.noted);
 }
 
 -- where a process ends well its log was written
@@ -40,8 +40,8 @@ pub well_ended : (outcome : Outcome) (answer : Result (Unit {0}) NodeEnd) → en
 well_ended leaves.GoesOn answer is = cc
 well_ended leaves.Over (Ok done) is = refl
 well_ended leaves.Over (Err why) is = tt
-well_ended leaves.WentBack (Ok done) is = cc
-well_ended leaves.WentBack (Err why) is = tt
+well_ended leaves.StoreReplaced (Ok done) is = cc
+well_ended leaves.StoreReplaced (Err why) is = tt
 well_ended (leaves.Failed fault) (Ok done) is = cc
 well_ended (leaves.Failed fault) (Err why) is = tt
 well_ended leaves.LogFailed (Ok done) is = cc
@@ -52,8 +52,8 @@ pub over_ended : (outcome : Outcome) (answer : Result (Unit {0}) NodeEnd) → en
 over_ended leaves.GoesOn answer is = cc
 over_ended leaves.Over (Ok done) is = refl
 over_ended leaves.Over (Err why) is = tt
-over_ended leaves.WentBack (Ok done) is = cc
-over_ended leaves.WentBack (Err why) is = tt
+over_ended leaves.StoreReplaced (Ok done) is = cc
+over_ended leaves.StoreReplaced (Err why) is = tt
 over_ended (leaves.Failed fault) (Ok done) is = cc
 over_ended (leaves.Failed fault) (Err why) is = tt
 over_ended leaves.LogFailed (Ok done) is = cc
@@ -63,11 +63,11 @@ over_ended leaves.LogFailed (Err why) is = tt
 goes_on_only : (outcome : Outcome) → end_of outcome ≡ None → outcome ≡ leaves.GoesOn
 goes_on_only leaves.GoesOn is = refl
 goes_on_only leaves.Over is = cc
-goes_on_only leaves.WentBack is = cc
+goes_on_only leaves.StoreReplaced is = cc
 goes_on_only (leaves.Failed fault) is = cc
 goes_on_only leaves.LogFailed is = cc
 
-length_more : (told : List Told) (thing : Told) → length (told ++ thing ∷ []) ≡ length told + 1
+length_more : (told : List ServerNotice) (thing : ServerNotice) → length (told ++ thing ∷ []) ≡ length told + 1
 length_more [] thing = refl
 length_more (x ∷ told) thing = let more = length_more told thing in omega (arith, more)
 
@@ -76,7 +76,7 @@ module _ {D W : Type 0} {disk : Ghosts D} {wire : OfWire W} where
   pub record SoFar {K : Type 0} (kept : K → ℕ → Life → K → Type 0) (port : ℕ) (started : NodeServer D W disk wire) (first : Outcome) (start : Option (List ℕ)) (lives_first : K)
       (now : NodeServer D W disk wire) (outcome : Outcome) (steps : ℕ) (held : Option (List ℕ)) (lives : K) : Type 0 where
     pub count : ℕ
-    pub told : List Told
+    pub told : List ServerNotice
     pub last : NodeServer D W disk wire
     pub turns : Turns started first count (told ++ told_in now) outcome last
     pub served : served_of now ≡ served_of last
@@ -110,7 +110,7 @@ module _ {D W : Type 0} {disk : Ghosts D} {wire : OfWire W} where
     }
 
     -- one thing more was told
-    pub told_one : ShownStays → (now next : NodeServer D W disk wire) (outcome : Outcome) (steps : ℕ) (thing : Told) (held held_after : Option (List ℕ)) (lives lives_after : K)
+    pub told_one : ShownStays → (now next : NodeServer D W disk wire) (outcome : Outcome) (steps : ℕ) (thing : ServerNotice) (held held_after : Option (List ℕ)) (lives lives_after : K)
         → SoFar kept port started first start lives_first now outcome steps held lives → told_in now ≡ thing ∷ told_in next → served_of next ≡ served_of now
         → TellsOne kept (served_of next).look port thing held held_after lives lives_after → IsShown (served_of now).own (served_of now).lines thing
         → SoFar kept port started first start lives_first next outcome (steps + 1) held_after lives_after
@@ -118,8 +118,8 @@ module _ {D W : Type 0} {disk : Ghosts D} {wire : OfWire W} where
       count = so.count;
       told = so.told ++ thing ∷ [];
       last = so.last;
-      turns = subst (λ (l : List Told). Turns started first so.count l outcome so.last) (sym (append_assoc so.told (thing ∷ []) (told_in next)))
-          (subst (λ (l : List Told). Turns started first so.count (so.told ++ l) outcome so.last) is so.turns);
+      turns = subst (λ (l : List ServerNotice). Turns started first so.count l outcome so.last) (sym (append_assoc so.told (thing ∷ []) (told_in next)))
+          (subst (λ (l : List ServerNotice). Turns started first so.count (so.told ++ l) outcome so.last) is so.turns);
       served = same ∙ so.served;
       noted = run.Tells.one so.told thing held held_after lives lives_after so.noted
           (tells_at kept (served_of started).look (served_of next).look port thing held held_after lives lives_after (ap (λ (s : Served (Node D)). s.look.config) same ∙ so.config)
@@ -148,8 +148,8 @@ module _ {D W : Type 0} {disk : Ghosts D} {wire : OfWire W} where
           last = next;
           turns = run.Turns.one so.count so.told so.last next outcome
               (subst (λ (o : Outcome). Turns started first so.count so.told o so.last) (goes_on_only before on)
-              (subst (λ (l : List Told). Turns started first so.count l before so.last) (append-nil so.told)
-              (subst (λ (l : List Told). Turns started first so.count (so.told ++ l) before so.last) is so.turns)))
+              (subst (λ (l : List ServerNotice). Turns started first so.count l before so.last) (append-nil so.told)
+              (subst (λ (l : List ServerNotice). Turns started first so.count (so.told ++ l) before so.last) is so.turns)))
               (subst (λ (s : Served (Node D)). WentOn disk [] s (served_of next)) so.served onwards);
           served = refl;
           noted = so.noted;
@@ -171,8 +171,8 @@ module _ {D W : Type 0} {disk : Ghosts D} {wire : OfWire W} where
       outcome = outcome;
       last = so.last;
       waiting = so.told;
-      turns = subst (λ (l : List Told). Turns started first so.count l outcome so.last) (append-nil so.told)
-          (subst (λ (l : List Told). Turns started first so.count (so.told ++ l) outcome so.last) is so.turns);
+      turns = subst (λ (l : List ServerNotice). Turns started first so.count l outcome so.last) (append-nil so.told)
+          (subst (λ (l : List ServerNotice). Turns started first so.count (so.told ++ l) outcome so.last) is so.turns);
       served = same ∙ so.served;
       told = so.told;
       lives_then = lives;
@@ -183,7 +183,7 @@ module _ {D W : Type 0} {disk : Ghosts D} {wire : OfWire W} where
     }
 
     -- by a life that couldn't be kept
-    pub stopped : (now next : NodeServer D W disk wire) (outcome : Outcome) (steps : ℕ) (thing : Told) (fault : NodeFault) (held held_after : Option (List ℕ)) (lives lives_after : K)
+    pub stopped : (now next : NodeServer D W disk wire) (outcome : Outcome) (steps : ℕ) (thing : ServerNotice) (fault : NodeFault) (held held_after : Option (List ℕ)) (lives lives_after : K)
         → SoFar kept port started first start lives_first now outcome steps held lives → told_in now ≡ thing ∷ told_in next → served_of next ≡ served_of now → HasLife thing → held_after ≡ held
         → IsShown (served_of now).own (served_of now).lines thing → Went kept port started first (Err (by_fault fault)) next start held_after lives_first lives_after
     stopped now next outcome steps thing fault held held_after lives lives_after so is same has noted shown = record {
@@ -191,8 +191,8 @@ module _ {D W : Type 0} {disk : Ghosts D} {wire : OfWire W} where
       outcome = outcome;
       last = so.last;
       waiting = so.told ++ tells.Joined has.0 (Some has.1.0) ∷ told_in next;
-      turns = subst (λ (t : Told). Turns started first so.count (so.told ++ t ∷ told_in next) outcome so.last) has.1.1
-          (subst (λ (l : List Told). Turns started first so.count (so.told ++ l) outcome so.last) is so.turns);
+      turns = subst (λ (t : ServerNotice). Turns started first so.count (so.told ++ t ∷ told_in next) outcome so.last) has.1.1
+          (subst (λ (l : List ServerNotice). Turns started first so.count (so.told ++ l) outcome so.last) is so.turns);
       served = same ∙ so.served;
       told = so.told;
       lives_then = lives;
@@ -207,7 +207,7 @@ module _ {D W : Type 0} {disk : Ghosts D} {wire : OfWire W} where
             (
               refl,
               subst (λ (s : Served (Node D)). IsShown s.own s.lines (tells.Joined has.0 (Some has.1.0))) (sym same)
-                  (subst (λ (t : Told). IsShown (served_of now).own (served_of now).lines t) has.1.1 shown),
+                  (subst (λ (t : ServerNotice). IsShown (served_of now).own (served_of now).lines t) has.1.1 shown),
             ),
           ),
         ),

@@ -2,5 +2,5 @@ pub mod BesideStore
 pub mod KeyFiles
 pub mod NodeNotes
 pub mod NodeEnds
-pub mod ToldNotes
+pub mod ServerNotes
 pub mod Running

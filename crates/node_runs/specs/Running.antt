@@ -20,10 +20,10 @@ use Rattle.node_service.specs.Serving.{served_of, told_in}
 use Rattle.node_service.specs.declared.outcome.Outcome.{Outcome}
 use Rattle.node_service.specs.declared.outcome.Outcome.TheVariants as leaves
 use Rattle.node_service.specs.declared.server.NodeServer.{NodeServer}
-use Rattle.node_service.specs.declared.told.Told.{Told}
-use Rattle.node_service.specs.declared.told.Told.TheVariants as tells
+use Rattle.node_service.specs.declared.server_notice.ServerNotice.{ServerNotice}
+use Rattle.node_service.specs.declared.server_notice.ServerNotice.TheVariants as tells
 use Rattle.node_runs.specs.NodeNotes.{note_line}
-use Rattle.node_runs.specs.ToldNotes.{told_lines}
+use Rattle.node_runs.specs.ServerNotes.{notice_lines}
 use Rattle.node_runs.specs.declared.node_end.NodeEnd.{NodeEnd}
 use Rattle.node_runs.specs.declared.node_end.NodeEnd.TheVariants as end
 use Rattle.node_runs.specs.declared.node_note.NodeNote.TheVariants as note
@@ -39,23 +39,23 @@ abbrev pub begin_line : {D : Type 0} → Look (Node D) → List ℕ
 begin_line look = note_line (note.Begins look.config.setting.title.name look.number (front_in look.node))
 
 -- a life that was first seen is kept, and else nothing is done
-abbrev pub KeepsLife : {K : Type 0} → (K → ℕ → Life → K → Type 0) → Told → K → K → Type 0
+abbrev pub KeepsLife : {K : Type 0} → (K → ℕ → Life → K → Type 0) → ServerNotice → K → K → Type 0
 KeepsLife kept (tells.Joined peer (Some life)) old new = kept old peer life new
 KeepsLife kept other old new = new ≡ old
 
 -- there is a life in it that was first seen
-abbrev pub HasLife : Told → Type 0
+abbrev pub HasLife : ServerNotice → Type 0
 HasLife thing = (peer : ℕ) × ((life : Life) × (thing ≡ tells.Joined peer (Some life)))
 
 -- one thing was told, at this node, which awaits seat 0 at this port: before, the life in it was kept, if one is in it
-pub record TellsOne {K N : Type 0} (kept : K → ℕ → Life → K → Type 0) (look : Look N) (port : ℕ) (thing : Told) (held held_after : Option (List ℕ)) (lives lives_after : K) : Type 0 where
+pub record TellsOne {K N : Type 0} (kept : K → ℕ → Life → K → Type 0) (look : Look N) (port : ℕ) (thing : ServerNotice) (held held_after : Option (List ℕ)) (lives lives_after : K) : Type 0 where
   pub keeps : KeepsLife kept thing lives lives_after
-  pub noted : AreNoted (told_lines look.config.setting.names look.number port thing) held held_after
+  pub noted : AreNoted (notice_lines look.config.setting.names look.number port thing) held held_after
 
 -- so many things were told, one after another, since notes and keeper were these
-pub data Tells {K N : Type 0} (kept : K → ℕ → Life → K → Type 0) (look : Look N) (port : ℕ) (start : Option (List ℕ)) (first : K) : List Told → Option (List ℕ) → K → Type 0 where
+pub data Tells {K N : Type 0} (kept : K → ℕ → Life → K → Type 0) (look : Look N) (port : ℕ) (start : Option (List ℕ)) (first : K) : List ServerNotice → Option (List ℕ) → K → Type 0 where
   none : Tells kept look port start first [] start first
-  one : (before : List Told) (thing : Told) (held held_after : Option (List ℕ)) (lives lives_after : K) → Tells kept look port start first before held lives
+  one : (before : List ServerNotice) (thing : ServerNotice) (held held_after : Option (List ℕ)) (lives lives_after : K) → Tells kept look port start first before held lives
       → TellsOne kept look port thing held held_after lives lives_after → Tells kept look port start first (before ++ thing ∷ []) held_after lives_after
 
 -- ---- how it ends
@@ -64,23 +64,23 @@ pub data Tells {K N : Type 0} (kept : K → ℕ → Life → K → Type 0) (look
 abbrev pub end_of : Outcome → Option (Result (Unit {0}) NodeEnd)
 end_of leaves.GoesOn = None
 end_of leaves.Over = Some (Ok tt)
-end_of leaves.WentBack = Some (Err end.WentBack)
+end_of leaves.StoreReplaced = Some (Err end.StoreReplaced)
 end_of (leaves.Failed fault) = Some (Err (by_fault fault))
 end_of leaves.LogFailed = Some (Err (end.Unserved (unserved.Fault serve.LogFailed)))
 
 -- of all that turns had to tell this was told when it ended so, after so many turns the last of which left this to do
-pub data EndsBy (outcome : Outcome) (count : ℕ) : (waiting told : List Told) → Result (Unit {0}) NodeEnd → Type 0 where
+pub data EndsBy (outcome : Outcome) (count : ℕ) : (waiting told : List ServerNotice) → Result (Unit {0}) NodeEnd → Type 0 where
   -- all of it
-  by_turn : (told : List Told) (answer : Result (Unit {0}) NodeEnd) → end_of outcome ≡ Some answer → EndsBy outcome count told told answer
+  by_turn : (told : List ServerNotice) (answer : Result (Unit {0}) NodeEnd) → end_of outcome ≡ Some answer → EndsBy outcome count told told answer
   -- all before a life that couldn't be kept
-  unkept : (told more : List Told) (peer : ℕ) (life : Life) (fault : NodeFault) → EndsBy outcome count (told ++ tells.Joined peer (Some life) ∷ more) told (Err (by_fault fault))
+  unkept : (told more : List ServerNotice) (peer : ℕ) (life : Life) (fault : NodeFault) → EndsBy outcome count (told ++ tells.Joined peer (Some life) ∷ more) told (Err (by_fault fault))
   -- as much as there were steps left
-  by_count : (told more : List Told) → count + length told ≡ 2 ^ 64 - 1 → EndsBy outcome count (told ++ more) told (Err (by_fault Spent))
+  by_count : (told more : List ServerNotice) → count + length told ≡ 2 ^ 64 - 1 → EndsBy outcome count (told ++ more) told (Err (by_fault Spent))
 
 -- a life stands behind what was told, which its node showed
-abbrev pub StopsAtLife : Own → List Passage → (waiting told : List Told) → Type 0
+abbrev pub StopsAtLife : Own → List Passage → (waiting told : List ServerNotice) → Type 0
 StopsAtLife own lines waiting told =
-    (peer : ℕ) × ((life : Life) × ((more : List Told) × ((waiting ≡ told ++ tells.Joined peer (Some life) ∷ more) × IsShown own lines (tells.Joined peer (Some life)))))
+    (peer : ℕ) × ((life : Life) × ((more : List ServerNotice) × ((waiting ≡ told ++ tells.Joined peer (Some life) ∷ more) × IsShown own lines (tells.Joined peer (Some life)))))
 
 -- ---- turns
 
@@ -91,9 +91,9 @@ module _ {D : Type 0} (disk : Ghosts D) where
 
 module _ {D W : Type 0} {disk : Ghosts D} {wire : OfWire W} where
   -- so many turns after one another since the node was started, which left this to do: all that start and turns had to tell, and what the last turn left to do
-  pub data Turns (started : NodeServer D W disk wire) (first : Outcome) : ℕ → List Told → Outcome → NodeServer D W disk wire → Type 0 where
+  pub data Turns (started : NodeServer D W disk wire) (first : Outcome) : ℕ → List ServerNotice → Outcome → NodeServer D W disk wire → Type 0 where
     none : Turns started first 0 (told_in started) first started
-    one : (count : ℕ) (waiting : List Told) (before next : NodeServer D W disk wire) (outcome : Outcome) → Turns started first count waiting leaves.GoesOn before
+    one : (count : ℕ) (waiting : List ServerNotice) (before next : NodeServer D W disk wire) (outcome : Outcome) → Turns started first count waiting leaves.GoesOn before
         → WentOn disk [] (served_of before) (served_of next) → Turns started first (count + 1) (waiting ++ told_in next) outcome next
 
   -- turns were taken and told until it ended so; the keeper is as it was when the last thing was told, unless a life couldn't be kept then; each life is one that its node showed
@@ -102,10 +102,10 @@ module _ {D W : Type 0} {disk : Ghosts D} {wire : OfWire W} where
     pub count : ℕ
     pub outcome : Outcome
     pub last : NodeServer D W disk wire
-    pub waiting : List Told
+    pub waiting : List ServerNotice
     pub turns : Turns started first count waiting outcome last
     pub served : served_of new ≡ served_of last
-    pub told : List Told
+    pub told : List ServerNotice
     pub lives_then : K
     pub noted : Tells kept (served_of started).look port held lives told held_after lives_then
     pub shown : AreShown (served_of new).own (served_of new).lines told

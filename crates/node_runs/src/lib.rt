@@ -13,7 +13,7 @@ mod life_keeper;
 mod node_end;
 mod node_note;
 mod running;
-mod told_notes;
+mod server_notes;
 
 pub use beside_store::{life_path, node_kept_path};
 pub use key_file::{KeyFault, MOST_BYTES, key_text, read_key};

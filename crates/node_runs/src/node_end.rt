@@ -15,7 +15,7 @@ pub enum NodeEnd {
     /// It can't begin, or go on.
     Unserved(Unserved),
     /// 127: the node's store is another than the one that a peer knows, so it was lost and made anew.
-    WentBack,
+    StoreReplaced,
 }
 
 impl NodeEnd {
@@ -28,7 +28,7 @@ impl NodeEnd {
             NodeEnd::Unserved(Unserved::Fault(ServeFault::Node(NodeFault::Store(_))))
             | NodeEnd::Unserved(Unserved::Fault(ServeFault::Node(NodeFault::Conflict))) => 3,
             NodeEnd::Unserved(why) => why.conclusion().status(),
-            NodeEnd::WentBack => 2,
+            NodeEnd::StoreReplaced => 2,
         }
     }
 }
@@ -42,7 +42,7 @@ impl fmt::Display for NodeEnd {
                 let conclusion = why.conclusion();
                 write!(f, "{conclusion}")
             }
-            NodeEnd::WentBack => f.write_str("127 WentBack"),
+            NodeEnd::StoreReplaced => f.write_str("127 StoreReplaced"),
         }
     }
 }

@@ -1,7 +1,7 @@
 //! The notes of `node`: what standard error gets of a node's process, one line each, beside those that `serve` has too.
 
 ghost use Rattle.std.specs.Prelude.{◌≡◌, ◌++◌, codes, decimal, OnOk};
-ghost use Rattle.node_links.specs.Lines.{link_fault_line};
+ghost use Rattle.node_links.specs.Lines.{peer_fault_line};
 ghost use Rattle.paxos_wire.specs.Lines.{ballot_line};
 ghost use Rattle.match_runs.specs.Notes.{IsNoted, times_text};
 ghost use Rattle.std.specs.Net.Text.{socket_text};
@@ -11,7 +11,7 @@ ghost use Rattle.node_runs.specs.NodeNotes.{note_line, note_text, peer_text, sou
 use crate::key_file::KeyFault;
 use match_log::Name;
 use match_runs::put_times;
-use node_links::LinkFault;
+use node_links::PeerFault;
 use paxos_wire::Ballot;
 use std::alloc::{AllocError, Global};
 use std::io::Write;
@@ -44,20 +44,20 @@ pub enum NodeNote<'a> {
     /// A connection to a peer was closed by a fault, and where it came from or went to, if that is known.
     Refused {
         peer: u8,
-        fault: LinkFault,
+        fault: PeerFault,
         source: Option<IpAddr>,
     },
     /// So many connections of callers were closed by a fault, before it was known who calls.
     Callers {
         count: u32,
-        fault: LinkFault,
+        fault: PeerFault,
     },
     /// More than half of the nodes are here, this one among them.
     Quorum,
     /// No more so.
     QuorumLost,
     /// This node leads, by this ballot.
-    Leads(Ballot),
+    Campaigns(Ballot),
 }
 
 /// Writes a note in one piece, and flushes. One that can't be made or written is left out, or a beginning of it stands
@@ -111,7 +111,7 @@ fn put_note(out: &mut Vec<u8>, note: &NodeNote<'_>) -> Result<(), AllocError>
         NodeNote::Callers { count, fault } => put_callers(out, *count, fault),
         NodeNote::Quorum => out.extend_from_slice(b"quorum"),
         NodeNote::QuorumLost => out.extend_from_slice(b"quorum lost"),
-        NodeNote::Leads(ballot) => put_lead(out, ballot),
+        NodeNote::Campaigns(ballot) => put_campaign(out, ballot),
     }
 }
 
@@ -153,10 +153,10 @@ fn put_peer(out: &mut Vec<u8>, peer: u8, what: &str) -> Result<(), AllocError>
 fn put_refused(
     out: &mut Vec<u8>,
     peer: u8,
-    fault: &LinkFault,
+    fault: &PeerFault,
     source: &Option<IpAddr>,
 ) -> Result<(), AllocError>
-    ensures { OnOk result (out.new.items ≡ out.old.items ++ (peer_text peer (link_fault_line fault.now) ++ source_text source.now)) }
+    ensures { OnOk result (out.new.items ≡ out.old.items ++ (peer_text peer (peer_fault_line fault.now) ++ source_text source.now)) }
 {
     let text = format!(in *out.allocator(); "peer {peer}: {fault}")?;
     out.extend_from_slice(text.as_bytes())?;
@@ -191,8 +191,8 @@ fn put_status(out: &mut Vec<u8>, address: &SocketAddr) -> Result<(), AllocError>
 }
 
 /// Appends by which fault connections of callers were closed, and how many.
-fn put_callers(out: &mut Vec<u8>, count: u32, fault: &LinkFault) -> Result<(), AllocError>
-    ensures { OnOk result (out.new.items ≡ out.old.items ++ (codes "caller: " ++ link_fault_line fault.now ++ times_text count)) }
+fn put_callers(out: &mut Vec<u8>, count: u32, fault: &PeerFault) -> Result<(), AllocError>
+    ensures { OnOk result (out.new.items ≡ out.old.items ++ (codes "caller: " ++ peer_fault_line fault.now ++ times_text count)) }
 {
     let text = format!(in *out.allocator(); "caller: {fault}")?;
     out.extend_from_slice(text.as_bytes())?;
@@ -200,9 +200,9 @@ fn put_callers(out: &mut Vec<u8>, count: u32, fault: &LinkFault) -> Result<(), A
 }
 
 /// Appends by which ballot the node leads.
-fn put_lead(out: &mut Vec<u8>, ballot: &Ballot) -> Result<(), AllocError>
-    ensures { OnOk result (out.new.items ≡ out.old.items ++ (codes "leads " ++ ballot_line ballot.now)) }
+fn put_campaign(out: &mut Vec<u8>, ballot: &Ballot) -> Result<(), AllocError>
+    ensures { OnOk result (out.new.items ≡ out.old.items ++ (codes "campaigns in ballot " ++ ballot_line ballot.now)) }
 {
-    let text = format!(in *out.allocator(); "leads {ballot}")?;
+    let text = format!(in *out.allocator(); "campaigns in ballot {ballot}")?;
     out.extend_from_slice(text.as_bytes())
 }

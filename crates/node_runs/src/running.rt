@@ -12,11 +12,11 @@ ghost use Rattle.node_runs.specs.Running.{Ran, Went, GoesOnTo, TellsOne, KeepsLi
 use crate::life_keeper::LifeKeeper;
 use crate::node_end::NodeEnd;
 use crate::node_note::{NodeNote, tell_node_note};
-use crate::told_notes::tell_told;
+use crate::server_notes::tell_notice;
 use dealer_node::NodeFault;
 use match_runs::Unserved;
 use node_service::laws::{lives_stay_shown, turns_are_one};
-use node_service::{NodeServer, Outcome, Told};
+use node_service::{NodeServer, Outcome, ServerNotice};
 use node_wires::Wire;
 use promise_store::Disk;
 use serving::ServeFault;
@@ -95,7 +95,7 @@ fn end_of(outcome: Outcome) -> Option<Result<(), NodeEnd>>
     match outcome {
         Outcome::GoesOn => None,
         Outcome::Over => Some(Ok(())),
-        Outcome::WentBack => Some(Err(NodeEnd::WentBack)),
+        Outcome::StoreReplaced => Some(Err(NodeEnd::StoreReplaced)),
         Outcome::Failed(fault) => Some(Err(NodeEnd::from(fault))),
         Outcome::LogFailed => Some(Err(NodeEnd::Unserved(Unserved::Fault(ServeFault::LogFailed)))),
     }
@@ -118,7 +118,7 @@ fn tell_begin<D: Disk + Drop, N: Write>(alloc: Global, station: &Station<D>, not
 fn tell<D: Disk + Drop, L: LifeKeeper, N: Write>(
     alloc: Global,
     station: &Station<D>,
-    told: &Told,
+    told: &ServerNotice,
     lives: &mut L,
     port: u16,
     notes: &mut N,
@@ -127,17 +127,17 @@ fn tell<D: Disk + Drop, L: LifeKeeper, N: Write>(
     ensures unkept { OnErr result (HasLife told.now × (N.contents notes.new ≡ N.contents notes.old)) }
 {
     keep_life(lives, told)?;
-    tell_told(alloc, station.config(), station.number(), port, told, notes);
+    tell_notice(alloc, station.config(), station.number(), port, told, notes);
     Ok(())
 }
 
 /// Has a life kept that was seen first.
-fn keep_life<L: LifeKeeper>(lives: &mut L, told: &Told) -> Result<(), NodeFault>
+fn keep_life<L: LifeKeeper>(lives: &mut L, told: &ServerNotice) -> Result<(), NodeFault>
     ensures kept { OnOk result (KeepsLife L.kept told.now lives.old lives.new) }
     ensures unkept { OnErr result (HasLife told.now) }
 {
     match told {
-        Told::Joined {
+        ServerNotice::Joined {
             peer,
             life: Some(life),
         } => lives.keep(*peer, life),

@@ -14,7 +14,7 @@ use Rattle.node_service.specs.Fitting.{FitsAt}
 use Rattle.node_service.specs.declared.sitting.Sitting.TheVariants.{Here, LetGo}
 use Rattle.node_service.specs.declared.wrong_tokens.Untold.{Untold}
 use Rattle.node_peers.specs.declared.notice.Notice.TheVariants as notices
-use Rattle.node_service.specs.declared.told.Told.TheVariants as tells
+use Rattle.node_service.specs.declared.server_notice.ServerNotice.TheVariants as tells
 use Rattle.node_service.specs.Company.{joined_in}
 use Rattle.node_service.specs.WrongTokens.{nobody, and_one, due_of, told_at}
 

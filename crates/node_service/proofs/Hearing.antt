@@ -10,7 +10,7 @@ use Rattle.node_peers.specs.declared.notice.Notice.TheVariants as notices
 use Rattle.node_peers.specs.declared.peers.Peers.{Peers}
 use Rattle.node_peers.specs.Hearing.{OpenedBy, IsTold, AreTold}
 use Rattle.node_peers.specs.Peering.{own_of, passed_of, Grew, Stays}
-use Rattle.node_service.specs.declared.told.Told.{Told}
+use Rattle.node_service.specs.declared.server_notice.ServerNotice.{ServerNotice}
 use Rattle.node_service.specs.Company.{joined_by, joined_in, IsShown, AreShown, Hears, HearsOn}
 
 -- ---- lists of what was told
@@ -27,23 +27,23 @@ told_rest : (own : Own) (lines : List Passage) (xs ys : List Notice) → AreTold
 told_rest own lines [] ys are = are
 told_rest own lines (x ∷ xs) ys are = told_rest own lines xs ys are.1
 
-joined_more : (told : List Told) (thing : Told) → joined_in (told ++ thing ∷ []) ≡ joined_in told ++ joined_by thing
+joined_more : (told : List ServerNotice) (thing : ServerNotice) → joined_in (told ++ thing ∷ []) ≡ joined_in told ++ joined_by thing
 joined_more [] thing = append-nil (joined_by thing)
 joined_more (x ∷ told) thing = ap (λ (m : List Notice). joined_by x ++ m) (joined_more told thing) ∙ sym (append_assoc (joined_by x) (joined_in told) (joined_by thing))
 
 -- ---- what is to be told
 
-pub one_shown : (own : Own) (lines : List Passage) (told : List Told) (thing : Told) → AreShown own lines told → IsShown own lines thing → AreShown own lines (told ++ thing ∷ [])
+pub one_shown : (own : Own) (lines : List Passage) (told : List ServerNotice) (thing : ServerNotice) → AreShown own lines told → IsShown own lines thing → AreShown own lines (told ++ thing ∷ [])
 one_shown own lines told thing are is =
     subst (λ (m : List Notice). AreTold own lines m) (sym (joined_more told thing)) (told_both own lines (joined_in told) (joined_by thing) are is)
 
-pub first_shown : (own : Own) (lines : List Passage) (thing : Told) (told all : List Told) → all ≡ thing ∷ told → AreShown own lines all → IsShown own lines thing
+pub first_shown : (own : Own) (lines : List Passage) (thing : ServerNotice) (told all : List ServerNotice) → all ≡ thing ∷ told → AreShown own lines all → IsShown own lines thing
 first_shown own lines thing told all is are =
-    told_front own lines (joined_by thing) (joined_in told) (subst (λ (m : List Told). AreShown own lines m) is are)
+    told_front own lines (joined_by thing) (joined_in told) (subst (λ (m : List ServerNotice). AreShown own lines m) is are)
 
-pub rest_shown : (own : Own) (lines : List Passage) (thing : Told) (told all : List Told) → all ≡ thing ∷ told → AreShown own lines all → AreShown own lines told
+pub rest_shown : (own : Own) (lines : List Passage) (thing : ServerNotice) (told all : List ServerNotice) → all ≡ thing ∷ told → AreShown own lines all → AreShown own lines told
 rest_shown own lines thing told all is are =
-    told_rest own lines (joined_by thing) (joined_in told) (subst (λ (m : List Told). AreShown own lines m) is are)
+    told_rest own lines (joined_by thing) (joined_in told) (subst (λ (m : List ServerNotice). AreShown own lines m) is are)
 
 -- ---- once more has passed
 
@@ -77,7 +77,7 @@ told_on : (own : Own) (lines more : List Passage) (told : List Notice) → AreTo
 told_on own lines more [] are = tt
 told_on own lines more (notice ∷ told) are = (opened_on own lines more notice are.0, told_on own lines more told are.1)
 
-pub shown_on : (own_old own_new : Own) (old new : List Passage) (told : List Told) → Hears own_old own_new old new → AreShown own_old old told → AreShown own_new new told
+pub shown_on : (own_old own_new : Own) (old new : List Passage) (told : List ServerNotice) → Hears own_old own_new old new → AreShown own_old old told → AreShown own_new new told
 shown_on own_old own_new old new told hears are =
     subst (λ (o : Own). AreShown o new told) (sym hears.own)
     (subst (λ (m : List Passage). AreShown own_old m told) (sym hears.lines) (told_on own_old old hears.more (joined_in told) are))
@@ -109,15 +109,15 @@ heard_later old then_is new wired_old wired_new stays grew =
 
 -- ---- what is to be told of them then
 
-pub shown_still : (old new : Peers) (told : List Told) → Stays old new → AreShown (own_of old) (passed_of old) told → AreShown (own_of new) (passed_of new) told
+pub shown_still : (old new : Peers) (told : List ServerNotice) → Stays old new → AreShown (own_of old) (passed_of old) told → AreShown (own_of new) (passed_of new) told
 shown_still old new told stays are = shown_on (own_of old) (own_of new) (passed_of old) (passed_of new) told (heard_still old new stays) are
 
-pub shown_more : (old new : Peers) (wired_old wired_new : List Passage) (told : List Told) → Grew old new wired_old wired_new → AreShown (own_of old) (passed_of old) told
+pub shown_more : (old new : Peers) (wired_old wired_new : List Passage) (told : List ServerNotice) → Grew old new wired_old wired_new → AreShown (own_of old) (passed_of old) told
     → AreShown (own_of new) (passed_of new) told
 shown_more old new wired_old wired_new told grew are =
     shown_on (own_of old) (own_of new) (passed_of old) (passed_of new) told (heard_more old new wired_old wired_new grew) are
 
-pub shown_later : (old then_is new : Peers) (wired_old wired_new : List Passage) (told : List Told) → Stays old then_is → Grew then_is new wired_old wired_new
+pub shown_later : (old then_is new : Peers) (wired_old wired_new : List Passage) (told : List ServerNotice) → Stays old then_is → Grew then_is new wired_old wired_new
     → AreShown (own_of old) (passed_of old) told → AreShown (own_of new) (passed_of new) told
 shown_later old then_is new wired_old wired_new told stays grew are =
     shown_on (own_of old) (own_of new) (passed_of old) (passed_of new) told (heard_later old then_is new wired_old wired_new stays grew) are

@@ -14,7 +14,7 @@ use Rattle.dealer_world.specs.declared.event.Event.{Event}
 use Rattle.stations.specs.Stations.{Look, Acts}
 use Rattle.stations.specs.Looking.{look_of}
 use Rattle.node_service.specs.declared.desk.Desk.{Desk}
-use Rattle.node_service.specs.declared.member.Member.{Member}
+use Rattle.node_service.specs.declared.local_node.LocalNode.{LocalNode}
 use Rattle.node_service.specs.Showing.{shown_log, added, LogGains}
 use Rattle.node_service.specs.Handed.{Handover, handed_by, mark_handed, lines_handed}
 use Rattle.node_service.specs.Arriving.{Incoming, seats_of, frames_of, taken_for}
@@ -75,7 +75,7 @@ module _ {D W : Type 0} {disk : Ghosts D} (wire : OfWire W) where
   }
 
   pub goes_kept : {old new : Desk D W disk} → IsKept wire old new → GoesOn disk [] (served_by wire old) (served_by wire new)
-  goes_kept {old} {new} is = still (served_by wire old) (served_by wire new) (ap (λ (m : Member D disk). look_of m.station) is.member) is.log_failed is.handed is.heard is.log is.seats is.sittings
+  goes_kept {old} {new} is = still (served_by wire old) (served_by wire new) (ap (λ (m : LocalNode D disk). look_of m.station) is.member) is.log_failed is.handed is.heard is.log is.seats is.sittings
       (heard_either old.company.peers new.company.peers is.hears)
 
   taken_kept : (taken : List Incoming) (old new : Desk D W disk) → IsKept wire old new → FitsBut taken (served_by wire old) → FitsBut taken (served_by wire new)
@@ -83,7 +83,7 @@ module _ {D W : Type 0} {disk : Ghosts D} (wire : OfWire W) where
     but.0,
     (
       is.seats ∙ but.1.0,
-      subst (λ (m : Member D disk). FitsFor (look_of m.station).deeds new.sittings but.0) (sym is.member) (fits_moved (look_of old.member.station).deeds old.sittings new.sittings but.0 is.sittings but.1.1),
+      subst (λ (m : LocalNode D disk). FitsFor (look_of m.station).deeds new.sittings but.0) (sym is.member) (fits_moved (look_of old.member.station).deeds old.sittings new.sittings but.0 is.sittings but.1.1),
     ),
   )
 
@@ -91,11 +91,11 @@ module _ {D W : Type 0} {disk : Ghosts D} (wire : OfWire W) where
   pub kept_then : {taken : List Incoming} {one two : Desk D W disk} {three : Served (Node D)} → IsKept wire one two → GoesOn disk taken (served_by wire two) three
       → GoesOn disk taken (served_by wire one) three
   kept_then {taken} {one} {two} {three} is goes = record {
-    config = goes.config ∙ ap (λ (m : Member D disk). (look_of m.station).config) is.member;
-    number = goes.number ∙ ap (λ (m : Member D disk). (look_of m.station).number) is.member;
-    begun = goes.begun ∙ ap (λ (m : Member D disk). begun_of disk (look_of m.station).node) is.member;
+    config = goes.config ∙ ap (λ (m : LocalNode D disk). (look_of m.station).config) is.member;
+    number = goes.number ∙ ap (λ (m : LocalNode D disk). (look_of m.station).number) is.member;
+    begun = goes.begun ∙ ap (λ (m : LocalNode D disk). begun_of disk (look_of m.station).node) is.member;
     since = goes.since;
-    deeds = goes.deeds ∙ ap (λ (m : Member D disk). goes.since ++ (look_of m.station).deeds) is.member;
+    deeds = goes.deeds ∙ ap (λ (m : LocalNode D disk). goes.since ++ (look_of m.station).deeds) is.member;
     log = subst (λ (b : Bool). LogGains b three.log_failed (shown_log goes.since) (logged_in (wire.passed one.wire)) (logged_in three.passed)) is.log_failed
         (subst (λ (m : List ℕ). LogGains two.log_failed three.log_failed (shown_log goes.since) m (logged_in three.passed)) is.log goes.log);
     handed = goes.handed ∙ ap (λ (m : List Handover). m ++ handed_by goes.since) is.handed;
@@ -128,7 +128,7 @@ module _ {D W : Type 0} {disk : Ghosts D} (wire : OfWire W) where
   pub refused : (e : Event) {old new : Desk D W disk} → IsKept wire old new → Refuses e old.sittings new.sittings
       → GoesOn disk (taken_for e) (served_by wire old) (served_by wire new)
   refused e {old} {new} is refuses =
-      let look : look_of new.member.station ≡ look_of old.member.station = ap (λ (m : Member D disk). look_of m.station) is.member in
+      let look : look_of new.member.station ≡ look_of old.member.station = ap (λ (m : LocalNode D disk). look_of m.station) is.member in
       unstepped e nothing_told (served_by wire old) (served_by wire new) (ap (λ (l : Look (Node D)). l.config) look) (ap (λ (l : Look (Node D)). l.number) look)
       (ap (λ (l : Look (Node D)). begun_of disk l.node) look) (ap (λ (l : Look (Node D)). l.deeds) look) refl
       (log_kept old.log_failed [] (logged_in (wire.passed old.wire)) old new (nothing_shown old.log_failed (logged_in (wire.passed old.wire))) is) (is.handed ∙ sym (append-nil old.handed.items)) is.seats
@@ -142,7 +142,7 @@ module _ {D W : Type 0} {disk : Ghosts D} (wire : OfWire W) where
       → mid.sittings ≡ old.sittings → Hears old.own (own_of mid.company.peers) old.lines (passed_of mid.company.peers) → IsKept wire mid new → Refuses e mid.sittings new.sittings
       → GoesOn disk (taken_for e) old (served_by wire new)
   unstepped_then e told result old mid new given acts same unmade log handed seats heard sittings hears is refuses =
-      let look : look_of new.member.station ≡ look_of mid.member.station = ap (λ (m : Member D disk). look_of m.station) is.member in
+      let look : look_of new.member.station ≡ look_of mid.member.station = ap (λ (m : LocalNode D disk). look_of m.station) is.member in
       unstepped_if_not e told result old (served_by wire new) given
       (subst (λ (l : Look (Node D)). IfSome result (λ answer. Acts disk e told answer old.look l)) (sym look) acts) (λ none. look ∙ same none) unmade
       (log_kept old.log_failed (added (map text_by told.shown)) (logged_in old.passed) mid new log is) (is.handed ∙ handed) (is.seats ∙ seats) (is.heard ∙ heard)

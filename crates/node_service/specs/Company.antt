@@ -7,25 +7,25 @@ use Rattle.node_peers.specs.declared.notice.Notice.TheVariants as notices
 use Rattle.node_peers.specs.declared.peers.Peers.{Peers}
 use Rattle.node_peers.specs.Hearing.{AreTold}
 use Rattle.node_peers.specs.Peering.{own_of, passed_of}
-use Rattle.node_service.specs.declared.told.Told.{Told}
-use Rattle.node_service.specs.declared.told.Told.TheVariants as tells
+use Rattle.node_service.specs.declared.server_notice.ServerNotice.{ServerNotice}
+use Rattle.node_service.specs.declared.server_notice.ServerNotice.TheVariants as tells
 
 -- ---- nodes that are told to be there
 
 -- the notice of the peers that is behind what is told, where a node is told to be there
-abbrev pub joined_by : Told → List Notice
+abbrev pub joined_by : ServerNotice → List Notice
 joined_by (tells.Joined peer life) = notices.Joined peer life ∷ []
 joined_by other = []
 
-abbrev pub joined_in : List Told → List Notice
+abbrev pub joined_in : List ServerNotice → List Notice
 joined_in [] = []
 joined_in (thing ∷ more) = joined_by thing ++ joined_in more
 
 -- where a node is told to be there the peers tell so: it opened a connection by its Hello, and a life that is told with it is the one of that Hello
-abbrev pub IsShown : Own → List Passage → Told → Type 0
+abbrev pub IsShown : Own → List Passage → ServerNotice → Type 0
 IsShown own lines thing = AreTold own lines (joined_by thing)
 
-abbrev pub AreShown : Own → List Passage → List Told → Type 0
+abbrev pub AreShown : Own → List Passage → List ServerNotice → Type 0
 AreShown own lines told = AreTold own lines (joined_in told)
 
 -- ---- peers
@@ -43,5 +43,5 @@ HearsOn old new = Hears (own_of old) (own_of new) (passed_of old) (passed_of new
 
 -- what is shown stays so, also while more passes, and so it is with one thing more behind it that is shown
 pub record ShownStays : Type 0 where
-  pub on : (own_old own_new : Own) (old new : List Passage) (told : List Told) → Hears own_old own_new old new → AreShown own_old old told → AreShown own_new new told
-  pub and_one : (own : Own) (lines : List Passage) (told : List Told) (thing : Told) → AreShown own lines told → IsShown own lines thing → AreShown own lines (told ++ thing ∷ [])
+  pub on : (own_old own_new : Own) (old new : List Passage) (told : List ServerNotice) → Hears own_old own_new old new → AreShown own_old old told → AreShown own_new new told
+  pub and_one : (own : Own) (lines : List Passage) (told : List ServerNotice) (thing : ServerNotice) → AreShown own lines told → IsShown own lines thing → AreShown own lines (told ++ thing ∷ [])

@@ -13,7 +13,7 @@ use Rattle.node_service.specs.declared.outcome.Outcome.TheVariants as outcome
 abbrev pub is_well : Outcome → Bool
 is_well outcome.GoesOn = true
 is_well outcome.Over = true
-is_well outcome.WentBack = false
+is_well outcome.StoreReplaced = false
 is_well (outcome.Failed fault) = false
 is_well outcome.LogFailed = false
 

@@ -7,7 +7,7 @@ use Rattle.stations.specs.declared.station.Station.{Station}
 use Rattle.stations.specs.Stations.{Look}
 use Rattle.stations.specs.Looking.{look_of}
 use Rattle.node_service.specs.declared.outcome.Outcome.{Outcome}
-use Rattle.node_service.specs.declared.told.Told.{Told}
+use Rattle.node_service.specs.declared.server_notice.ServerNotice.{ServerNotice}
 use Rattle.node_service.specs.declared.server.NodeServer.{NodeServer}
 use Rattle.node_service.specs.Desks.{served_by}
 use Rattle.node_service.specs.Served.{Served}
@@ -26,5 +26,5 @@ module _ {D W : Type 0} {disk : Ghosts D} {wire : OfWire W} where
   look_in server = look_of (station_of server)
 
   -- what is to be told, the next first
-  abbrev pub told_in : NodeServer D W disk wire → List Told
+  abbrev pub told_in : NodeServer D W disk wire → List ServerNotice
   told_in server = server.desk.company.told.items

@@ -7,8 +7,8 @@ ghost use Rattle.node_peers.specs.Sending.{Sends};
 ghost use Rattle.node_wires.specs.Passages.{logged_in, seats_in};
 ghost use Rattle.node_service.specs.Company.{joined_in, IsShown, AreShown, HearsOn};
 
-use crate::told::Told;
-use node_links::Told as Beat;
+use crate::server_notice::ServerNotice;
+use node_links::OwnReport;
 use node_peers::{Notice, Peers};
 use node_wires::Wire;
 use paxos_wire::Ballot;
@@ -19,7 +19,7 @@ use std::collections::VecDeque;
 /// told so, and the life that is told with it too.
 pub(crate) struct Company {
     pub(crate) peers: Peers,
-    pub(crate) told: VecDeque<Told>,
+    pub(crate) told: VecDeque<ServerNotice>,
     ghost shown: { AreShown (own_of peers) (passed_of peers) told.items } by { are_told_prop (own_of peers) (passed_of peers) (joined_in told.items) },
 }
 
@@ -42,7 +42,7 @@ impl Company {
 
     /// What is to be told next.
     #[tactic(auto, using(crate::proofs::Hearing::first_shown, crate::proofs::Hearing::rest_shown))]
-    pub(crate) fn notice(&mut self) -> Option<Told>
+    pub(crate) fn notice(&mut self) -> Option<ServerNotice>
         ensures next { IfSome result (λ told. self.old.told.items ≡ told ∷ self.new.told.items) }
         ensures none { IsNone result → self.old.told.items ≡ [] }
         ensures same { self.new.peers ≡ self.old.peers }
@@ -53,7 +53,7 @@ impl Company {
 
     /// This is to be told behind the rest. False without memory: then it is lost.
     #[tactic(auto, using(crate::proofs::Hearing::one_shown))]
-    pub(crate) fn tell(&mut self, told: Told) -> bool
+    pub(crate) fn tell(&mut self, told: ServerNotice) -> bool
         requires { IsShown (own_of self.old.peers) (passed_of self.old.peers) told }
         ensures { self.new.peers ≡ self.old.peers }
     {
@@ -81,7 +81,7 @@ impl Company {
 
     /// Writes what waits for peers, and first tells them how the node is, where that is due.
     #[tactic(auto, using(crate::proofs::Hearing::heard_later, crate::proofs::Hearing::shown_later))]
-    pub(crate) fn speak<W: Wire>(&mut self, beat: Beat, wire: &mut W, now: u64)
+    pub(crate) fn speak<W: Wire>(&mut self, beat: OwnReport, wire: &mut W, now: u64)
         ensures hears { HearsOn self.old.peers self.new.peers }
         ensures seats { seats_in (W.passed wire.new) ≡ seats_in (W.passed wire.old) }
         ensures log { logged_in (W.passed wire.new) ≡ logged_in (W.passed wire.old) }

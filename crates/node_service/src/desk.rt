@@ -19,11 +19,11 @@ ghost use Rattle.node_service.specs.Handed.{ToPeer, ToSeat, mark_handed, line_ha
 use crate::company::Company;
 use crate::handed::Handed;
 use crate::limits::{LONG, SEATS};
-use crate::member::Member;
+use crate::local_node::LocalNode;
 use crate::sitting::Sittings;
 use dealer_node::{NodeFault, Out, Reader};
 use dealer_world::Event;
-use node_links::Told as Beat;
+use node_links::OwnReport;
 use node_peers::Notice;
 use node_seats::{SeatNotice, Seats};
 use node_status::Askers;
@@ -32,7 +32,7 @@ use promise_store::Disk;
 
 /// A node's process at its wires: the node, its peers and the bots of its seats.
 pub(crate) struct Desk<D: Disk + Drop, W: Wire + Drop> {
-    pub(crate) member: Member<D>,
+    pub(crate) member: LocalNode<D>,
     pub(crate) wire: W,
     pub(crate) company: Company,
     pub(crate) seats: Seats,
@@ -69,7 +69,11 @@ fn bit_of(seat: u8) -> u16 {
 }
 
 /// Whether a bot sits at a seat whose session is ready, and nothing waits for it.
-pub(crate) fn has_been_told<D: Disk + Drop>(member: &Member<D>, seats: &Seats, seat: u8) -> bool {
+pub(crate) fn has_been_told<D: Disk + Drop>(
+    member: &LocalNode<D>,
+    seats: &Seats,
+    seat: u8,
+) -> bool {
     let bits = seats.bits() & bit_of(seat);
     bits != 0 && member.is_connected(seat) && seats.backlog(seat) == 0
 }
@@ -390,7 +394,7 @@ impl<D: Disk + Drop, W: Wire + Drop> Desk<D, W> {
     }
 
     /// Writes what waits for peers, and first tells them how the node is, where that is due.
-    fn write_to_peers(&mut self, told: Beat, now: u64)
+    fn write_to_peers(&mut self, told: OwnReport, now: u64)
         ensures { IsKept W.Wire self.old self.new }
     {
         self.company.speak(told, &mut self.wire, now);
@@ -418,7 +422,7 @@ impl<D: Disk + Drop, W: Wire + Drop> Desk<D, W> {
     }
 
     /// Writes what waits for peers, seats and those who asked, and first tells peers how the node is, where that is due.
-    pub(crate) fn speak(&mut self, told: Beat, now: u64)
+    pub(crate) fn speak(&mut self, told: OwnReport, now: u64)
         ensures { IsKept W.Wire self.old self.new }
     {
         self.write_to_peers(told, now);

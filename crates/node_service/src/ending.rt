@@ -17,7 +17,7 @@ impl<D: Disk + Drop, W: Wire + Drop> NodeServer<D, W> {
         if view.is_open && now.saturating_sub(view.since) < TOLD {
             return false;
         }
-        self.sights.is_over(number) || now.saturating_sub(view.heard.max(self.began)) >= UNHEARD
+        self.reports.is_over(number) || now.saturating_sub(view.heard.max(self.began)) >= UNHEARD
     }
 
     /// Whether no peer needs to be waited for.

@@ -4,10 +4,10 @@ ghost use Rattle.std.specs.Prelude.{◌≡◌, ◌<◌};
 ghost use Rattle.node_service.specs.declared.limits.TheConstants.{SEATS as COUNT};
 
 use crate::limits::SEATS;
-use crate::member::Member;
+use crate::local_node::LocalNode;
 use crate::server::NodeServer;
-use crate::told::Told;
-use node_links::Told as Beat;
+use crate::server_notice::ServerNotice;
+use node_links::OwnReport;
 use node_watch::Seen;
 use node_wires::Wire;
 use paxos_wire::Ballot;
@@ -16,7 +16,7 @@ use seat_session::SessionFault;
 use slot_log::Table;
 
 /// What is seen of a node.
-pub(crate) fn seen_of<D: Disk + Drop>(member: &Member<D>) -> Seen {
+pub(crate) fn seen_of<D: Disk + Drop>(member: &LocalNode<D>) -> Seen {
     let node = member.node();
     let table = node.table();
     Seen {
@@ -59,7 +59,7 @@ impl<D: Disk + Drop, W: Wire + Drop> NodeServer<D, W> {
         }
         let seat = found.seat as u8;
         let fault = found.fault;
-        self.tell(Told::Faulty { seat, fault });
+        self.tell(ServerNotice::Faulty { seat, fault });
         if !closes(fault) {
             return true;
         }
@@ -108,10 +108,10 @@ impl<D: Disk + Drop, W: Wire + Drop> NodeServer<D, W> {
         self.leader = Some(ballot);
         if self.is_started {
             self.watch.lead();
-            self.sights.lead(ballot.node, now);
+            self.reports.lead(ballot.node, now);
         }
         if is_other && self.watch.seen.campaigns {
-            self.tell(Told::Leads { ballot });
+            self.tell(ServerNotice::Campaigns { ballot });
         }
     }
 
@@ -124,7 +124,10 @@ impl<D: Disk + Drop, W: Wire + Drop> NodeServer<D, W> {
         if count == 0 {
             return;
         }
-        let is_told = self.desk.company.tell(Told::WrongToken { seat, count });
+        let is_told = self
+            .desk
+            .company
+            .tell(ServerNotice::WrongToken { seat, count });
         if is_told {
             self.wrong_tokens.tell(seat, now);
         }
@@ -144,9 +147,9 @@ impl<D: Disk + Drop, W: Wire + Drop> NodeServer<D, W> {
         ensures { IsKept W.Wire self.old.desk self.new.desk }
     {
         let seen = self.watch.seen;
-        let told = Beat {
+        let told = OwnReport {
             front: seen.front,
-            leads: seen.campaigns,
+            campaigns: seen.campaigns,
             over: seen.over,
             seats: self.desk.seats.bits(),
         };
@@ -169,7 +172,7 @@ impl<D: Disk + Drop, W: Wire + Drop> NodeServer<D, W> {
             return;
         }
         if self.lasting.tells_waiting(self.watch.moved, now) {
-            self.tell(Told::Waits { seat });
+            self.tell(ServerNotice::Waits { seat });
         }
     }
 }

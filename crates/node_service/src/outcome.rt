@@ -8,7 +8,7 @@ pub enum Outcome {
     /// The match is over here, and all peers know it or are gone: the process ends with status 0.
     Over,
     /// The node's store is another than the one that its peers know: status 2.
-    WentBack,
+    StoreReplaced,
     /// The node can't go on after this fault, 91 or 95, or at its start another: status 3, and 1 by 92.
     Failed(NodeFault),
     /// The log can't be written: status 1.

@@ -16,14 +16,14 @@ use crate::desk::Desk;
 use crate::handed::Handed;
 use crate::lasting::Lasting;
 use crate::limits::NODES;
-use crate::member::Member;
+use crate::local_node::LocalNode;
 use crate::noting::seen_of;
 use crate::outcome::Outcome;
-use crate::patience::Patience;
+use crate::peer_reports::PeerReports;
 use crate::rate::Rate;
-use crate::sights::Sights;
+use crate::server_notice::ServerNotice;
 use crate::sitting::Sittings;
-use crate::told::Told;
+use crate::turn_timer::TurnTimer;
 use crate::wrong_tokens::WrongTokens;
 use clockwork::limits::SHORTEST;
 use dealer_node::NodeFault;
@@ -53,9 +53,9 @@ pub struct Terms {
 pub struct NodeServer<D: Disk + Drop, W: Wire + Drop> {
     pub(crate) desk: Desk<D, W>,
     pub(crate) watch: Watch,
-    pub(crate) sights: Sights,
+    pub(crate) reports: PeerReports,
     pub(crate) lasting: Lasting,
-    pub(crate) patience: Patience,
+    pub(crate) turn_timer: TurnTimer,
     pub(crate) rate: Rate,
     /// How long a peer may be silent and still counts as present.
     pub(crate) pace: u64,
@@ -78,9 +78,9 @@ impl<D: Disk + Drop, W: Wire + Drop> Drop for NodeServer<D, W> {
         let NodeServer {
             desk: _,
             watch: _,
-            sights: _,
+            reports: _,
             lasting: _,
-            patience: _,
+            turn_timer: _,
             rate: _,
             pace: _,
             nodes: _,
@@ -131,7 +131,7 @@ impl<D: Disk + Drop, W: Wire + Drop> NodeServer<D, W> {
     /// is.
     pub fn new(
         alloc: Global,
-        member: Member<D>,
+        member: LocalNode<D>,
         mut wire: W,
         peers: Peers,
         seats: Seats,
@@ -168,9 +168,9 @@ impl<D: Disk + Drop, W: Wire + Drop> NodeServer<D, W> {
                 sittings: Sittings::new(),
             },
             watch: Watch::new(seen, now),
-            sights: Sights::new(),
+            reports: PeerReports::new(),
             lasting: Lasting::new(now),
-            patience: Patience::new(terms.patience, now),
+            turn_timer: TurnTimer::new(terms.patience, now),
             rate: Rate::new(seen.front, now),
             pace: SHORTEST,
             nodes: terms.nodes.min(NODES as u8),
@@ -204,7 +204,7 @@ impl<D: Disk + Drop, W: Wire + Drop> NodeServer<D, W> {
 
     /// What is to be told next of what happened. A node that is told to be there opened a connection by its Hello, with a key
     /// behind its proof, and a life that is told with it is the one of that Hello.
-    pub fn notice(&mut self) -> Option<Told>
+    pub fn notice(&mut self) -> Option<ServerNotice>
         ensures next { IfSome result (λ told. told_in self.old ≡ told ∷ told_in self.new) }
         ensures none { IsNone result → told_in self.old ≡ [] }
         ensures same { served_of self.new ≡ served_of self.old }
@@ -214,7 +214,7 @@ impl<D: Disk + Drop, W: Wire + Drop> NodeServer<D, W> {
     }
 
     /// Without memory for it a note is left out.
-    pub(crate) fn tell(&mut self, told: Told)
+    pub(crate) fn tell(&mut self, told: ServerNotice)
         requires { IsShown (own_of self.old.desk.company.peers) (passed_of self.old.desk.company.peers) told }
         ensures { IsKept W.Wire self.old.desk self.new.desk }
     {
@@ -312,7 +312,7 @@ impl<D: Disk + Drop, W: Wire + Drop> NodeServer<D, W> {
     pub(crate) fn part(&mut self)
         ensures { IsKept W.Wire self.old.desk self.new.desk }
     {
-        if self.outcome == Outcome::WentBack {
+        if self.outcome == Outcome::StoreReplaced {
             let now = self.desk.now();
             self.speak(now);
         }

@@ -25,7 +25,7 @@ impl<D: Disk + Drop, W: Wire + Drop> NodeServer<D, W> {
     pub(crate) fn sits_elsewhere(&self, seat: u8, now: u64) -> bool {
         for number in 0..self.nodes {
             if let Some(view) = self.desk.company.peers.view(number) {
-                if self.is_present(&view, now) && self.sights.has_seat(number, seat) {
+                if self.is_present(&view, now) && self.reports.has_seat(number, seat) {
                     return true;
                 }
             }
@@ -46,7 +46,7 @@ impl<D: Disk + Drop, W: Wire + Drop> NodeServer<D, W> {
                     Some(beat) if is_present => PeerStatus::Present {
                         number,
                         front: beat.front,
-                        leads: beat.leads,
+                        campaigns: beat.campaigns,
                     },
                     _ => PeerStatus::Gone { number },
                 })?;
@@ -96,7 +96,7 @@ impl<D: Disk + Drop, W: Wire + Drop> NodeServer<D, W> {
                 over: seen.over,
                 promised: node.promised(),
                 leads: seen.campaigns,
-                quorum: self.patience.is_quorate,
+                quorum: self.turn_timer.is_quorate,
                 peers: &peers,
                 seats: &seats,
                 pending: seen.act_waits,

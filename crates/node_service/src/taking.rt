@@ -12,10 +12,10 @@ ghost use Rattle.node_peers.specs.declared.notice.Notice.TheVariants.{Joined};
 use crate::limits::CALLS;
 use crate::outcome::Outcome;
 use crate::server::NodeServer;
-use crate::told::Told;
+use crate::server_notice::ServerNotice;
 use dealer_node::NodeFault;
 use dealer_world::Event;
-use node_links::{LinkFault, Whose};
+use node_links::{PeerFault, Whose};
 use node_peers::Notice;
 use node_seats::SeatNotice;
 use node_wires::Wire;
@@ -90,7 +90,7 @@ impl<D: Disk + Drop, W: Wire + Drop> NodeServer<D, W> {
             }
             Notice::Joined { peer, life } => self.take_joined(peer, life),
             Notice::Gone { peer } => {
-                self.tell(Told::Gone { peer });
+                self.tell(ServerNotice::Gone { peer });
                 Taken::One
             }
             Notice::Refused {
@@ -102,7 +102,7 @@ impl<D: Disk + Drop, W: Wire + Drop> NodeServer<D, W> {
                 Taken::One
             }
             Notice::Strangers { count, fault } => {
-                self.tell(Told::Callers { count, fault });
+                self.tell(ServerNotice::Callers { count, fault });
                 Taken::One
             }
         }
@@ -114,7 +114,7 @@ impl<D: Disk + Drop, W: Wire + Drop> NodeServer<D, W> {
         requires { IsTold (own_of self.old.desk.company.peers) (passed_of self.old.desk.company.peers) (Joined peer life) }
         ensures { IsKept W.Wire self.old.desk self.new.desk }
     {
-        let is_told = self.desk.company.tell(Told::Joined { peer, life });
+        let is_told = self.desk.company.tell(ServerNotice::Joined { peer, life });
         if life.is_none() {
             return Taken::One;
         }
@@ -126,13 +126,13 @@ impl<D: Disk + Drop, W: Wire + Drop> NodeServer<D, W> {
 
     /// A connection to a peer is closed by a fault. Where the peer keeps another life of this node's store, that ends the
     /// process.
-    pub(crate) fn note_refused(&mut self, peer: u8, fault: LinkFault, source: Option<IpAddr>)
+    pub(crate) fn note_refused(&mut self, peer: u8, fault: PeerFault, source: Option<IpAddr>)
         ensures { IsKept W.Wire self.old.desk self.new.desk }
     {
-        if fault == LinkFault::WentBack(Whose::Own) {
-            self.end(Outcome::WentBack);
+        if fault == PeerFault::StoreReplaced(Whose::Own) {
+            self.end(Outcome::StoreReplaced);
         }
-        self.tell(Told::Refused {
+        self.tell(ServerNotice::Refused {
             peer,
             fault,
             source,
@@ -181,8 +181,8 @@ impl<D: Disk + Drop, W: Wire + Drop> NodeServer<D, W> {
         let node = self.desk.member.number();
         match self.call(&Event::Connect { node, seat }) {
             Some(Ok(())) => {
-                self.patience.seat(seat);
-                self.tell(Told::Seated { seat });
+                self.turn_timer.seat(seat);
+                self.tell(ServerNotice::Seated { seat });
             }
             _ => self.desk.hang_up(seat),
         }
@@ -194,7 +194,7 @@ impl<D: Disk + Drop, W: Wire + Drop> NodeServer<D, W> {
     {
         let node = self.desk.member.number();
         match self.call(&Event::Drop { node, seat }) {
-            Some(Ok(())) => self.tell(Told::Left { seat }),
+            Some(Ok(())) => self.tell(ServerNotice::Left { seat }),
             Some(Err(fault)) => self.end(Outcome::Failed(fault)),
             None => self.end(Outcome::Failed(NodeFault::Down)),
         }

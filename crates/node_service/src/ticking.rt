@@ -2,17 +2,17 @@
 
 ghost use Rattle.std.specs.Prelude.{◌≡◌, ◌≤◌, [], length, IfSome};
 ghost use Rattle.clockwork.specs.Dues.{due_of};
-ghost use Rattle.clockwork.specs.Patience.{away_due_of};
+ghost use Rattle.clockwork.specs.ActionTimeout.{away_due_of};
 ghost use Rattle.clockwork.specs.declared.limits.TheConstants.{LATEST as LAST, MOST_PEERS as MOST};
-ghost use Rattle.clockwork.specs.declared.answer.Due.TheVariants.{Tick};
+ghost use Rattle.clockwork.specs.declared.answer.Due.TheVariants.{Now};
 
 use crate::lasting::Turned;
 use crate::limits::NODES;
 use crate::noting::seat_to_act;
 use crate::outcome::Outcome;
+use crate::peer_reports::{Others, PeerReports};
 use crate::server::NodeServer;
-use crate::sights::{Others, Sights};
-use crate::told::Told;
+use crate::server_notice::ServerNotice;
 use clockwork::limits::{LATEST, LOOK, MOST_PEERS};
 use clockwork::{Awaited, Due, Known, away_due, due, has_work, is_behind, is_quorate, pace, rank};
 use dealer_world::Event;
@@ -22,20 +22,20 @@ use node_wires::Wire;
 use promise_store::Disk;
 
 /// Keeps what a peer has told by its last beat.
-fn look_at(view: &View, sights: &mut Sights, watch: &mut Watch, number: u8, now: u64) {
-    sights.take(number, view, watch.seen.front, now);
+fn look_at(view: &View, reports: &mut PeerReports, watch: &mut Watch, number: u8, now: u64) {
+    reports.take(number, view, watch.seen.front, now);
     if let Some(beat) = view.beat {
-        if beat.leads {
+        if beat.campaigns {
             watch.lead();
         }
     }
 }
 
 /// The same of all peers.
-fn look_at_all(peers: &Peers, sights: &mut Sights, watch: &mut Watch, now: u64) {
+fn look_at_all(peers: &Peers, reports: &mut PeerReports, watch: &mut Watch, now: u64) {
     for number in 0..NODES as u8 {
         if let Some(view) = peers.view(number) {
-            look_at(&view, sights, watch, number, now);
+            look_at(&view, reports, watch, number, now);
         }
     }
 }
@@ -50,7 +50,7 @@ impl<D: Disk + Drop, W: Wire + Drop> NodeServer<D, W> {
         ensures { self.new.desk ≡ self.old.desk }
     {
         let company = &self.desk.company;
-        look_at_all(&company.peers, &mut self.sights, &mut self.watch, now);
+        look_at_all(&company.peers, &mut self.reports, &mut self.watch, now);
     }
 
     /// Whether a peer that is back owes an answer that would still serve.
@@ -72,7 +72,7 @@ impl<D: Disk + Drop, W: Wire + Drop> NodeServer<D, W> {
                 continue;
             }
             if let Some(view) = self.desk.company.peers.view(number) {
-                others.push(self.sights.peer(number, &view, self.is_owed(&view)));
+                others.push(self.reports.peer(number, &view, self.is_owed(&view)));
             }
         }
         others
@@ -104,7 +104,7 @@ impl<D: Disk + Drop, W: Wire + Drop> NodeServer<D, W> {
         ensures { GoesOn D.Disk [] (served_of self.old) (served_of self.new) }
     {
         match due(known) {
-            Due::Tick => {
+            Due::Now => {
                 self.tick(known);
                 0
             }
@@ -121,7 +121,7 @@ impl<D: Disk + Drop, W: Wire + Drop> NodeServer<D, W> {
         if self.outcome != Outcome::GoesOn {
             return None;
         }
-        let patience = self.patience.most?;
+        let patience = self.turn_timer.most?;
         let seat = seat_to_act(self.desk.member.node().table())?;
         let seen = self.watch.seen;
         let awaited = Awaited {
@@ -129,12 +129,12 @@ impl<D: Disk + Drop, W: Wire + Drop> NodeServer<D, W> {
             patience: patience.min(LATEST),
             over: seen.over,
             hand_runs: seen.hand_runs,
-            quorate: self.patience.is_quorate,
+            quorate: self.turn_timer.is_quorate,
             sits_here: self.sits_here(seat),
             sits_elsewhere: self.sits_elsewhere(seat, now),
             rank: rank.min(MOST_PEERS),
-            since: self.patience.since(seat, self.watch.moved),
-            ordered: self.patience.ordered_since(self.watch.moved),
+            since: self.turn_timer.since(seat, self.watch.moved),
+            ordered: self.turn_timer.ordered_since(self.watch.moved),
         };
         Some((seat, awaited))
     }
@@ -147,7 +147,7 @@ impl<D: Disk + Drop, W: Wire + Drop> NodeServer<D, W> {
             return LOOK;
         };
         match away_due(&awaited) {
-            Due::Tick => {
+            Due::Now => {
                 self.order(seat, &awaited);
                 0
             }
@@ -157,20 +157,20 @@ impl<D: Disk + Drop, W: Wire + Drop> NodeServer<D, W> {
 
     /// Orders that this seat is played for, since that is due by what is known of it.
     fn order(&mut self, seat: u8, awaited: &Awaited)
-        requires { away_due_of awaited.now ≡ Tick }
+        requires { away_due_of awaited.now ≡ Now }
         ensures { GoesOn D.Disk [] (served_of self.old) (served_of self.new) }
     {
-        self.patience.order(awaited.time);
+        self.turn_timer.order(awaited.time);
         let node = self.desk.member.number();
         match self.call(&Event::Away { node }) {
-            Some(Ok(())) => self.tell(Told::Ordered { seat }),
+            Some(Ok(())) => self.tell(ServerNotice::Ordered { seat }),
             _ => (),
         }
     }
 
     /// The node ticks at this moment, since that is due by what is known.
     fn tick(&mut self, known: &Known<'_>)
-        requires { due_of known.now ≡ Tick }
+        requires { due_of known.now ≡ Now }
         ensures { GoesOn D.Disk [] (served_of self.old) (served_of self.new) }
     {
         self.watch.tick(known.time);
@@ -182,13 +182,13 @@ impl<D: Disk + Drop, W: Wire + Drop> NodeServer<D, W> {
     pub(crate) fn note_quorum(&mut self, is_quorate: bool, now: u64)
         ensures { IsKept W.Wire self.old.desk self.new.desk }
     {
-        self.patience.stand(is_quorate, now);
+        self.turn_timer.stand(is_quorate, now);
         match self.lasting.stand(is_quorate, now) {
             Turned::Stays => (),
-            Turned::Had => self.tell(Told::Quorum),
+            Turned::Had => self.tell(ServerNotice::Quorum),
             Turned::Lost => {
                 self.desk.hang_up_all(u16::MAX);
-                self.tell(Told::QuorumLost);
+                self.tell(ServerNotice::QuorumLost);
             }
             Turned::Unmet => self.desk.hang_up_all(u16::MAX),
         }

@@ -17,7 +17,7 @@ bob = record { name = codes "bob"; sits = Nowhere; backlog = 812 }
 -- node 0 leads and is as far as node 1, node 2 is gone; bob's bot sits nowhere, and 812 bytes wait for it
 in_the_middle :
     play_text 1 37 (Some 4) false ++ ballot_text (Some (record { round = 4; node = 0 })) false true (Present 0 37 true ∷ Gone 2 ∷ []) ++ work_text (alice ∷ bob ∷ []) false 412
-    ≡ codes "node 1 front 37 hand 4 over no promised 4.0 leads no quorum yes peers 0:37:leads,2:gone seats alice:seated,bob:away pending no backlog 0,812 commands 412/s" ++ 10 ∷ []
+    ≡ codes "node 1 front 37 hand 4 over no promised 4.0 leads no quorum yes peers 0:37:campaigns,2:gone seats alice:seated,bob:away pending no backlog 0,812 commands 412/s" ++ 10 ∷ []
 unfolding digits play_text ballot_text work_text
 in_the_middle = refl
 
@@ -35,7 +35,7 @@ alone :
 unfolding digits play_text ballot_text work_text
 alone = refl
 
--- a peer that is heard and doesn't lead is neither gone nor leads
+-- a peer that is heard and doesn't campaign is neither gone nor campaigns
 heard : listed peer_text (Present 0 37 false ∷ []) ≡ codes "0:37"
 unfolding digits
 heard = refl

@@ -2,7 +2,7 @@
 use Rattle.std.specs.Prelude.{◌≡◌, ℕ, ◌-◌, ◌<◌, ◌&&◌, ◌==◌, Bool, true, false, not, if◌then◌else◌, List, [], map, length, get_or}
 use Rattle.std.specs.List.{list_any}
 use Rattle.node_status.specs.declared.asker.Asker.{Asker}
-use Rattle.node_status.specs.declared.limits.TheConstants.{PATIENCE}
+use Rattle.node_status.specs.declared.limits.TheConstants.{REPLY_LIMIT}
 
 -- whether somebody stands there and since when, the line that he was given, [] as long as he waits for it, and how many of
 -- its bytes are written
@@ -38,7 +38,7 @@ has_all g = not (length g.line == 0) && (g.written == length g.line)
 
 -- who is still there hasn't all of his line, and hasn't taken too long
 abbrev pub IsServed : ℕ → Given → Type 0
-IsServed now g = g.is_here ≡ true → (has_all g ≡ false) × (now - g.since < PATIENCE)
+IsServed now g = g.is_here ≡ true → (has_all g ≡ false) × (now - g.since < REPLY_LIMIT)
 
 abbrev pub is_awaited : List Asker → Bool
 is_awaited askers = list_any (λ asker. waits (given_of asker)) askers

@@ -22,9 +22,9 @@ abbrev pub promised_text : Option Ballot → List ℕ
 promised_text None = codes "-"
 promised_text (Some ballot) = decimal ballot.round ++ codes "." ++ decimal ballot.node
 
--- N:FRONT, N:FRONT:leads or N:gone
+-- N:FRONT, N:FRONT:campaigns or N:gone
 abbrev pub peer_text : PeerStatus → List ℕ
-peer_text (Present number front leads) = decimal number ++ codes ":" ++ decimal front ++ (if leads then codes ":leads" else [])
+peer_text (Present number front campaigns) = decimal number ++ codes ":" ++ decimal front ++ (if campaigns then codes ":campaigns" else [])
 peer_text (Gone number) = decimal number ++ codes ":gone"
 
 abbrev pub sits_text : Sits → List ℕ

@@ -2,7 +2,7 @@
 
 ghost use Rattle.std.specs.Prelude.{◌≡◌, ◌≤◌, vec_len, OnOk, OnErr};
 
-use crate::limits::PATIENCE;
+use crate::limits::REPLY_LIMIT;
 use node_wires::{Halt, Line, Wire};
 use std::alloc::{AllocError, Global};
 
@@ -96,7 +96,7 @@ impl Asker {
             return;
         }
         let goes_on = self.write_some(wire, place);
-        if !goes_on || self.has_all() || now.saturating_sub(self.since) >= PATIENCE {
+        if !goes_on || self.has_all() || now.saturating_sub(self.since) >= REPLY_LIMIT {
             self.is_here = false;
             wire.close(Line::Asker(place));
         }

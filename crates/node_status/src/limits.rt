@@ -1,4 +1,4 @@
 //! The times of those who ask, in whole microseconds.
 
 /// One who asks has so long to take his line.
-pub const PATIENCE: u64 = 2_000_000;
+pub const REPLY_LIMIT: u64 = 2_000_000;

@@ -142,12 +142,12 @@ fn put_peer(line: &mut Vec<u8>, peer: PeerStatus) -> Result<(), AllocError>
         PeerStatus::Present {
             number,
             front,
-            leads,
+            campaigns,
         } => {
             put_number(line, number as u64)?;
             put(line, b":")?;
             put_number(line, front as u64)?;
-            put(line, if leads { b":leads" } else { b"" })
+            put(line, if campaigns { b":campaigns" } else { b"" })
         }
         PeerStatus::Gone { number } => {
             put_number(line, number as u64)?;

@@ -34,9 +34,15 @@ pub struct Status<'a> {
 #[derive(Clone, Copy, Debug)]
 pub enum PeerStatus {
     /// It is heard.
-    Present { number: u8, front: u32, leads: bool },
+    Present {
+        number: u8,
+        front: u32,
+        campaigns: bool,
+    },
     /// It isn't.
-    Gone { number: u8 },
+    Gone {
+        number: u8,
+    },
 }
 
 /// How a seat is.

@@ -1,31 +1,31 @@
 -- What is kept from turn to turn, on values; moments in microseconds.
 use Rattle.std.proofs.Common.{◌≡◌, ℕ, Bool, true, false, Option, Some, None, refl}
-use Rattle.clockwork.specs.declared.known.Beat as sight
+use Rattle.clockwork.specs.declared.known.PeerReport as report
 use Rattle.peer_codes.specs.declared.beat.Beat as told
 use Rattle.node_watch.specs.declared.watch.Seen.{Seen}
 use Rattle.node_watch.specs.declared.watch.Watch.{Watch}
-use Rattle.node_watch.specs.Sights.{sight_after}
+use Rattle.node_watch.specs.PeerReports.{report_after}
 use Rattle.node_watch.specs.Watches.{watch_of, seen_at, stood, ticked_at}
 
 abbrev beat : Bool → told.Beat
-beat leads = record { number = 4; got = 3; front = 10; leads = leads; over = false; seats = 0 }
+beat campaigns = record { number = 4; got = 3; front = 10; campaigns = campaigns; over = false; seats = 0 }
 
-abbrev before : sight.Beat
-before = record { front = 10; below = 100; leads = true; told = 50; over = false }
+abbrev before : report.PeerReport
+before = record { front = 10; below = 100; campaigns = true; told = 50; over = false }
 
--- it stands still below this node's front, and leads as it did
-stands_still : sight_after (Some before) (beat true) 12 900 ≡ before
+-- it stands still below this node's front, and campaigns as it did
+stands_still : report_after (Some before) (beat true) 12 900 ≡ before
 stands_still = refl
 
 -- it isn't below: from now on it may be
-not_below : sight_after (Some before) (beat true) 10 900 ≡ record { front = 10; below = 900; leads = true; told = 50; over = false }
+not_below : report_after (Some before) (beat true) 10 900 ≡ record { front = 10; below = 900; campaigns = true; told = 50; over = false }
 not_below = refl
 
--- it no longer leads, as it first tells now
-no_longer_leads : sight_after (Some before) (beat false) 12 900 ≡ record { front = 10; below = 100; leads = false; told = 900; over = false }
-no_longer_leads = refl
+-- it no longer campaigns, as it first tells now
+no_longer_campaigns : report_after (Some before) (beat false) 12 900 ≡ record { front = 10; below = 100; campaigns = false; told = 900; over = false }
+no_longer_campaigns = refl
 
-first_beat : sight_after None (beat true) 12 900 ≡ record { front = 10; below = 900; leads = true; told = 900; over = false }
+first_beat : report_after None (beat true) 12 900 ≡ record { front = 10; below = 900; campaigns = true; told = 900; over = false }
 first_beat = refl
 
 abbrev seen : ℕ → Option ℕ → Seen

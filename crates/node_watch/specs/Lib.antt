@@ -1,2 +1,2 @@
-pub mod Sights
+pub mod PeerReports
 pub mod Watches

@@ -15,7 +15,7 @@ use Rattle.peer_codes.specs.declared.way.Way.{Way}
 use Rattle.peer_codes.specs.Kinds.{kind_byte}
 use Rattle.peer_codes.specs.Spelling.{hello_text}
 use Rattle.peer_codes.specs.Hmac.{hmac}
-use Rattle.peer_codes.specs.Codes.{after, masked, xored, proof_code, way_key, way_of, seal_of, pad, record_code, uncovered}
+use Rattle.peer_codes.specs.Codes.{after, masked, xored, proof_tag, way_key, way_of, seal_of, pad, record_tag, uncovered}
 
 -- RFC 4231, test cases 1, 2 and 3
 pub rfc_4231_case_1 : hmac (replicate 20 0x0b) (codes "Hi There") ≡
@@ -51,11 +51,11 @@ pub next_whole_word : (pad 18 (of_seed (replicate 32 0))).1.word_pos ≡ 5
 unfolding pad word_bytes
 next_whole_word = refl
 
--- what a proof, the key of a way, a seal and a code are made from, byte for byte
-pub proof_of_the_caller : (key : List ℕ) (h : Hellos) → proof_code key Caller h ≡ hmac key (72 ∷ 68 ∷ 78 ∷ 49 ∷ 32 ∷ 112 ∷ 114 ∷ 111 ∷ 111 ∷ 102 ∷ 0 ∷ (hello_text h.caller ++ hello_text h.called))
+-- what a proof, the key of a way, a seal and a tag are made from, byte for byte
+pub proof_of_the_caller : (key : List ℕ) (h : Hellos) → proof_tag key Caller h ≡ hmac key (72 ∷ 68 ∷ 78 ∷ 49 ∷ 32 ∷ 112 ∷ 114 ∷ 111 ∷ 111 ∷ 102 ∷ 0 ∷ (hello_text h.caller ++ hello_text h.called))
 proof_of_the_caller key h = refl
 
-pub proof_of_the_called : (key : List ℕ) (h : Hellos) → proof_code key Called h ≡ hmac key (72 ∷ 68 ∷ 78 ∷ 49 ∷ 32 ∷ 112 ∷ 114 ∷ 111 ∷ 111 ∷ 102 ∷ 1 ∷ (hello_text h.caller ++ hello_text h.called))
+pub proof_of_the_called : (key : List ℕ) (h : Hellos) → proof_tag key Called h ≡ hmac key (72 ∷ 68 ∷ 78 ∷ 49 ∷ 32 ∷ 112 ∷ 114 ∷ 111 ∷ 111 ∷ 102 ∷ 1 ∷ (hello_text h.caller ++ hello_text h.called))
 proof_of_the_called key h = refl
 
 pub way_of_the_caller : (key : List ℕ) (h : Hellos) → way_key key Caller h ≡ hmac key (72 ∷ 68 ∷ 78 ∷ 49 ∷ 32 ∷ 119 ∷ 97 ∷ 121 ∷ 0 ∷ (hello_text h.caller ++ hello_text h.called))
@@ -74,11 +74,11 @@ seal_of_a_way key = refl
 abbrev way : ℕ → Way
 way number = record { key = replicate 32 1; number = number; seal = record { key = []; stream = 0; word_pos = 0 } }
 
-pub code_of_the_seventh : record_code (way 7) kind_of.Beat (9 ∷ 8 ∷ []) ≡ hmac (replicate 32 1) (0 ∷ 0 ∷ 0 ∷ 0 ∷ 0 ∷ 0 ∷ 0 ∷ 7 ∷ 3 ∷ 9 ∷ 8 ∷ [])
+pub code_of_the_seventh : record_tag (way 7) kind_of.Beat (9 ∷ 8 ∷ []) ≡ hmac (replicate 32 1) (0 ∷ 0 ∷ 0 ∷ 0 ∷ 0 ∷ 0 ∷ 0 ∷ 7 ∷ 3 ∷ 9 ∷ 8 ∷ [])
 code_of_the_seventh = refl
 
 -- of each record the whole of what is sent is coded, with its number and its kind, under the key of its way
-pub code_of_a_record : (w : Way) (kind : Kind) (sent : List ℕ) → record_code w kind sent ≡ hmac w.key (big_bytes 8 w.number ++ (kind_byte kind ∷ sent))
+pub code_of_a_record : (w : Way) (kind : Kind) (sent : List ℕ) → record_tag w kind sent ≡ hmac w.key (big_bytes 8 w.number ++ (kind_byte kind ∷ sent))
 code_of_a_record w kind sent = refl
 
 -- of each body each byte is hidden, and the way goes on behind as many bytes
@@ -107,7 +107,7 @@ pub seal_goes_on_by_words : (after zeros 100).seal.word_pos ≡ 25
 unfolding pad word_bytes
 seal_goes_on_by_words = refl
 
--- bytes that are no code of what is sent
-pub wrong_code : uncovered (way 7) kind_of.Frame (replicate 40 0) ≡ Err faults.WrongCode
+-- bytes that are no tag of what is sent
+pub wrong_tag : uncovered (way 7) kind_of.Frame (replicate 40 0) ≡ Err faults.WrongTag
 unfolding uncovered hmac first_words schedule rounds compress hash_after digest_bytes sha256
-wrong_code = refl
+wrong_tag = refl

@@ -6,14 +6,14 @@ use Rattle.std.proofs.lemmas.Bool.{le-ltb, lt-leb}
 use Rattle.std.proofs.lemmas.List.{take-append-drop, take_at, drop_at}
 use Rattle.std.proofs.lemmas.Slice.Eq.{bytes_eq-Decides}
 use Rattle.sha2.proofs.Facts256.{length-sha256}
-use Rattle.peer_codes.specs.declared.limits.TheConstants.{CODE_BYTES, LAST_NUMBER}
+use Rattle.peer_codes.specs.declared.limits.TheConstants.{TAG_BYTES, LAST_NUMBER}
 use Rattle.peer_codes.specs.declared.fault.RecordFault.TheVariants.{BadLength}
 use Rattle.peer_codes.specs.declared.connection_fault.ConnectionFault.{ConnectionFault}
 use Rattle.peer_codes.specs.declared.connection_fault.ConnectionFault.TheVariants as faults
 use Rattle.peer_codes.specs.declared.kind.Kind.{Kind}
 use Rattle.peer_codes.specs.declared.way.Way.{Way}
 use Rattle.peer_codes.specs.Hmac.{hmac}
-use Rattle.peer_codes.specs.Codes.{pad, xored, masked, record_code, covered, sent_in, code_in, uncovered}
+use Rattle.peer_codes.specs.Codes.{pad, xored, masked, record_tag, covered, sent_in, tag_in, uncovered}
 
 -- ---- bytes with others
 
@@ -41,17 +41,17 @@ pub hmac_length : (key message : List ℕ) → length (hmac key message) ≡ 32
 unfolding hmac
 hmac_length key message = length-sha256 _
 
-pub covered_length : (way : Way) (kind : Kind) (body : List ℕ) → length (covered way kind body) ≡ length body + CODE_BYTES
+pub covered_length : (way : Way) (kind : Kind) (body : List ℕ) → length (covered way kind body) ≡ length body + TAG_BYTES
 covered_length way kind body =
-    let size : length (record_code way kind (masked way body)) ≡ CODE_BYTES = hmac_length _ _ in
+    let size : length (record_tag way kind (masked way body)) ≡ TAG_BYTES = hmac_length _ _ in
     let sent : length (masked way body) ≡ length body = xored_length body (pad (length body) way.seal).0 in
-    omega (arith, length-append (masked way body) (record_code way kind (masked way body)), size, sent)
+    omega (arith, length-append (masked way body) (record_tag way kind (masked way body)), size, sent)
 
-code_split : (sent code : List ℕ) → length code ≡ CODE_BYTES → (sent_in (sent ++ code) ≡ sent) × (code_in (sent ++ code) ≡ code)
-code_split sent code size =
-    let front : length (sent ++ code) - CODE_BYTES ≡ length sent = omega (arith, length-append sent code, size) in (
-      ap (λ (n : ℕ). take n (sent ++ code)) front ∙ take_at sent code (length sent) refl,
-      ap (λ (n : ℕ). drop n (sent ++ code)) front ∙ drop_at sent code (length sent) refl,
+tag_split : (sent tag : List ℕ) → length tag ≡ TAG_BYTES → (sent_in (sent ++ tag) ≡ sent) × (tag_in (sent ++ tag) ≡ tag)
+tag_split sent tag size =
+    let front : length (sent ++ tag) - TAG_BYTES ≡ length sent = omega (arith, length-append sent tag, size) in (
+      ap (λ (n : ℕ). take n (sent ++ tag)) front ∙ take_at sent tag (length sent) refl,
+      ap (λ (n : ℕ). drop n (sent ++ tag)) front ∙ drop_at sent tag (length sent) refl,
     )
 
 three_tests : (a b c : Bool) (f g h : ConnectionFault) (x : List ℕ) → a ≡ false → b ≡ false → c ≡ true
@@ -63,14 +63,14 @@ pub covered_again : (way : Way) (kind : Kind) (body : List ℕ) → way.number <
 unfolding uncovered
 covered_again way kind body fits =
     let sent : List ℕ = masked way body in
-    let code : List ℕ = record_code way kind sent in
-    let size : length code ≡ CODE_BYTES = hmac_length _ _ in
-    let split = code_split sent code size in
+    let tag : List ℕ = record_tag way kind sent in
+    let size : length tag ≡ TAG_BYTES = hmac_length _ _ in
+    let split = tag_split sent tag size in
     let number : leb LAST_NUMBER way.number ≡ false = lt-leb _ _ fits in
-    let long : ltb (length (sent ++ code)) CODE_BYTES ≡ false = le-ltb _ _ (omega (arith, length-append sent code, size)) in
-    let right : code_in (sent ++ code) ≡ record_code way kind (sent_in (sent ++ code)) = split.1 ∙ ap (λ (s : List ℕ). record_code way kind s) (sym split.0) in
-    let same : bytes_eq (code_in (sent ++ code)) (record_code way kind (sent_in (sent ++ code))) ≡ true = (bytes_eq-Decides (code_in (sent ++ code)) (record_code way kind (sent_in (sent ++ code)))).1 right in
-    three_tests _ _ _ faults.OutOfTurn (faults.Record BadLength) faults.WrongCode (masked way (sent_in (sent ++ code))) number long same
+    let long : ltb (length (sent ++ tag)) TAG_BYTES ≡ false = le-ltb _ _ (omega (arith, length-append sent tag, size)) in
+    let right : tag_in (sent ++ tag) ≡ record_tag way kind (sent_in (sent ++ tag)) = split.1 ∙ ap (λ (s : List ℕ). record_tag way kind s) (sym split.0) in
+    let same : bytes_eq (tag_in (sent ++ tag)) (record_tag way kind (sent_in (sent ++ tag))) ≡ true = (bytes_eq-Decides (tag_in (sent ++ tag)) (record_tag way kind (sent_in (sent ++ tag)))).1 right in
+    three_tests _ _ _ faults.UnexpectedRecord (faults.Record BadLength) faults.WrongTag (masked way (sent_in (sent ++ tag))) number long same
     ∙ ap (λ (b : List ℕ). let r : Result (List ℕ) ConnectionFault = Ok b in r) (ap (masked way) split.0 ∙ masked_back way body)
 
 refused : (b : Bool) (f : ConnectionFault) (r : Result (List ℕ) ConnectionFault) (y : List ℕ) → cond b (Err f) r ≡ Ok y → (b ≡ false) × (r ≡ Ok y)
@@ -85,13 +85,13 @@ taken false f x y e = absurd cc
 pub covered_is : (way : Way) (kind : Kind) (content body : List ℕ) → uncovered way kind content ≡ Ok body → content ≡ covered way kind body
 unfolding uncovered
 covered_is way kind content body e =
-    let right : Bool = bytes_eq (code_in content) (record_code way kind (sent_in content)) in
-    let last : Result (List ℕ) ConnectionFault = cond right (Ok (masked way (sent_in content))) (Err faults.WrongCode) in
-    let p = refused (leb LAST_NUMBER way.number) faults.OutOfTurn (cond (ltb (length content) CODE_BYTES) (Err (faults.Record BadLength)) last) body e in
-    let q = refused (ltb (length content) CODE_BYTES) (faults.Record BadLength) last body p.1 in
-    let r = taken right faults.WrongCode (masked way (sent_in content)) body q.1 in
-    let same : code_in content ≡ record_code way kind (sent_in content) = (bytes_eq-Decides (code_in content) (record_code way kind (sent_in content))).0 r.0 in
+    let right : Bool = bytes_eq (tag_in content) (record_tag way kind (sent_in content)) in
+    let last : Result (List ℕ) ConnectionFault = cond right (Ok (masked way (sent_in content))) (Err faults.WrongTag) in
+    let p = refused (leb LAST_NUMBER way.number) faults.UnexpectedRecord (cond (ltb (length content) TAG_BYTES) (Err (faults.Record BadLength)) last) body e in
+    let q = refused (ltb (length content) TAG_BYTES) (faults.Record BadLength) last body p.1 in
+    let r = taken right faults.WrongTag (masked way (sent_in content)) body q.1 in
+    let same : tag_in content ≡ record_tag way kind (sent_in content) = (bytes_eq-Decides (tag_in content) (record_tag way kind (sent_in content))).0 r.0 in
     let sent : sent_in content ≡ masked way body = sym (ap (masked way) (sym r.1) ∙ masked_back way (sent_in content)) in
-    sym (take-append-drop (length content - CODE_BYTES) content)
+    sym (take-append-drop (length content - TAG_BYTES) content)
     ∙ ap (λ (c : List ℕ). sent_in content ++ c) same
-    ∙ ap (λ (s : List ℕ). s ++ record_code way kind s) sent
+    ∙ ap (λ (s : List ℕ). s ++ record_tag way kind s) sent

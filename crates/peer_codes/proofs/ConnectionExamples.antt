@@ -37,7 +37,7 @@ abbrev ways : Ways
 ways = record { reading = way 3; writing = way 5 }
 
 abbrev theirs : Proof
-theirs = record { code = replicate 32 1 }
+theirs = record { tag = replicate 32 1 }
 
 abbrev hello : Link → Hello
 hello link = record { ends = record { from = 1; to = 0; nodes = 3 }; digest = record { bytes = replicate 32 9 }; life = record { bytes = replicate 16 5 }; kept = None; promised = None; link = link }
@@ -56,15 +56,15 @@ pub short_proof : stepped key (phases.Proving theirs ways) kind_of.Proof (replic
 unfolding stepped
 short_proof = refl
 
-pub frame_before_the_proof : stepped key (phases.Proving theirs ways) kind_of.Frame (replicate 42 1) ≡ closed faults.OutOfTurn
+pub frame_before_the_proof : stepped key (phases.Proving theirs ways) kind_of.Frame (replicate 42 1) ≡ closed faults.UnexpectedRecord
 unfolding stepped
 frame_before_the_proof = refl
 
-pub proof_before_the_hello : stepped key (phases.Greeting None) kind_of.Proof (replicate 32 1) ≡ closed faults.OutOfTurn
+pub proof_before_the_hello : stepped key (phases.Greeting None) kind_of.Proof (replicate 32 1) ≡ closed faults.UnexpectedRecord
 unfolding stepped
 proof_before_the_hello = refl
 
-pub second_proof : stepped key (phases.Open ways) kind_of.Proof (replicate 32 1) ≡ closed faults.OutOfTurn
+pub second_proof : stepped key (phases.Open ways) kind_of.Proof (replicate 32 1) ≡ closed faults.UnexpectedRecord
 unfolding stepped
 second_proof = refl
 
@@ -72,7 +72,7 @@ pub plain_hello-none : only_coded (Some (hello Plain)) ≡ None
 plain_hello-none = refl
 
 -- nor is another Hello taken on one that is open
-pub second_hello : stepped key (phases.Open ways) kind_of.Hello (replicate 109 1) ≡ closed faults.OutOfTurn
+pub second_hello : stepped key (phases.Open ways) kind_of.Hello (replicate 109 1) ≡ closed faults.UnexpectedRecord
 unfolding stepped
 second_hello = refl
 
@@ -146,7 +146,7 @@ unfolding begun_next
 begun_frame = refl
 
 abbrev beat : Beat
-beat = record { number = 1; got = 0; front = 37; leads = true; over = false; seats = 5 }
+beat = record { number = 1; got = 0; front = 37; campaigns = true; over = false; seats = 5 }
 
 abbrev both : Outgoing
 both = record { hello = None; proof = None; beat = Some beat; frame = Some ask; begun = record { items = [] }; written = 0 }
@@ -161,7 +161,7 @@ unfolding begun_next
 frame_waits = refl
 
 -- nothing is coded on one that is closed, nor where no number is left
-pub closed_begins_nothing : begun_next (connection (phases.Closed faults.WrongCode) both) ≡ connection (phases.Closed faults.WrongCode) both
+pub closed_begins_nothing : begun_next (connection (phases.Closed faults.WrongTag) both) ≡ connection (phases.Closed faults.WrongTag) both
 unfolding begun_next
 closed_begins_nothing = refl
 

@@ -1,15 +1,15 @@
--- A coded record that is written in one place: what stands in front, the body, which is hidden where it stands, and the code.
+-- A coded record that is written in one place: what stands in front, the body, which is hidden where it stands, and the tag.
 use Rattle.std.proofs.Common.{◌≡◌, ℕ, ◌+◌, ◌-◌, ◌≤◌, List, [], ◌∷◌, ◌++◌, length, take, drop, sym, ap, ◌∙◌, arith, length-append}
 use Rattle.std.proofs.lemmas.List.{append-nil, append_assoc, take_all, take_at, drop_at, drop_all}
 use Rattle.std.specs.List.{refill}
 use Rattle.byteorder.specs.Endian.{big_bytes}
 use Rattle.rand_chacha.specs.ChaCha.{ChaCha}
-use Rattle.peer_codes.specs.declared.limits.TheConstants.{CODE_BYTES}
+use Rattle.peer_codes.specs.declared.limits.TheConstants.{TAG_BYTES}
 use Rattle.peer_codes.specs.declared.kind.Kind.{Kind}
 use Rattle.peer_codes.specs.declared.way.Way.{Way}
 use Rattle.peer_codes.specs.Kinds.{kind_byte}
 use Rattle.peer_codes.specs.Spelling.{enveloped}
-use Rattle.peer_codes.specs.Codes.{pad, xored, masked, record_code, coded}
+use Rattle.peer_codes.specs.Codes.{pad, xored, masked, record_tag, coded}
 use Rattle.peer_codes.proofs.CodeLaws.{xored_length, covered_length}
 
 behind : (front rest all : List ℕ) → length front ≡ 5 → all ≡ front ++ rest → drop 5 all ≡ rest
@@ -39,28 +39,28 @@ front_of kind count front content same is =
     ∙ append_assoc (big_bytes 4 (count + 1)) (kind_byte kind ∷ []) content
     ∙ ap (λ (n : ℕ). big_bytes 4 (n + 1) ++ (kind_byte kind ∷ content)) same
 
-pub coded_is : (way : Way) (seal : ChaCha) (kind : Kind) (front body all shown sent hidden code out : List ℕ)
-    → front ≡ big_bytes 4 (length body + CODE_BYTES + 1) ++ (kind_byte kind ∷ [])
+pub coded_is : (way : Way) (seal : ChaCha) (kind : Kind) (front body all shown sent hidden tag out : List ℕ)
+    → front ≡ big_bytes 4 (length body + TAG_BYTES + 1) ++ (kind_byte kind ∷ [])
     → length front ≡ 5
     → all ≡ front ++ body
     → shown ≡ all
     → sent ≡ xored (take (length shown - 5) (drop 5 shown)) (pad (length (take (length shown - 5) (drop 5 shown))) way.seal).0
     → hidden ≡ refill (length all) all (take 5 shown ++ (sent ++ drop (length shown - 5) (drop 5 shown)))
-    → code ≡ record_code (record { key = way.key; number = way.number; seal = seal }) kind (take (length hidden - 5) (drop 5 hidden))
-    → out ≡ refill (length all) all (take 5 shown ++ (sent ++ drop (length shown - 5) (drop 5 shown))) ++ code
+    → tag ≡ record_tag (record { key = way.key; number = way.number; seal = seal }) kind (take (length hidden - 5) (drop 5 hidden))
+    → out ≡ refill (length all) all (take 5 shown ++ (sent ++ drop (length shown - 5) (drop 5 shown))) ++ tag
     → out ≡ coded way kind body
-coded_is way seal kind front body all shown sent hidden code out begins size is same sent_by hidden_by code_by out_by =
+coded_is way seal kind front body all shown sent hidden tag out begins size is same sent_by hidden_by tag_by out_by =
     let m : List ℕ = masked way body in
-    let c : List ℕ = record_code way kind m in
+    let c : List ℕ = record_tag way kind m in
     let sent_is : sent ≡ m = sent_by ∙ ap (λ (l : List ℕ). xored l (pad (length l) way.seal).0) (rest_is front body shown size (same ∙ is)) in
     let equal : length sent ≡ length body = ap length sent_is ∙ xored_length body (pad (length body) way.seal).0 in
     let long : length (front ++ sent) ≡ length all = omega (arith, length-append front sent, equal, ap length is, length-append front body) in
     let put : take 5 shown ++ (sent ++ drop (length shown - 5) (drop 5 shown)) ≡ front ++ sent = replaced front body sent shown size (same ∙ is) in
     let whole : refill (length all) all (take 5 shown ++ (sent ++ drop (length shown - 5) (drop 5 shown))) ≡ front ++ sent = ap (refill (length all) all) put ∙ filled all (front ++ sent) long in
-    let code_is : code ≡ c = code_by ∙ ap (record_code way kind) (rest_is front sent hidden size (hidden_by ∙ whole) ∙ sent_is) in
+    let tag_is : tag ≡ c = tag_by ∙ ap (record_tag way kind) (rest_is front sent hidden size (hidden_by ∙ whole) ∙ sent_is) in
     out_by
-    ∙ ap (λ (l : List ℕ). l ++ code) whole
-    ∙ ap (λ (l : List ℕ). (front ++ l) ++ code) sent_is
-    ∙ ap (λ (l : List ℕ). (front ++ m) ++ l) code_is
+    ∙ ap (λ (l : List ℕ). l ++ tag) whole
+    ∙ ap (λ (l : List ℕ). (front ++ l) ++ tag) sent_is
+    ∙ ap (λ (l : List ℕ). (front ++ m) ++ l) tag_is
     ∙ append_assoc front m c
-    ∙ front_of kind (length body + CODE_BYTES) front (m ++ c) (sym (covered_length way kind body)) begins
+    ∙ front_of kind (length body + TAG_BYTES) front (m ++ c) (sym (covered_length way kind body)) begins

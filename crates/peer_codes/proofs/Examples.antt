@@ -129,7 +129,7 @@ round_0-none = refl
 -- ---- beats
 
 abbrev beat : Beat
-beat = record { number = 1; got = 0; front = 37; leads = true; over = false; seats = 5 }
+beat = record { number = 1; got = 0; front = 37; campaigns = true; over = false; seats = 5 }
 
 pub beat_is_written : beat_text beat ≡ 0 ∷ 0 ∷ 0 ∷ 1 ∷ 0 ∷ 0 ∷ 0 ∷ 0 ∷ 0 ∷ 0 ∷ 0 ∷ 37 ∷ 1 ∷ 0 ∷ 5 ∷ []
 beat_is_written = refl
@@ -224,18 +224,18 @@ next_number = refl
 pub first_number : (fresh_way (replicate 32 1)).number ≡ 0
 first_number = refl
 
--- without room for a code
+-- without room for a tag
 pub no_room_for_a_code : uncovered (way 7) kind_of.Frame (replicate 31 0) ≡ Err (faults.Record BadLength)
 unfolding uncovered
 no_room_for_a_code = refl
 
 -- no record has the last number
-pub behind_the_last_number : uncovered (way 18446744073709551615) kind_of.Frame (replicate 40 0) ≡ Err faults.OutOfTurn
+pub behind_the_last_number : uncovered (way 18446744073709551615) kind_of.Frame (replicate 40 0) ≡ Err faults.UnexpectedRecord
 unfolding uncovered
 behind_the_last_number = refl
 
 pub wrong_proof_is_124 : connection_fault_code faults.WrongProof ≡ 124
 wrong_proof_is_124 = refl
 
-pub wrong_code_line : connection_fault_line faults.WrongCode ≡ codes "125 WrongCode"
-wrong_code_line = refl
+pub wrong_tag_line : connection_fault_line faults.WrongTag ≡ codes "125 WrongTag"
+wrong_tag_line = refl

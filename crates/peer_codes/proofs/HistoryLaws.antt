@@ -2,7 +2,7 @@
 use Rattle.std.proofs.Common.{◌≡◌, inl, inr, ℕ, Bool, true, false, not, cond, eqb, List, [], ◌∷◌, ◌++◌, length, drop, Option, Some, None, IfSome, Result, Ok, Err, refl, sym, ap, subst, ◌∙◌}
 use Rattle.std.specs.Str.{bytes_eq}
 use Rattle.std.proofs.lemmas.Slice.Eq.{bytes_eq-Decides}
-use Rattle.peer_codes.specs.declared.limits.TheConstants.{CODE_BYTES}
+use Rattle.peer_codes.specs.declared.limits.TheConstants.{TAG_BYTES}
 use Rattle.peer_codes.specs.declared.fault.RecordFault.{RecordFault}
 use Rattle.peer_codes.specs.declared.fault.RecordFault.TheVariants.{BadLength}
 use Rattle.peer_codes.specs.declared.connection_fault.ConnectionFault.{ConnectionFault}
@@ -22,7 +22,7 @@ use Rattle.peer_codes.specs.declared.phase.Phase.{Phase}
 use Rattle.peer_codes.specs.declared.phase.Phase.TheVariants as phases
 use Rattle.peer_codes.specs.Reading.{hello_of, beat_of, is_frame}
 use Rattle.peer_codes.specs.Faults.{kind_in}
-use Rattle.peer_codes.specs.Codes.{proof_code, after, uncovered}
+use Rattle.peer_codes.specs.Codes.{proof_tag, after, uncovered}
 use Rattle.peer_codes.specs.Steps.{is_coded, closed, proof_of, ways_of, only_coded, greeted, heard, frame_heard, beat_told, beat_heard, stepped, step_by, front_step, opened}
 use Rattle.peer_codes.specs.Histories.{Happening, Came, Answered, Said, answered_phase, said_phase, phase_after, phase_behind, IsClosed, Happened, HelloCame, ProofCame, Met, across, IsCoded, AnswersCoded, body_length, IsProved}
 
@@ -87,7 +87,7 @@ greeted_sound key own before front (Some hello) (Some theirs) kind read is has =
 }
 
 proved_sound : (key : List ℕ) (own : Option Hello) (before : List Happening) (front : List ℕ) (theirs : Proof) (ways : Ways) (long right : Bool)
-    → kind_in front ≡ Ok kind_of.Proof → bytes_eq (drop 5 front) theirs.code ≡ right → IsMet key own before theirs ways
+    → kind_in front ≡ Ok kind_of.Proof → bytes_eq (drop 5 front) theirs.tag ≡ right → IsMet key own before theirs ways
     → IsSound key own (Came front ∷ before) (cond long (closed (faults.Record BadLength)) (cond right (opened ways) (closed faults.WrongProof))).phase
 proved_sound key own before front theirs ways true right kind is met = tt
 proved_sound key own before front theirs ways false false kind is met = tt
@@ -100,7 +100,7 @@ proved_sound key own before front theirs ways false true kind is met = record {
   earlier = before;
   parts = refl;
   met = met.met;
-  proved = (kind, (bytes_eq-Decides (drop 5 front) theirs.code).0 is ∙ ap (λ (p : Proof). p.code) met.awaited);
+  proved = (kind, (bytes_eq-Decides (drop 5 front) theirs.tag).0 is ∙ ap (λ (p : Proof). p.tag) met.awaited);
   reading = ap (λ (w : Ways). w.reading) met.ways_are;
   writing = ap (λ (w : Ways). w.writing) met.ways_are;
 }
@@ -152,7 +152,7 @@ stepped_sound key own before front (phases.Greeting hello) kind_of.Beat kind is 
 stepped_sound key own before front (phases.Asked caller) found kind is = tt
 stepped_sound key own before front (phases.Proving theirs ways) kind_of.Hello kind is = tt
 stepped_sound key own before front (phases.Proving theirs ways) kind_of.Proof kind is =
-    proved_sound key own before front theirs ways (not (eqb (length (drop 5 front)) CODE_BYTES)) (bytes_eq (drop 5 front) theirs.code) kind refl is
+    proved_sound key own before front theirs ways (not (eqb (length (drop 5 front)) TAG_BYTES)) (bytes_eq (drop 5 front) theirs.tag) kind refl is
 stepped_sound key own before front (phases.Proving theirs ways) kind_of.Frame kind is = tt
 stepped_sound key own before front (phases.Proving theirs ways) kind_of.Beat kind is = tt
 stepped_sound key own before front (phases.Open ways) kind_of.Hello kind is = tt
@@ -240,10 +240,10 @@ happened_in : (P : Happening → Type 0) (since : List Happening) (opening : Hap
 happened_in P [] opening earlier p = inl p
 happened_in P (happening ∷ since) opening earlier p = inr (happened_in P since opening earlier p)
 
-pub proof_happened : (key : List ℕ) (own : Option Hello) (before : List Happening) (ways : Ways) (is : IsProved key own before ways) → Happened (ProofCame (proof_code key (across is.role) is.hellos)) before
+pub proof_happened : (key : List ℕ) (own : Option Hello) (before : List Happening) (ways : Ways) (is : IsProved key own before ways) → Happened (ProofCame (proof_tag key (across is.role) is.hellos)) before
 proof_happened key own before ways is =
-    subst (λ (l : List Happening). Happened (ProofCame (proof_code key (across is.role) is.hellos)) l) (sym is.parts)
-    (happened_in (ProofCame (proof_code key (across is.role) is.hellos)) is.since is.opening is.earlier is.proved)
+    subst (λ (l : List Happening). Happened (ProofCame (proof_tag key (across is.role) is.hellos)) l) (sym is.parts)
+    (happened_in (ProofCame (proof_tag key (across is.role) is.hellos)) is.since is.opening is.earlier is.proved)
 
 -- ---- what is closed stays closed
 

@@ -7,7 +7,7 @@ use Rattle.byteorder.specs.Endian.{big_number, big_bytes}
 use Rattle.byteorder.specs.Numbers.{big_number-reads_back, big_from-lt}
 use Rattle.paxos_wire.proofs.Steps.{IsBytes, IsBytes-drop, either}
 use Rattle.paxos_wire.proofs.Numbers.{wide2, wide4}
-use Rattle.peer_codes.specs.declared.limits.TheConstants.{LIFE_BYTES, CODE_BYTES, BEAT_BYTES, LEAST_FRAME, MOST_FRAME}
+use Rattle.peer_codes.specs.declared.limits.TheConstants.{LIFE_BYTES, TAG_BYTES, BEAT_BYTES, LEAST_FRAME, MOST_FRAME}
 use Rattle.peer_codes.specs.declared.fault.RecordFault.{RecordFault}
 use Rattle.peer_codes.specs.declared.fault.RecordFault.TheVariants.{BadLength, BadKind}
 use Rattle.peer_codes.specs.declared.hello.Hello.{Hello}
@@ -68,7 +68,7 @@ told_again kind_of.Beat = refl
 -- ---- beats
 
 abbrev beat : ℕ → ℕ → ℕ → Bool → Bool → ℕ → Beat
-beat number got front leads over seats = record { number = number; got = got; front = front; leads = leads; over = over; seats = seats }
+beat number got front campaigns over seats = record { number = number; got = got; front = front; campaigns = campaigns; over = over; seats = seats }
 
 flags_back : (f : ℕ) → f ≤ 3 → flags_byte (eqb (f % 2) 1) (leb 2 f) ≡ f
 flags_back zero le = refl
@@ -113,23 +113,23 @@ beat_is bytes b fits e =
     let whole = beat_whole bytes fits (eqb-true _ _ (not-false _ p.0)) (ltb-false _ _ q.0) in
     subst (λ (y : Beat). IsBeat y × (beat_text y ≡ bytes)) (same_Ok (beat_in bytes) b q.1) whole
 
-same_beat : (n m g h f e s t : ℕ) (leads over : Bool) → n ≡ m → g ≡ h → f ≡ e → s ≡ t → beat n g f leads over s ≡ beat m h e leads over t
-same_beat n m g h f e s t leads over p q r u =
-    ap (λ (x : ℕ). beat x g f leads over s) p ∙ ap (λ (x : ℕ). beat m x f leads over s) q ∙ ap (λ (x : ℕ). beat m h x leads over s) r ∙ ap (λ (x : ℕ). beat m h e leads over x) u
+same_beat : (n m g h f e s t : ℕ) (campaigns over : Bool) → n ≡ m → g ≡ h → f ≡ e → s ≡ t → beat n g f campaigns over s ≡ beat m h e campaigns over t
+same_beat n m g h f e s t campaigns over p q r u =
+    ap (λ (x : ℕ). beat x g f campaigns over s) p ∙ ap (λ (x : ℕ). beat m x f campaigns over s) q ∙ ap (λ (x : ℕ). beat m h x campaigns over s) r ∙ ap (λ (x : ℕ). beat m h e campaigns over x) u
 
 -- the numbers of a beat are read back, whatever its flags
-beat_numbers : (n g f s flags : ℕ) (leads over : Bool) → n < 2 ^ 32 → g < 2 ^ 32 → f < 2 ^ 32 → s < 2 ^ 16
+beat_numbers : (n g f s flags : ℕ) (campaigns over : Bool) → n < 2 ^ 32 → g < 2 ^ 32 → f < 2 ^ 32 → s < 2 ^ 16
     → let text : List ℕ = big_bytes 4 n ++ (big_bytes 4 g ++ (big_bytes 4 f ++ (flags ∷ big_bytes 2 s))) in
-    beat (big_number 4 text) (big_number 4 (drop 4 text)) (big_number 4 (drop 8 text)) leads over (big_number 2 (drop 13 text)) ≡ beat n g f leads over s
-beat_numbers n g f s flags leads over ln lg lf ls =
+    beat (big_number 4 text) (big_number 4 (drop 4 text)) (big_number 4 (drop 8 text)) campaigns over (big_number 2 (drop 13 text)) ≡ beat n g f campaigns over s
+beat_numbers n g f s flags campaigns over ln lg lf ls =
     let tail : List ℕ = flags ∷ big_bytes 2 s in
-    same_beat _ n _ g _ f _ s leads over
+    same_beat _ n _ g _ f _ s campaigns over
     (big_number-reads_back 4 n (big_bytes 4 g ++ (big_bytes 4 f ++ tail)) ln)
     (big_number-reads_back 4 g (big_bytes 4 f ++ tail) lg)
     (big_number-reads_back 4 f tail lf)
     (big_number-reads_back 2 s [] ls)
 
-beat_back : (n g f s : ℕ) (leads over : Bool) → n < 2 ^ 32 → g < 2 ^ 32 → f < 2 ^ 32 → s < 2 ^ 16 → beat_of (beat_text (beat n g f leads over s)) ≡ Ok (beat n g f leads over s)
+beat_back : (n g f s : ℕ) (campaigns over : Bool) → n < 2 ^ 32 → g < 2 ^ 32 → f < 2 ^ 32 → s < 2 ^ 16 → beat_of (beat_text (beat n g f campaigns over s)) ≡ Ok (beat n g f campaigns over s)
 unfolding beat_of
 beat_back n g f s true true ln lg lf ls = ap (λ (b : Beat). let r : Result Beat RecordFault = Ok b in r) (beat_numbers n g f s 3 true true ln lg lf ls)
 beat_back n g f s true false ln lg lf ls = ap (λ (b : Beat). let r : Result Beat RecordFault = Ok b in r) (beat_numbers n g f s 1 true false ln lg lf ls)
@@ -143,7 +143,7 @@ hello_said None r e = absurd cc
 hello_said (Some h) r e = (h, refl, same_Ok (record_of.Hello h) r e)
 
 pub beat_again : (b : Beat) → IsBeat b → beat_of (beat_text b) ≡ Ok b
-beat_again b fits = beat_back b.number b.got b.front b.seats b.leads b.over fits.number fits.got fits.front fits.seats
+beat_again b fits = beat_back b.number b.got b.front b.seats b.campaigns b.over fits.number fits.got fits.front fits.seats
 
 beat_said : (o : Result Beat RecordFault) (r : Record) → beat_record o ≡ Ok r → (b : Beat) × (o ≡ Ok b) × (record_of.Beat b ≡ r)
 beat_said (Err f) r e = absurd cc
@@ -162,8 +162,8 @@ content_is kind_of.Hello bytes r fits e =
     let is = hello_is bytes said.0 fits said.1 in
     subst (λ (x : Record). IsSaid kind_of.Hello bytes x) said.2 (record { fits = is.0; kind_is = refl; text = sym is.1 })
 content_is kind_of.Proof bytes r fits e =
-    let made : Record = record_of.Proof (record { code = bytes }) in
-    let p = passed (eqb (length bytes) CODE_BYTES) BadLength (Ok made) r e in
+    let made : Record = record_of.Proof (record { tag = bytes }) in
+    let p = passed (eqb (length bytes) TAG_BYTES) BadLength (Ok made) r e in
     subst (λ (x : Record). IsSaid kind_of.Proof bytes x) (same_Ok made r p.1) (record { fits = eqb-true _ _ p.0; kind_is = refl; text = refl })
 content_is kind_of.Frame bytes r fits e =
     let made : Record = record_of.Frame (record { bytes = record { items = bytes } }) in
@@ -179,9 +179,9 @@ content_is kind_of.Beat bytes r fits e =
 pub content_again : (r : Record) → IsRecord r → content_of (kind r) (body r) ≡ Ok r
 unfolding content_of
 content_again (record_of.Hello h) fits = rw (hello_again h fits) refl
-content_again (record_of.Proof p) fits = rw (eq-eqb (length p.code) CODE_BYTES fits) refl
+content_again (record_of.Proof p) fits = rw (eq-eqb (length p.tag) TAG_BYTES fits) refl
 content_again (record_of.Frame f) fits = rw (le-leb LEAST_FRAME (length f.bytes.items) fits.least, le-leb (length f.bytes.items) MOST_FRAME fits.most) refl
-content_again (record_of.Beat b) fits = ap beat_record (beat_back b.number b.got b.front b.seats b.leads b.over fits.number fits.got fits.front fits.seats)
+content_again (record_of.Beat b) fits = ap beat_record (beat_back b.number b.got b.front b.seats b.campaigns b.over fits.number fits.got fits.front fits.seats)
 
 pub body_most : (r : Record) → IsRecord r → length (body r) ≤ MOST_FRAME
 body_most (record_of.Hello h) fits = omega (arith, hello_most h fits)

@@ -3,7 +3,7 @@ use Rattle.std.proofs.Common.{◌≡◌, ◌⊎◌, inl, inr, ℕ, ◌-◌, ◌<
 use Rattle.std.specs.Str.{bytes_eq}
 use Rattle.std.proofs.lemmas.Bool.{eq-eqb, le-leb}
 use Rattle.std.proofs.lemmas.Slice.Eq.{bytes_eq-Decides}
-use Rattle.peer_codes.specs.declared.limits.TheConstants.{CODE_BYTES, LEAST_FRAME, MOST_FRAME, LAST_NUMBER}
+use Rattle.peer_codes.specs.declared.limits.TheConstants.{TAG_BYTES, LEAST_FRAME, MOST_FRAME, LAST_NUMBER}
 use Rattle.peer_codes.specs.declared.fault.RecordFault.{RecordFault}
 use Rattle.peer_codes.specs.declared.fault.RecordFault.TheVariants.{BadLength}
 use Rattle.peer_codes.specs.declared.connection_fault.ConnectionFault.{ConnectionFault}
@@ -24,7 +24,7 @@ use Rattle.peer_codes.specs.declared.step.Step.{Step}
 use Rattle.peer_codes.specs.Reading.{hello_of, beat_of, is_frame}
 use Rattle.peer_codes.specs.Fits.{IsFrame, IsBeat}
 use Rattle.peer_codes.specs.Spelling.{beat_text}
-use Rattle.peer_codes.specs.Codes.{proof_code, after, covered, uncovered}
+use Rattle.peer_codes.specs.Codes.{proof_tag, after, covered, uncovered}
 use Rattle.peer_codes.specs.Steps.{closed, proving, ways_of, opened, only_coded, greeted, heard, frame_heard, beat_told, beat_heard, stepped, IsFrameSaid, IsBeatSaid, IsOpening}
 use Rattle.peer_codes.specs.Telling.{IsOpen}
 use Rattle.peer_codes.proofs.RecordLaws.{beat_again}
@@ -105,7 +105,7 @@ frame_said key (phases.Greeting own) kind_of.Frame content f e = absurd cc
 frame_said key (phases.Greeting own) kind_of.Beat content f e = absurd cc
 frame_said key (phases.Asked caller) kind content f e = absurd cc
 frame_said key (phases.Proving theirs ways) kind_of.Hello content f e = absurd cc
-frame_said key (phases.Proving theirs ways) kind_of.Proof content f e = absurd (proof_no_frame (not (eqb (length content) CODE_BYTES)) (bytes_eq content theirs.code) ways f e)
+frame_said key (phases.Proving theirs ways) kind_of.Proof content f e = absurd (proof_no_frame (not (eqb (length content) TAG_BYTES)) (bytes_eq content theirs.tag) ways f e)
 frame_said key (phases.Proving theirs ways) kind_of.Frame content f e = absurd cc
 frame_said key (phases.Proving theirs ways) kind_of.Beat content f e = absurd cc
 frame_said key (phases.Open ways) kind_of.Hello content f e = absurd cc
@@ -114,9 +114,9 @@ frame_said key (phases.Open ways) kind_of.Frame content f e = record {
   ways = ways;
   phase_is = refl;
   kind_is = refl;
-  text = covered_is ways.reading kind_of.Frame content f.bytes.items (frame_heard_is ways (length content - CODE_BYTES) (uncovered ways.reading kind_of.Frame content) f e);
+  text = covered_is ways.reading kind_of.Frame content f.bytes.items (frame_heard_is ways (length content - TAG_BYTES) (uncovered ways.reading kind_of.Frame content) f e);
 }
-frame_said key (phases.Open ways) kind_of.Beat content f e = absurd (beat_no_frame ways (length content - CODE_BYTES) (uncovered ways.reading kind_of.Beat content) f e)
+frame_said key (phases.Open ways) kind_of.Beat content f e = absurd (beat_no_frame ways (length content - TAG_BYTES) (uncovered ways.reading kind_of.Beat content) f e)
 frame_said key phases.Refused kind content f e = absurd cc
 frame_said key (phases.Closed fault) kind content f e = absurd cc
 
@@ -134,23 +134,23 @@ opening_said key (phases.Proving theirs ways) kind_of.Proof content e = record {
   ways = ways;
   phase_is = refl;
   kind_is = refl;
-  text = (bytes_eq-Decides content theirs.code).0 (proof_opens (not (eqb (length content) CODE_BYTES)) (bytes_eq content theirs.code) ways e);
+  text = (bytes_eq-Decides content theirs.tag).0 (proof_opens (not (eqb (length content) TAG_BYTES)) (bytes_eq content theirs.tag) ways e);
 }
 opening_said key (phases.Proving theirs ways) kind_of.Frame content e = absurd cc
 opening_said key (phases.Proving theirs ways) kind_of.Beat content e = absurd cc
 opening_said key (phases.Open ways) kind_of.Hello content e = absurd cc
 opening_said key (phases.Open ways) kind_of.Proof content e = absurd cc
-opening_said key (phases.Open ways) kind_of.Frame content e = absurd (frame_heard_no_opening ways (length content - CODE_BYTES) (uncovered ways.reading kind_of.Frame content) e)
-opening_said key (phases.Open ways) kind_of.Beat content e = absurd (beat_no_opening ways (length content - CODE_BYTES) (uncovered ways.reading kind_of.Beat content) e)
+opening_said key (phases.Open ways) kind_of.Frame content e = absurd (frame_heard_no_opening ways (length content - TAG_BYTES) (uncovered ways.reading kind_of.Frame content) e)
+opening_said key (phases.Open ways) kind_of.Beat content e = absurd (beat_no_opening ways (length content - TAG_BYTES) (uncovered ways.reading kind_of.Beat content) e)
 opening_said key phases.Refused kind content e = absurd cc
 opening_said key (phases.Closed fault) kind content e = absurd cc
 
 -- the proof that is awaited opens it
-pub proof_is_taken : (key : List ℕ) (own other : Role) (hellos : Hellos) → stepped key (proving key own other hellos) kind_of.Proof (proof_code key other hellos) ≡ opened (ways_of key own other hellos)
+pub proof_is_taken : (key : List ℕ) (own other : Role) (hellos : Hellos) → stepped key (proving key own other hellos) kind_of.Proof (proof_tag key other hellos) ≡ opened (ways_of key own other hellos)
 unfolding stepped
 proof_is_taken key own other hellos =
-    let long : eqb (length (proof_code key other hellos)) CODE_BYTES ≡ true = eq-eqb _ _ (hmac_length _ _) in
-    let same : bytes_eq (proof_code key other hellos) (proof_code key other hellos) ≡ true = (bytes_eq-Decides (proof_code key other hellos) (proof_code key other hellos)).1 refl in
+    let long : eqb (length (proof_tag key other hellos)) TAG_BYTES ≡ true = eq-eqb _ _ (hmac_length _ _) in
+    let same : bytes_eq (proof_tag key other hellos) (proof_tag key other hellos) ≡ true = (bytes_eq-Decides (proof_tag key other hellos) (proof_tag key other hellos)).1 refl in
     rw (long, same) refl
 
 frame_is_heard : (fits : Bool) (ways : Ways) (count : ℕ) (f : Frame) → fits ≡ true → cond fits (heard ways count (events.Frame f)) (closed (faults.Record BadLength)) ≡ heard ways count (events.Frame f)
@@ -166,7 +166,7 @@ pub frame_is_taken : (key : List ℕ) (ways : Ways) (f : Frame) → ways.reading
 unfolding stepped
 frame_is_taken key ways f number fits =
     let body : List ℕ = f.bytes.items in
-    let size : length (covered ways.reading kind_of.Frame body) - CODE_BYTES ≡ length body = omega (arith, covered_length ways.reading kind_of.Frame body) in
+    let size : length (covered ways.reading kind_of.Frame body) - TAG_BYTES ≡ length body = omega (arith, covered_length ways.reading kind_of.Frame body) in
     ap (λ (n : ℕ). frame_heard ways n (uncovered ways.reading kind_of.Frame (covered ways.reading kind_of.Frame body))) size
     ∙ ap (λ (read : Result (List ℕ) ConnectionFault). frame_heard ways (length body) read) (covered_again ways.reading kind_of.Frame body number)
     ∙ frame_is_heard (is_frame body) ways (length body) f (frame_fits body fits)
@@ -223,13 +223,13 @@ beat_said key (phases.Greeting own) kind_of.Frame content b e = absurd cc
 beat_said key (phases.Greeting own) kind_of.Beat content b e = absurd cc
 beat_said key (phases.Asked caller) kind content b e = absurd cc
 beat_said key (phases.Proving theirs ways) kind_of.Hello content b e = absurd cc
-beat_said key (phases.Proving theirs ways) kind_of.Proof content b e = absurd (proof_no_beat (not (eqb (length content) CODE_BYTES)) (bytes_eq content theirs.code) ways b e)
+beat_said key (phases.Proving theirs ways) kind_of.Proof content b e = absurd (proof_no_beat (not (eqb (length content) TAG_BYTES)) (bytes_eq content theirs.tag) ways b e)
 beat_said key (phases.Proving theirs ways) kind_of.Frame content b e = absurd cc
 beat_said key (phases.Proving theirs ways) kind_of.Beat content b e = absurd cc
 beat_said key (phases.Open ways) kind_of.Hello content b e = absurd cc
 beat_said key (phases.Open ways) kind_of.Proof content b e = absurd cc
-beat_said key (phases.Open ways) kind_of.Frame content b e = absurd (frame_no_beat ways (length content - CODE_BYTES) (uncovered ways.reading kind_of.Frame content) b e)
-beat_said key (phases.Open ways) kind_of.Beat content b e = beat_by ways content b (beat_heard_is ways (length content - CODE_BYTES) (uncovered ways.reading kind_of.Beat content) b e)
+beat_said key (phases.Open ways) kind_of.Frame content b e = absurd (frame_no_beat ways (length content - TAG_BYTES) (uncovered ways.reading kind_of.Frame content) b e)
+beat_said key (phases.Open ways) kind_of.Beat content b e = beat_by ways content b (beat_heard_is ways (length content - TAG_BYTES) (uncovered ways.reading kind_of.Beat content) b e)
 beat_said key phases.Refused kind content b e = absurd cc
 beat_said key (phases.Closed fault) kind content b e = absurd cc
 
@@ -239,7 +239,7 @@ pub beat_is_taken : (key : List ℕ) (ways : Ways) (b : Beat) → ways.reading.n
 unfolding stepped
 beat_is_taken key ways b number fits =
     let body : List ℕ = beat_text b in
-    let size : length (covered ways.reading kind_of.Beat body) - CODE_BYTES ≡ length body = omega (arith, covered_length ways.reading kind_of.Beat body) in
+    let size : length (covered ways.reading kind_of.Beat body) - TAG_BYTES ≡ length body = omega (arith, covered_length ways.reading kind_of.Beat body) in
     ap (λ (n : ℕ). beat_heard ways n (uncovered ways.reading kind_of.Beat (covered ways.reading kind_of.Beat body))) size
     ∙ ap (λ (read : Result (List ℕ) ConnectionFault). beat_heard ways (length body) read) (covered_again ways.reading kind_of.Beat body number)
     ∙ ap (λ (read : Result Beat RecordFault). beat_told ways (length body) read) (beat_again b fits)
@@ -269,12 +269,12 @@ beat_goes : (w v : Ways) (count : ℕ) (read : Result (List ℕ) ConnectionFault
 beat_goes w v count (Err fault) e = absurd cc
 beat_goes w v count (Ok body) e = told_goes w v count (beat_of body) e
 
-pub open_goes_on : (key : List ℕ) (w v : Ways) (kind : Kind) (content : List ℕ) → (stepped key (phases.Open w) kind content).phase ≡ phases.Open v → v ≡ next_ways w (length content - CODE_BYTES)
+pub open_goes_on : (key : List ℕ) (w v : Ways) (kind : Kind) (content : List ℕ) → (stepped key (phases.Open w) kind content).phase ≡ phases.Open v → v ≡ next_ways w (length content - TAG_BYTES)
 unfolding stepped
 open_goes_on key w v kind_of.Hello content e = absurd cc
 open_goes_on key w v kind_of.Proof content e = absurd cc
-open_goes_on key w v kind_of.Frame content e = frame_goes w v (length content - CODE_BYTES) (uncovered w.reading kind_of.Frame content) e
-open_goes_on key w v kind_of.Beat content e = beat_goes w v (length content - CODE_BYTES) (uncovered w.reading kind_of.Beat content) e
+open_goes_on key w v kind_of.Frame content e = frame_goes w v (length content - TAG_BYTES) (uncovered w.reading kind_of.Frame content) e
+open_goes_on key w v kind_of.Beat content e = beat_goes w v (length content - TAG_BYTES) (uncovered w.reading kind_of.Beat content) e
 
 -- and what keeps it open is coded
 
@@ -291,10 +291,10 @@ unfolding stepped
 open_by_codes key w v kind_of.Hello content e = absurd cc
 open_by_codes key w v kind_of.Proof content e = absurd cc
 open_by_codes key w v kind_of.Frame content e =
-    let read = frame_coded w v (length content - CODE_BYTES) (uncovered w.reading kind_of.Frame content) e in
+    let read = frame_coded w v (length content - TAG_BYTES) (uncovered w.reading kind_of.Frame content) e in
     (read.0, covered_is w.reading kind_of.Frame content read.0 read.1)
 open_by_codes key w v kind_of.Beat content e =
-    let read = beat_coded w v (length content - CODE_BYTES) (uncovered w.reading kind_of.Beat content) e in
+    let read = beat_coded w v (length content - TAG_BYTES) (uncovered w.reading kind_of.Beat content) e in
     (read.0, covered_is w.reading kind_of.Beat content read.0 read.1)
 
 -- ---- what opens a connection is told so
@@ -322,7 +322,7 @@ opens_so key (phases.Greeting own) kind_of.Beat content ways e = absurd cc
 opens_so key (phases.Asked caller) kind content ways e = absurd cc
 opens_so key phases.Refused kind content ways e = absurd cc
 opens_so key (phases.Proving theirs w) kind_of.Hello content ways e = absurd cc
-opens_so key (phases.Proving theirs w) kind_of.Proof content ways e = inr (proof_opens_so (not (eqb (length content) CODE_BYTES)) (bytes_eq content theirs.code) w ways e)
+opens_so key (phases.Proving theirs w) kind_of.Proof content ways e = inr (proof_opens_so (not (eqb (length content) TAG_BYTES)) (bytes_eq content theirs.tag) w ways e)
 opens_so key (phases.Proving theirs w) kind_of.Frame content ways e = absurd cc
 opens_so key (phases.Proving theirs w) kind_of.Beat content ways e = absurd cc
 opens_so key (phases.Open w) kind content ways e = inl (w, refl)

@@ -2,7 +2,7 @@
 use Rattle.std.proofs.Common.{◌≡◌, ◌⊎◌, inl, inr, ℕ, ◌-◌, ◌+◌, ◌<◌, ◌≤◌, arith, Bool, true, false, not, cond, eqb, ltb, leb, List, length, drop, Option, Some, None, Result, Ok, Err, refl, sym, ap, ◌∙◌}
 use Rattle.std.specs.Str.{bytes_eq}
 use Rattle.std.proofs.lemmas.Bool.{and_parts, leb-true}
-use Rattle.peer_codes.specs.declared.limits.TheConstants.{CODE_BYTES, MOST_LENGTH, MOST_RECORD}
+use Rattle.peer_codes.specs.declared.limits.TheConstants.{TAG_BYTES, MOST_LENGTH, MOST_RECORD}
 use Rattle.peer_codes.specs.declared.fault.RecordFault.{RecordFault}
 use Rattle.peer_codes.specs.declared.fault.RecordFault.TheVariants.{BadLength}
 use Rattle.peer_codes.specs.declared.connection_fault.ConnectionFault.{ConnectionFault}
@@ -80,13 +80,13 @@ greeting_said key (phases.Greeting own) kind_of.Beat content hello e = absurd cc
 greeting_said key (phases.Asked caller) kind content hello e = absurd cc
 greeting_said key phases.Refused kind content hello e = absurd cc
 greeting_said key (phases.Proving theirs ways) kind_of.Hello content hello e = absurd cc
-greeting_said key (phases.Proving theirs ways) kind_of.Proof content hello e = absurd (proof_no_greeting (not (eqb (length content) CODE_BYTES)) (bytes_eq content theirs.code) ways hello e)
+greeting_said key (phases.Proving theirs ways) kind_of.Proof content hello e = absurd (proof_no_greeting (not (eqb (length content) TAG_BYTES)) (bytes_eq content theirs.tag) ways hello e)
 greeting_said key (phases.Proving theirs ways) kind_of.Frame content hello e = absurd cc
 greeting_said key (phases.Proving theirs ways) kind_of.Beat content hello e = absurd cc
 greeting_said key (phases.Open ways) kind_of.Hello content hello e = absurd cc
 greeting_said key (phases.Open ways) kind_of.Proof content hello e = absurd cc
-greeting_said key (phases.Open ways) kind_of.Frame content hello e = absurd (frame_no_greeting ways (length content - CODE_BYTES) (uncovered ways.reading kind_of.Frame content) hello e)
-greeting_said key (phases.Open ways) kind_of.Beat content hello e = absurd (beat_no_greeting ways (length content - CODE_BYTES) (uncovered ways.reading kind_of.Beat content) hello e)
+greeting_said key (phases.Open ways) kind_of.Frame content hello e = absurd (frame_no_greeting ways (length content - TAG_BYTES) (uncovered ways.reading kind_of.Frame content) hello e)
+greeting_said key (phases.Open ways) kind_of.Beat content hello e = absurd (beat_no_greeting ways (length content - TAG_BYTES) (uncovered ways.reading kind_of.Beat content) hello e)
 greeting_said key (phases.Closed fault) kind content hello e = absurd cc
 
 -- ---- how far it is then
@@ -101,7 +101,7 @@ proof_opens_it : (key : List ℕ) (theirs : Proof) (ways : Ways) (kind : Kind) (
     → (stepped key (phases.Proving theirs ways) kind content).phase ≡ phases.Open ways
 unfolding stepped
 proof_opens_it key theirs ways kind_of.Hello content e = absurd cc
-proof_opens_it key theirs ways kind_of.Proof content e = opens_by (not (eqb (length content) CODE_BYTES)) (bytes_eq content theirs.code) ways e
+proof_opens_it key theirs ways kind_of.Proof content e = opens_by (not (eqb (length content) TAG_BYTES)) (bytes_eq content theirs.tag) ways e
 proof_opens_it key theirs ways kind_of.Frame content e = absurd cc
 proof_opens_it key theirs ways kind_of.Beat content e = absurd cc
 
@@ -124,12 +124,12 @@ beat_stays ways count (Err fault) event e = absurd cc
 beat_stays ways count (Ok body) event e = told_stays ways count (beat_of body) event e
 
 stays_open : (key : List ℕ) (ways : Ways) (kind : Kind) (content : List ℕ) (event : Event) → (stepped key (phases.Open ways) kind content).event ≡ Ok event
-    → (stepped key (phases.Open ways) kind content).phase ≡ phases.Open (next_ways ways (length content - CODE_BYTES))
+    → (stepped key (phases.Open ways) kind content).phase ≡ phases.Open (next_ways ways (length content - TAG_BYTES))
 unfolding stepped
 stays_open key ways kind_of.Hello content event e = absurd cc
 stays_open key ways kind_of.Proof content event e = absurd cc
-stays_open key ways kind_of.Frame content event e = frame_stays ways (length content - CODE_BYTES) (uncovered ways.reading kind_of.Frame content) event e
-stays_open key ways kind_of.Beat content event e = beat_stays ways (length content - CODE_BYTES) (uncovered ways.reading kind_of.Beat content) event e
+stays_open key ways kind_of.Frame content event e = frame_stays ways (length content - TAG_BYTES) (uncovered ways.reading kind_of.Frame content) event e
+stays_open key ways kind_of.Beat content event e = beat_stays ways (length content - TAG_BYTES) (uncovered ways.reading kind_of.Beat content) event e
 
 -- ---- what stood in front
 
@@ -139,7 +139,7 @@ heard_by : (old new : Connection) (kind : Kind) (body content : List ℕ) (ways 
     → (stepped old.key.bytes old.phase kind content).event ≡ Ok event → new.phase ≡ (stepped old.key.bytes old.phase kind content).phase → IsHeard kind body old new
 heard_by old new kind body content ways event came is_open text told goes =
     let opens : (stepped old.key.bytes (phases.Open ways) kind content).event ≡ Ok event = ap (λ (p : Phase). (stepped old.key.bytes p kind content).event) (sym is_open) ∙ told in
-    let count : length content - CODE_BYTES ≡ length body = omega (arith, ap length text, covered_length ways.reading kind body) in
+    let count : length content - TAG_BYTES ≡ length body = omega (arith, ap length text, covered_length ways.reading kind body) in
     record {
       ways = ways;
       open_was = is_open;
@@ -275,13 +275,13 @@ stepped_says key (phases.Greeting own) kind_of.Beat content = inl refl
 stepped_says key (phases.Asked caller) kind content = inl refl
 stepped_says key phases.Refused kind content = inl refl
 stepped_says key (phases.Proving theirs ways) kind_of.Hello content = inl refl
-stepped_says key (phases.Proving theirs ways) kind_of.Proof content = proof_says (not (eqb (length content) CODE_BYTES)) (bytes_eq content theirs.code) ways
+stepped_says key (phases.Proving theirs ways) kind_of.Proof content = proof_says (not (eqb (length content) TAG_BYTES)) (bytes_eq content theirs.tag) ways
 stepped_says key (phases.Proving theirs ways) kind_of.Frame content = inl refl
 stepped_says key (phases.Proving theirs ways) kind_of.Beat content = inl refl
 stepped_says key (phases.Open ways) kind_of.Hello content = inl refl
 stepped_says key (phases.Open ways) kind_of.Proof content = inl refl
-stepped_says key (phases.Open ways) kind_of.Frame content = frame_says ways (length content - CODE_BYTES) (uncovered ways.reading kind_of.Frame content)
-stepped_says key (phases.Open ways) kind_of.Beat content = beat_says ways (length content - CODE_BYTES) (uncovered ways.reading kind_of.Beat content)
+stepped_says key (phases.Open ways) kind_of.Frame content = frame_says ways (length content - TAG_BYTES) (uncovered ways.reading kind_of.Frame content)
+stepped_says key (phases.Open ways) kind_of.Beat content = beat_says ways (length content - TAG_BYTES) (uncovered ways.reading kind_of.Beat content)
 stepped_says key (phases.Closed fault) kind content = inl refl
 
 step_says : (key : List ℕ) (phase : Phase) (found : Result Kind RecordFault) (content : List ℕ) → SaysOrGreets (step_by key phase found content)

@@ -4,7 +4,7 @@ use Rattle.std.specs.Str.{bytes_eq}
 use Rattle.byteorder.specs.Endian.{big_bytes}
 use Rattle.rand_core.specs.Steps.{fill_via_u32}
 use Rattle.rand_chacha.specs.ChaCha.{ChaCha, next_word, of_seed}
-use Rattle.peer_codes.specs.declared.limits.TheConstants.{CODE_BYTES, LAST_NUMBER}
+use Rattle.peer_codes.specs.declared.limits.TheConstants.{TAG_BYTES, LAST_NUMBER}
 use Rattle.peer_codes.specs.declared.fault.RecordFault.TheVariants.{BadLength}
 use Rattle.peer_codes.specs.declared.connection_fault.ConnectionFault.{ConnectionFault}
 use Rattle.peer_codes.specs.declared.connection_fault.ConnectionFault.TheVariants as faults
@@ -25,25 +25,25 @@ role_byte Called = 1
 abbrev pub hellos_text : Hellos → List ℕ
 hellos_text h = hello_text h.caller ++ hello_text h.called
 
--- what a proof is a code of
+-- what a proof is a tag of
 abbrev pub proof_text : Role → Hellos → List ℕ
 proof_text role hellos = codes "HDN1 proof" ++ (role_byte role ∷ hellos_text hellos)
 
--- what the key of a way is a code of
+-- what the key of a way is a tag of
 abbrev pub way_text : Role → Hellos → List ℕ
 way_text role hellos = codes "HDN1 way" ++ (role_byte role ∷ hellos_text hellos)
 
--- what the seed of a seal is a code of, under the key of its way
+-- what the seed of a seal is a tag of, under the key of its way
 abbrev pub seal_text : List ℕ
 seal_text = codes "HDN1 seal"
 
--- what the code of a record is one of, under the same key
+-- what the tag of a record is one of, under the same key
 abbrev pub coded_text : ℕ → Kind → List ℕ → List ℕ
 coded_text number kind sent = big_bytes 8 number ++ (kind_byte kind ∷ sent)
 
 -- what a side in this role has to say to show that it has the key
-abbrev pub proof_code : List ℕ → Role → Hellos → List ℕ
-proof_code key role hellos = hmac key (proof_text role hellos)
+abbrev pub proof_tag : List ℕ → Role → Hellos → List ℕ
+proof_tag key role hellos = hmac key (proof_text role hellos)
 
 -- the key of the way on which the side in this role speaks
 abbrev pub way_key : List ℕ → Role → Hellos → List ℕ
@@ -74,13 +74,13 @@ xored (x ∷ xs) (y ∷ ys) = bit_xor x y ∷ xored xs ys
 abbrev pub masked : Way → List ℕ → List ℕ
 masked way bytes = xored bytes (pad (length bytes) way.seal).0
 
--- the code of what is sent, under the way's key, with the record's number and its kind
-abbrev pub record_code : Way → Kind → List ℕ → List ℕ
-record_code way kind sent = hmac way.key (coded_text way.number kind sent)
+-- the tag of what is sent, under the way's key, with the record's number and its kind
+abbrev pub record_tag : Way → Kind → List ℕ → List ℕ
+record_tag way kind sent = hmac way.key (coded_text way.number kind sent)
 
--- what stands in a coded record behind its kind: the body under the seal, and the code of that
+-- what stands in a coded record behind its kind: the body under the seal, and the tag of that
 abbrev pub covered : Way → Kind → List ℕ → List ℕ
-covered way kind body = masked way body ++ record_code way kind (masked way body)
+covered way kind body = masked way body ++ record_tag way kind (masked way body)
 
 -- a coded record
 abbrev pub coded : Way → Kind → List ℕ → List ℕ
@@ -92,16 +92,16 @@ after way count = record { key = way.key; number = way.number + 1; seal = (pad c
 
 -- what was sent, of what stands behind a kind
 abbrev pub sent_in : List ℕ → List ℕ
-sent_in content = take (length content - CODE_BYTES) content
+sent_in content = take (length content - TAG_BYTES) content
 
--- its code
-abbrev pub code_in : List ℕ → List ℕ
-code_in content = drop (length content - CODE_BYTES) content
+-- its tag
+abbrev pub tag_in : List ℕ → List ℕ
+tag_in content = drop (length content - TAG_BYTES) content
 
 -- the body of a coded record, or its fault
 unfoldable pub uncovered : Way → Kind → List ℕ → Result (List ℕ) ConnectionFault
 uncovered way kind content =
-    if nat_le LAST_NUMBER way.number then Err faults.OutOfTurn
-    else (if nat_lt (length content) CODE_BYTES then Err (faults.Record BadLength)
-    else (if bytes_eq (code_in content) (record_code way kind (sent_in content)) then Ok (masked way (sent_in content))
-    else Err faults.WrongCode))
+    if nat_le LAST_NUMBER way.number then Err faults.UnexpectedRecord
+    else (if nat_lt (length content) TAG_BYTES then Err (faults.Record BadLength)
+    else (if bytes_eq (tag_in content) (record_tag way kind (sent_in content)) then Ok (masked way (sent_in content))
+    else Err faults.WrongTag))

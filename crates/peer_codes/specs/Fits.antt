@@ -3,7 +3,7 @@ use Rattle.std.specs.Prelude.{◌≡◌, ℕ, ◌^◌, ◌<◌, ◌≤◌, false
 use Rattle.std.specs.List.{list_all}
 use Rattle.std.specs.Prelude.{◌==◌, Bool}
 use Rattle.paxos_wire.specs.Fits.{IsBallot}
-use Rattle.peer_codes.specs.declared.limits.TheConstants.{NODES, DIGEST_BYTES, LIFE_BYTES, NONCE_BYTES, CODE_BYTES, LEAST_FRAME, MOST_FRAME}
+use Rattle.peer_codes.specs.declared.limits.TheConstants.{NODES, DIGEST_BYTES, LIFE_BYTES, NONCE_BYTES, TAG_BYTES, LEAST_FRAME, MOST_FRAME}
 use Rattle.peer_codes.specs.declared.hello.Ends.{Ends}
 use Rattle.peer_codes.specs.declared.hello.Life.{Life}
 use Rattle.peer_codes.specs.declared.hello.Link.{Link}
@@ -55,7 +55,7 @@ pub record IsBeat (b : Beat) : Type 0 where
 -- a record that has a text
 abbrev pub IsRecord : Record → Type 0
 IsRecord (record_of.Hello hello) = IsHello hello
-IsRecord (record_of.Proof proof) = length proof.code ≡ CODE_BYTES
+IsRecord (record_of.Proof proof) = length proof.tag ≡ TAG_BYTES
 IsRecord (record_of.Frame frame) = IsFrame frame.bytes.items
 IsRecord (record_of.Beat beat) = IsBeat beat
 
@@ -83,6 +83,6 @@ pub record HasWidths (h : Hello) : Type 0 where
 -- what holds of each record of the program
 abbrev pub IsHeld : Record → Type 0
 IsHeld (record_of.Hello hello) = HasWidths hello
-IsHeld (record_of.Proof proof) = length proof.code ≡ CODE_BYTES
+IsHeld (record_of.Proof proof) = length proof.tag ≡ TAG_BYTES
 IsHeld (record_of.Frame frame) = length frame.bytes.items ≤ MOST_FRAME
 IsHeld (record_of.Beat beat) = IsBeat beat

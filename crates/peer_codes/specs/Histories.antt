@@ -1,6 +1,6 @@
 -- What happens to a connection from its beginning on, and what one that is open goes by.
 use Rattle.std.specs.Prelude.{◌≡◌, ◌⊎◌, ℕ, ◌-◌, true, List, [], ◌∷◌, ◌++◌, length, drop, Option, Some, None, Ok}
-use Rattle.peer_codes.specs.declared.limits.TheConstants.{CODE_BYTES}
+use Rattle.peer_codes.specs.declared.limits.TheConstants.{TAG_BYTES}
 use Rattle.peer_codes.specs.declared.fault.RecordFault.TheVariants.{BadHello}
 use Rattle.peer_codes.specs.declared.connection_fault.ConnectionFault.{ConnectionFault}
 use Rattle.peer_codes.specs.declared.connection_fault.ConnectionFault.TheVariants as faults
@@ -17,7 +17,7 @@ use Rattle.peer_codes.specs.declared.connection.Connection.{Connection}
 use Rattle.peer_codes.specs.Fits.{IsHello}
 use Rattle.peer_codes.specs.Reading.{hello_of}
 use Rattle.peer_codes.specs.Faults.{front, kind_in}
-use Rattle.peer_codes.specs.Codes.{proof_code, way_of, after}
+use Rattle.peer_codes.specs.Codes.{proof_tag, way_of, after}
 use Rattle.peer_codes.specs.Steps.{is_coded, proving, only_coded, front_step}
 
 -- one thing that happens to a connection
@@ -78,11 +78,11 @@ HelloCame hello (Came bytes) = (kind_in bytes ≡ Ok kind_of.Hello) × (only_cod
 HelloCame hello (Answered own) = ⊥
 HelloCame hello (Said count) = ⊥
 
--- a record came that is a proof with this code
+-- a record came that is a proof with this tag
 abbrev pub ProofCame : List ℕ → Happening → Type 0
-ProofCame code (Came bytes) = (kind_in bytes ≡ Ok kind_of.Proof) × (drop 5 bytes ≡ code)
-ProofCame code (Answered own) = ⊥
-ProofCame code (Said count) = ⊥
+ProofCame tag (Came bytes) = (kind_in bytes ≡ Ok kind_of.Proof) × (drop 5 bytes ≡ tag)
+ProofCame tag (Answered own) = ⊥
+ProofCame tag (Said count) = ⊥
 
 -- it said this Hello as its own
 abbrev pub HelloSaid : Hello → Happening → Type 0
@@ -125,7 +125,7 @@ AnswersCoded (Said count ∷ before) = AnswersCoded before
 
 -- how many bytes the body of a coded record has
 abbrev pub body_length : List ℕ → ℕ
-body_length bytes = length (drop 5 bytes) - CODE_BYTES
+body_length bytes = length (drop 5 bytes) - TAG_BYTES
 
 -- how many bytes the bodies of the records had that came, the newest first
 abbrev pub counts_read : List Happening → List ℕ
@@ -152,6 +152,6 @@ pub record IsProved (key : List ℕ) (own : Option Hello) (before : List Happeni
   pub earlier : List Happening
   pub parts : before ≡ since ++ opening ∷ earlier
   pub met : Met own role hellos earlier
-  pub proved : ProofCame (proof_code key (across role) hellos) opening
+  pub proved : ProofCame (proof_tag key (across role) hellos) opening
   pub reading : ways.reading ≡ behind_all (way_of key (across role) hellos) (counts_read since)
   pub writing : ways.writing ≡ behind_all (way_of key role hellos) (counts_said since)

@@ -12,6 +12,6 @@ inner_pad = 0x36
 abbrev pub outer_pad : ℕ
 outer_pad = 0x5C
 
--- the code of a message under a key
+-- the tag of a message under a key
 unfoldable pub hmac : List ℕ → List ℕ → List ℕ
 hmac key message = sha256 (padded outer_pad key ++ sha256 (padded inner_pad key ++ message))

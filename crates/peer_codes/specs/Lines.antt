@@ -21,11 +21,11 @@ record_fault_line BadHello = codes "122 BadHello"
 abbrev pub connection_fault_code : ConnectionFault → ℕ
 connection_fault_code (faults.Record fault) = record_fault_code fault
 connection_fault_code faults.WrongProof = 124
-connection_fault_code faults.WrongCode = 125
-connection_fault_code faults.OutOfTurn = 126
+connection_fault_code faults.WrongTag = 125
+connection_fault_code faults.UnexpectedRecord = 126
 
 abbrev pub connection_fault_line : ConnectionFault → List ℕ
 connection_fault_line (faults.Record fault) = record_fault_line fault
 connection_fault_line faults.WrongProof = codes "124 WrongProof"
-connection_fault_line faults.WrongCode = codes "125 WrongCode"
-connection_fault_line faults.OutOfTurn = codes "126 OutOfTurn"
+connection_fault_line faults.WrongTag = codes "125 WrongTag"
+connection_fault_line faults.UnexpectedRecord = codes "126 UnexpectedRecord"

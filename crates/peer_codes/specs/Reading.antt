@@ -4,7 +4,7 @@ use Rattle.byteorder.specs.Endian.{big_number}
 use Rattle.paxos_wire.specs.declared.ballot.Ballot.{Ballot}
 use Rattle.paxos_wire.specs.declared.version.Version.TheVariants.{New}
 use Rattle.paxos_wire.specs.Reading.{◌>>=◌, when, byte_at, number_at, bytes_at, ballot_at}
-use Rattle.peer_codes.specs.declared.limits.TheConstants.{MAGIC, NODES, DIGEST_BYTES, LIFE_BYTES, NONCE_BYTES, CODE_BYTES, BALLOT_BYTES, BEAT_BYTES, LEAST_FRAME, MOST_FRAME}
+use Rattle.peer_codes.specs.declared.limits.TheConstants.{MAGIC, NODES, DIGEST_BYTES, LIFE_BYTES, NONCE_BYTES, TAG_BYTES, BALLOT_BYTES, BEAT_BYTES, LEAST_FRAME, MOST_FRAME}
 use Rattle.peer_codes.specs.declared.fault.RecordFault.{RecordFault}
 use Rattle.peer_codes.specs.declared.fault.RecordFault.TheVariants.{BadLength, BadKind, BadHello}
 use Rattle.peer_codes.specs.declared.hello.Ends.{Ends}
@@ -93,7 +93,7 @@ beat_in bytes = record {
   number = big_number 4 bytes;
   got = big_number 4 (drop 4 bytes);
   front = big_number 4 (drop 8 bytes);
-  leads = slice_index bytes 12 % 2 == 1;
+  campaigns = slice_index bytes 12 % 2 == 1;
   over = nat_le 2 (slice_index bytes 12);
   seats = big_number 2 (drop 13 bytes);
 }
@@ -119,6 +119,6 @@ is_frame bytes = nat_le LEAST_FRAME (length bytes) && nat_le (length bytes) MOST
 -- the record of a kind with these bytes, all of them, or its fault
 unfoldable pub content_of : Kind → List ℕ → Result Record RecordFault
 content_of kind_of.Hello bytes = hello_record (hello_of bytes)
-content_of kind_of.Proof bytes = if length bytes == CODE_BYTES then Ok (record_of.Proof (record { code = bytes })) else Err BadLength
+content_of kind_of.Proof bytes = if length bytes == TAG_BYTES then Ok (record_of.Proof (record { tag = bytes })) else Err BadLength
 content_of kind_of.Frame bytes = if is_frame bytes then Ok (record_of.Frame (record { bytes = record { items = bytes } })) else Err BadLength
 content_of kind_of.Beat bytes = beat_record (beat_of bytes)

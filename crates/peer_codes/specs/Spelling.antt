@@ -44,13 +44,13 @@ promised_text (Some ballot) = ballot_text ballot
 abbrev pub hello_text : Hello → List ℕ
 hello_text h = big_bytes 4 MAGIC ++ (link_byte h.link ∷ (ends_text h.ends ++ (h.digest.bytes ++ (h.life.bytes ++ (kept_text h.kept ++ (promised_text h.promised ++ nonce_text h.link))))))
 
--- 1 says that the speaker leads, 2 that its match is over
+-- 1 says that the speaker campaigns, 2 that its match is over
 abbrev pub flags_byte : Bool → Bool → ℕ
-flags_byte leads over = (if leads then 1 else 0) + (if over then 2 else 0)
+flags_byte campaigns over = (if campaigns then 1 else 0) + (if over then 2 else 0)
 
 -- four bytes each of the number, of the last that was got and of the front, a byte of flags, and two of seats
 abbrev pub beat_text : Beat → List ℕ
-beat_text b = big_bytes 4 b.number ++ (big_bytes 4 b.got ++ (big_bytes 4 b.front ++ (flags_byte b.leads b.over ∷ big_bytes 2 b.seats)))
+beat_text b = big_bytes 4 b.number ++ (big_bytes 4 b.got ++ (big_bytes 4 b.front ++ (flags_byte b.campaigns b.over ∷ big_bytes 2 b.seats)))
 
 abbrev pub kind : Record → Kind
 kind (record_of.Hello hello) = kind_of.Hello
@@ -60,7 +60,7 @@ kind (record_of.Beat beat) = kind_of.Beat
 
 abbrev pub body : Record → List ℕ
 body (record_of.Hello hello) = hello_text hello
-body (record_of.Proof proof) = proof.code
+body (record_of.Proof proof) = proof.tag
 body (record_of.Frame frame) = frame.bytes.items
 body (record_of.Beat beat) = beat_text beat
 

@@ -1,7 +1,7 @@
 -- What a record does to a connection.
 use Rattle.std.specs.Prelude.{◌≡◌, ℕ, ◌-◌, Bool, true, false, not, ◌==◌, if◌then◌else◌, List, length, drop, Option, Some, None, Result, Ok, Err}
 use Rattle.std.specs.Str.{bytes_eq}
-use Rattle.peer_codes.specs.declared.limits.TheConstants.{CODE_BYTES}
+use Rattle.peer_codes.specs.declared.limits.TheConstants.{TAG_BYTES}
 use Rattle.peer_codes.specs.declared.fault.RecordFault.{RecordFault}
 use Rattle.peer_codes.specs.declared.fault.RecordFault.TheVariants.{BadLength, BadHello}
 use Rattle.peer_codes.specs.declared.connection_fault.ConnectionFault.{ConnectionFault}
@@ -24,7 +24,7 @@ use Rattle.peer_codes.specs.declared.phase.Phase.TheVariants as phases
 use Rattle.peer_codes.specs.declared.step.Step.{Step}
 use Rattle.peer_codes.specs.Reading.{hello_of, beat_of, is_frame}
 use Rattle.peer_codes.specs.Faults.{kind_in}
-use Rattle.peer_codes.specs.Codes.{proof_code, way_of, after, covered, uncovered}
+use Rattle.peer_codes.specs.Codes.{proof_tag, way_of, after, covered, uncovered}
 
 -- the fault closes the connection
 abbrev pub closed : ConnectionFault → Step
@@ -32,7 +32,7 @@ closed fault = record { phase = phases.Closed fault; proof = None; event = Err f
 
 -- what a side says to show that it has the key
 abbrev pub proof_of : List ℕ → Role → Hellos → Proof
-proof_of key role hellos = record { code = proof_code key role hellos }
+proof_of key role hellos = record { tag = proof_tag key role hellos }
 
 -- both ways, of the side in the first role
 abbrev pub ways_of : List ℕ → Role → Role → Hellos → Ways
@@ -66,9 +66,9 @@ greeted key (Some own) (Some theirs) =
 
 abbrev pub on_greeting : List ℕ → Option Hello → Kind → List ℕ → Step
 on_greeting key own kind_of.Hello content = greeted key own (only_coded (hello_of content))
-on_greeting key own kind_of.Proof content = closed faults.OutOfTurn
-on_greeting key own kind_of.Frame content = closed faults.OutOfTurn
-on_greeting key own kind_of.Beat content = closed faults.OutOfTurn
+on_greeting key own kind_of.Proof content = closed faults.UnexpectedRecord
+on_greeting key own kind_of.Frame content = closed faults.UnexpectedRecord
+on_greeting key own kind_of.Beat content = closed faults.UnexpectedRecord
 
 -- the other's proof is right
 abbrev pub opened : Ways → Step
@@ -77,12 +77,12 @@ opened ways = record { phase = phases.Open ways; proof = None; event = Ok events
 -- open exactly by the proof that is awaited
 abbrev pub on_proof : Proof → Ways → Kind → List ℕ → Step
 on_proof theirs ways kind_of.Proof content =
-    if not (length content == CODE_BYTES) then closed (faults.Record BadLength)
-    else (if bytes_eq content theirs.code then opened ways
+    if not (length content == TAG_BYTES) then closed (faults.Record BadLength)
+    else (if bytes_eq content theirs.tag then opened ways
     else closed faults.WrongProof)
-on_proof theirs ways kind_of.Hello content = closed faults.OutOfTurn
-on_proof theirs ways kind_of.Frame content = closed faults.OutOfTurn
-on_proof theirs ways kind_of.Beat content = closed faults.OutOfTurn
+on_proof theirs ways kind_of.Hello content = closed faults.UnexpectedRecord
+on_proof theirs ways kind_of.Frame content = closed faults.UnexpectedRecord
+on_proof theirs ways kind_of.Beat content = closed faults.UnexpectedRecord
 
 -- the other's way goes on behind a body of so many bytes
 abbrev pub heard : Ways → ℕ → Event → Step
@@ -101,10 +101,10 @@ beat_heard ways count (Err fault) = closed fault
 beat_heard ways count (Ok body) = beat_told ways count (beat_of body)
 
 abbrev pub on_record : Ways → Kind → List ℕ → Step
-on_record ways kind_of.Frame content = frame_heard ways (length content - CODE_BYTES) (uncovered ways.reading kind_of.Frame content)
-on_record ways kind_of.Beat content = beat_heard ways (length content - CODE_BYTES) (uncovered ways.reading kind_of.Beat content)
-on_record ways kind_of.Hello content = closed faults.OutOfTurn
-on_record ways kind_of.Proof content = closed faults.OutOfTurn
+on_record ways kind_of.Frame content = frame_heard ways (length content - TAG_BYTES) (uncovered ways.reading kind_of.Frame content)
+on_record ways kind_of.Beat content = beat_heard ways (length content - TAG_BYTES) (uncovered ways.reading kind_of.Beat content)
+on_record ways kind_of.Hello content = closed faults.UnexpectedRecord
+on_record ways kind_of.Proof content = closed faults.UnexpectedRecord
 
 -- a connection stays open where something came, and a fault closes it
 abbrev pub staying : Ways → Result Event ConnectionFault → Step
@@ -114,7 +114,7 @@ staying ways (Err fault) = closed fault
 -- what a record of this kind does
 unfoldable pub stepped : List ℕ → Phase → Kind → List ℕ → Step
 stepped key (phases.Greeting own) kind content = on_greeting key own kind content
-stepped key (phases.Asked caller) kind content = closed faults.OutOfTurn
+stepped key (phases.Asked caller) kind content = closed faults.UnexpectedRecord
 stepped key phases.Refused kind content = closed (faults.Record BadHello)
 stepped key (phases.Proving theirs ways) kind content = on_proof theirs ways kind content
 stepped key (phases.Open ways) kind content = on_record ways kind content
@@ -150,4 +150,4 @@ pub record IsOpening (phase : Phase) (kind : Kind) (content : List ℕ) : Type 0
   pub ways : Ways
   pub phase_is : phase ≡ phases.Proving theirs ways
   pub kind_is : kind ≡ kind_of.Proof
-  pub text : content ≡ theirs.code
+  pub text : content ≡ theirs.tag

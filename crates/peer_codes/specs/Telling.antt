@@ -40,7 +40,7 @@ pub record IsOpened (old new : Connection) : Type 0 where
   pub theirs : Proof
   pub ways : Ways
   pub awaited : old.phase ≡ phases.Proving theirs ways
-  pub came : InFront kind_of.Proof theirs.code old
+  pub came : InFront kind_of.Proof theirs.tag old
   pub opens : new.phase ≡ phases.Open ways
 
 -- the connection is open, in front stands the next record of the other's way, coded, with this body, and that way goes on

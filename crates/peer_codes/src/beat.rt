@@ -7,8 +7,8 @@ pub struct Beat {
     pub got: u32,
     /// The first slot that the speaker knows nothing chosen of.
     pub front: u32,
-    /// Whether the speaker leads.
-    pub leads: bool,
+    /// Whether the speaker campaigns.
+    pub campaigns: bool,
     /// Whether the match is over at the speaker.
     pub over: bool,
     /// The seats that sit at the speaker, a bit each, seat 0 the lowest.

@@ -24,7 +24,7 @@ pub(crate) fn beat_of(bytes: &[u8]) -> Result<Beat, RecordFault>
         number: BigEndian::read_u32(bytes),
         got: BigEndian::read_u32(&bytes[4..]),
         front: BigEndian::read_u32(&bytes[8..]),
-        leads: flags % 2 == 1,
+        campaigns: flags % 2 == 1,
         over: flags >= 2,
         seats: BigEndian::read_u16(&bytes[13..]),
     })

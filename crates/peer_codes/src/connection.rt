@@ -107,9 +107,9 @@ impl Connection {
     /// What came next, or the fault that closed the connection, told again from then on.
     ///
     /// `None` where the record in front isn't whole, and where the called has to answer first. The fault is the first
-    /// of: 120 `BadLength` and 121 `BadKind` of the record in front, 126 `OutOfTurn` (a kind that may not come now, or no
-    /// number is left), 120 `BadLength` (a proof of another length, or no room for a code), and then 122 `BadHello`, 124
-    /// `WrongProof`, 125 `WrongCode`, or those of what stood under the seal.
+    /// of: 120 `BadLength` and 121 `BadKind` of the record in front, 126 `UnexpectedRecord` (a kind that may not come now, or no
+    /// number is left), 120 `BadLength` (a proof of another length, or no room for a tag), and then 122 `BadHello`, 124
+    /// `WrongProof`, 125 `WrongTag`, or those of what stood under the seal.
     pub fn next(&mut self) -> Option<Result<Event, ConnectionFault>>
         ensures { Next self.old.phase self.old result self.new }
     {

@@ -14,10 +14,10 @@ pub enum ConnectionFault {
     Record(RecordFault),
     /// 124: the proof isn't that of a side that has the key and read these two Hellos.
     WrongProof,
-    /// 125: the code isn't that of this record on this way of this connection.
-    WrongCode,
+    /// 125: the tag isn't that of this record on this way of this connection.
+    WrongTag,
     /// 126: a record of another kind than may come now, or one behind the last number.
-    OutOfTurn,
+    UnexpectedRecord,
 }
 
 impl ConnectionFault {
@@ -28,8 +28,8 @@ impl ConnectionFault {
         match self {
             ConnectionFault::Record(fault) => fault.code(),
             ConnectionFault::WrongProof => 124,
-            ConnectionFault::WrongCode => 125,
-            ConnectionFault::OutOfTurn => 126,
+            ConnectionFault::WrongTag => 125,
+            ConnectionFault::UnexpectedRecord => 126,
         }
     }
 }
@@ -43,8 +43,8 @@ impl fmt::Display for ConnectionFault {
             ConnectionFault::Record(RecordFault::BadKind) => f.write_str("121 BadKind"),
             ConnectionFault::Record(RecordFault::BadHello) => f.write_str("122 BadHello"),
             ConnectionFault::WrongProof => f.write_str("124 WrongProof"),
-            ConnectionFault::WrongCode => f.write_str("125 WrongCode"),
-            ConnectionFault::OutOfTurn => f.write_str("126 OutOfTurn"),
+            ConnectionFault::WrongTag => f.write_str("125 WrongTag"),
+            ConnectionFault::UnexpectedRecord => f.write_str("126 UnexpectedRecord"),
         }
     }
 }

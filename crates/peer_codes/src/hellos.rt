@@ -5,7 +5,7 @@ ghost use Rattle.peer_codes.specs.Codes.{hellos_text, way_of};
 ghost use Rattle.peer_codes.specs.Steps.{proof_of};
 
 use crate::hello::Hello;
-use crate::hmac::code;
+use crate::hmac::tag;
 use crate::key::Key;
 use crate::limits::CODED_HELLO_BYTES;
 use crate::records::Proof;
@@ -45,7 +45,7 @@ impl Hellos {
             b'H', b'D', b'N', b'1', b' ', b'p', b'r', b'o', b'o', b'f', side,
         ];
         Proof {
-            code: code(&key.bytes, &front, self.text().as_slice()),
+            tag: tag(&key.bytes, &front, self.text().as_slice()),
         }
     }
 
@@ -56,6 +56,6 @@ impl Hellos {
     {
         let speaker = role.byte();
         let front = [b'H', b'D', b'N', b'1', b' ', b'w', b'a', b'y', speaker];
-        Way::new(code(&key.bytes, &front, self.text().as_slice()))
+        Way::new(tag(&key.bytes, &front, self.text().as_slice()))
     }
 }

@@ -1,11 +1,11 @@
-//! HMAC-SHA256: the code of a message under a key of 32 bytes, as RFC 2104 has it.
+//! HMAC-SHA256: the tag of a message under a key of 32 bytes, as RFC 2104 has it.
 
 ghost use Rattle.std.specs.Prelude.{◌≡◌, ◌++◌};
 ghost use Rattle.std.specs.Str.{bytes_eq};
 ghost use Rattle.sha2.specs.Hashers.{Holds256};
 ghost use Rattle.peer_codes.specs.Hmac.{padded, hmac};
 
-use crate::limits::{CODE_BYTES, KEY_BYTES};
+use crate::limits::{KEY_BYTES, TAG_BYTES};
 use sha2::{Digest, Sha256};
 use std::marker::Model;
 
@@ -43,9 +43,9 @@ impl HashedKey {
         }
     }
 
-    /// The code of a message, in two pieces, under the key.
+    /// The tag of a message, in two pieces, under the key.
     #[tactic(auto, unfolding(crate::specs::Hmac::hmac))]
-    pub(crate) fn code(&self, front: &[u8], rest: &[u8]) -> [u8; CODE_BYTES]
+    pub(crate) fn tag(&self, front: &[u8], rest: &[u8]) -> [u8; TAG_BYTES]
         ensures { result ≡ hmac self.now (front.now ++ rest.now) }
     {
         let mut inner = again(&self.inner);
@@ -58,14 +58,14 @@ impl HashedKey {
     }
 }
 
-/// The code of a message, in two pieces, under a key.
-pub fn code(key: &[u8; KEY_BYTES], front: &[u8], rest: &[u8]) -> [u8; CODE_BYTES]
+/// The tag of a message, in two pieces, under a key.
+pub fn tag(key: &[u8; KEY_BYTES], front: &[u8], rest: &[u8]) -> [u8; TAG_BYTES]
     ensures { result ≡ hmac key.now (front.now ++ rest.now) }
 {
-    HashedKey::new(key).code(front, rest)
+    HashedKey::new(key).tag(front, rest)
 }
 
-/// Whether two codes are the same. How long that takes tells nothing of use: a wrong code closes its connection, and the
+/// Whether two tags are the same. How long that takes tells nothing of use: a wrong tag closes its connection, and the
 /// next has another key by its new nonces.
 pub(crate) fn is_same(claimed: &[u8], own: &[u8]) -> bool
     ensures { result ≡ bytes_eq claimed.now own.now }

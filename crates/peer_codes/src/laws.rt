@@ -1,7 +1,7 @@
 //! Laws of records and codes: each is the contract of a function that does nothing.
 
 ghost use Rattle.std.specs.Prelude.{◌≡◌, ◌<◌, ◌-◌, ◌^◌, ◌⊎◌, ℕ, List, ◌++◌, length, Option, Some, None, Result, Ok, IfSome};
-ghost use Rattle.peer_codes.specs.declared.limits.TheConstants.{CODE_BYTES, LAST_NUMBER, MOST_RECORD};
+ghost use Rattle.peer_codes.specs.declared.limits.TheConstants.{TAG_BYTES, LAST_NUMBER, MOST_RECORD};
 ghost use Rattle.peer_codes.specs.declared.beat.Beat.{Beat};
 ghost use Rattle.peer_codes.specs.declared.connection.Connection.{Connection};
 ghost use Rattle.peer_codes.specs.declared.connection_fault.ConnectionFault.{ConnectionFault};
@@ -19,7 +19,7 @@ ghost use Rattle.peer_codes.specs.declared.records.Record.{Record};
 ghost use Rattle.peer_codes.specs.declared.role.Role.{Role};
 ghost use Rattle.peer_codes.specs.declared.role.Role.TheVariants.{Called};
 ghost use Rattle.peer_codes.specs.declared.way.Way.{Way};
-ghost use Rattle.peer_codes.specs.Codes.{after, coded_text, covered, proof_code, proof_text, seal_text, uncovered, way_text};
+ghost use Rattle.peer_codes.specs.Codes.{after, coded_text, covered, proof_tag, proof_text, seal_text, uncovered, way_text};
 ghost use Rattle.peer_codes.specs.Faults.{reading, IsPartial};
 ghost use Rattle.peer_codes.specs.Fits.{IsBeat, IsFrame, IsRecord};
 ghost use Rattle.peer_codes.specs.Connections.{Next, answered, begun_next};
@@ -49,31 +49,31 @@ pub fn codes_read_back()
     ensures { (way : Way) (kind : Kind) (body : List ℕ) → way.number < LAST_NUMBER → uncovered way kind (covered way kind body) ≡ Ok body }
 {}
 
-/// Nothing else is read on a way: a body that is read is that of a record whose code is right under the way's key, with
+/// Nothing else is read on a way: a body that is read is that of a record whose tag is right under the way's key, with
 /// the way's next number and this kind.
 pub fn only_codes_are_read()
     ensures { (way : Way) (kind : Kind) (content body : List ℕ) → uncovered way kind content ≡ Ok body → content ≡ covered way kind body }
 {}
 
-/// No frame comes before a connection is open, and each that comes is the body of a record whose code is right under
+/// No frame comes before a connection is open, and each that comes is the body of a record whose tag is right under
 /// the key and the next number of the way on which the other speaks; each such record comes as its frame.
 pub fn frames_come_coded()
     ensures only { (key : List ℕ) (phase : Phase) (kind : Kind) (content : List ℕ) (frame : Frame) → (stepped key phase kind content).event ≡ Ok (events.Frame frame) → IsFrameSaid phase kind content frame.bytes.items }
     ensures each { (key : List ℕ) (ways : Ways) (frame : Frame) → ways.reading.number < LAST_NUMBER → IsFrame frame.bytes.items → stepped key (phases.Open ways) kind_of.Frame (covered ways.reading kind_of.Frame frame.bytes.items) ≡ heard ways (length frame.bytes.items) (events.Frame frame) }
 {}
 
-/// The same of beats: none comes before a connection is open, each that comes is that of a record whose code is right
+/// The same of beats: none comes before a connection is open, each that comes is that of a record whose tag is right
 /// under the key and the next number of the other's way, and each such record comes as its beat.
 pub fn beats_come_coded()
     ensures only { (key : List ℕ) (phase : Phase) (kind : Kind) (content : List ℕ) (beat : Beat) → (stepped key phase kind content).event ≡ Ok (events.Beat beat) → IsBeatSaid phase kind content beat }
     ensures each { (key : List ℕ) (ways : Ways) (beat : Beat) → ways.reading.number < LAST_NUMBER → IsBeat beat → stepped key (phases.Open ways) kind_of.Beat (covered ways.reading kind_of.Beat (beat_text beat)) ≡ heard ways (length (beat_text beat)) (events.Beat beat) }
 {}
 
-/// A connection is opened by the proof that is awaited of the other side, and by nothing else: the code under the key
+/// A connection is opened by the proof that is awaited of the other side, and by nothing else: the tag under the key
 /// over that side's role and both Hellos. Where one that wasn't open is open then, that is told.
 pub fn proofs_open()
     ensures only { (key : List ℕ) (phase : Phase) (kind : Kind) (content : List ℕ) → (stepped key phase kind content).event ≡ Ok events.Opened → IsOpening phase kind content }
-    ensures each { (key : List ℕ) (own other : Role) (hellos : Hellos) → stepped key (proving key own other hellos) kind_of.Proof (proof_code key other hellos) ≡ opened (ways_of key own other hellos) }
+    ensures each { (key : List ℕ) (own other : Role) (hellos : Hellos) → stepped key (proving key own other hellos) kind_of.Proof (proof_tag key other hellos) ≡ opened (ways_of key own other hellos) }
     ensures told { (key : List ℕ) (phase : Phase) (kind : Kind) (content : List ℕ) (ways : Ways) → (stepped key phase kind content).phase ≡ phases.Open ways → IsOpen phase ⊎ ((stepped key phase kind content).event ≡ Ok events.Opened) }
 {}
 
@@ -81,7 +81,7 @@ pub fn proofs_open()
 /// of the other's way, which is then at the next number and behind the bytes of its body; the own way is where it was.
 pub fn open_ways_go_on()
     ensures coded { (key : List ℕ) (ways later : Ways) (kind : Kind) (content : List ℕ) → (stepped key (phases.Open ways) kind content).phase ≡ phases.Open later → (body : List ℕ) × (content ≡ covered ways.reading kind body) }
-    ensures on { (key : List ℕ) (ways later : Ways) (kind : Kind) (content : List ℕ) → (stepped key (phases.Open ways) kind content).phase ≡ phases.Open later → later ≡ record { reading = after ways.reading (length content - CODE_BYTES); writing = ways.writing } }
+    ensures on { (key : List ℕ) (ways later : Ways) (kind : Kind) (content : List ℕ) → (stepped key (phases.Open ways) kind content).phase ≡ phases.Open later → later ≡ record { reading = after ways.reading (length content - TAG_BYTES); writing = ways.writing } }
 {}
 
 /// Each event that `next` tells goes by what stood in front of what came: a Hello of a connection with codes, and none
@@ -122,7 +122,7 @@ pub fn closed_stays_closed()
     ensures { (key : List ℕ) (fault : ConnectionFault) (happening : Happening) → IsClosed (phase_after key (phases.Closed fault) happening) }
 {}
 
-/// No code is that of two things. Under the key of a way: what the code of a record is made from tells its number, its
+/// No tag is that of two things. Under the key of a way: what the tag of a record is made from tells its number, its
 /// kind and what is sent, and isn't what the seal is made from. Under the key of a match: what a proof and the key of a way
 /// are made from tells the role and both Hellos, and no proof is made from what a way is. That the codes are made from
 /// these texts, under these keys, is in their definitions.

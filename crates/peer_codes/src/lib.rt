@@ -7,7 +7,7 @@
 //!
 //! With a `Key` that all nodes share, each side's `Hello` has a nonce. Both `Hellos` and the key give each side's
 //! `proof` and the two `Way`s. On a way each record has its number, what is sent of its body is hidden under the stream
-//! of ChaCha20 that the way's key seeds, and behind it stands HMAC-SHA256 (`code`) of number, kind and what is sent.
+//! of ChaCha20 that the way's key seeds, and behind it stands HMAC-SHA256 (`tag`) of number, kind and what is sent.
 //! A `Connection` is all of that as a machine without sockets: bytes that come go in, events come out; what is to be
 //! said goes in, bytes to write come out.
 //!
@@ -17,10 +17,10 @@
 //! comes before or uncoded (`proofs_open`, `frames_come_coded`, `beats_come_coded`); each event goes by what stood in front
 //! of what came (`events_stand_in_front`), and each own proof is over both Hellos (`own_proofs_are_said`); what leaves a
 //! connection open is coded, and takes the other's way on by one (`open_ways_go_on`); what each call does is named
-//! (`calls_happen`), and what is closed stays so (`closed_stays_closed`); no code is that of two things
+//! (`calls_happen`), and what is closed stays so (`closed_stays_closed`); no tag is that of two things
 //! (`codes_are_of_one_thing`); and whatever happened to one that is open, it goes by both Hellos, the key and all that came
-//! and was said since (`open_connections_are_proved`). That only who has the key can make a proof or a code is what
-//! HMAC-SHA256 is believed to give, and no proof says it; nor does one say how long the comparison of a code takes.
+//! and was said since (`open_connections_are_proved`). That only who has the key can make a proof or a tag is what
+//! HMAC-SHA256 is believed to give, and no proof says it; nor does one say how long the comparison of a tag takes.
 //!
 //! What a caller owes:
 //!
@@ -37,7 +37,7 @@
 //!   note says why.
 //!
 //! Faults: `RecordFault`, 120 to 122, and `ConnectionFault`, which has those, 124, 125 and 126; each closes the
-//! connection, and is told again from then on. `peer_tests` has the tests; they compare with `tests/peer_codes`, where
+//! connection, and is told again from then on. `peer_codes_tests` has the tests; they compare with `tests/peer_codes`, where
 //! all of this is written once more.
 #![tactic(auto)]
 
@@ -74,7 +74,7 @@ pub use fault::RecordFault;
 pub use frame::Frame;
 pub use hello::{Ends, Hello, Life, Link, MatchDigest, Nonce};
 pub use hellos::Hellos;
-pub use hmac::code;
+pub use hmac::tag;
 pub use key::Key;
 pub use kind::Kind;
 pub use laws::{

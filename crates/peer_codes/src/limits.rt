@@ -6,8 +6,8 @@ pub const NODES: u8 = paxos_wire::limits::NODES;
 /// The bytes of a record's length itself.
 pub const LENGTH_BYTES: usize = 4;
 
-/// The bytes of a code: those of a proof, and those behind what is sent of a frame or a beat.
-pub const CODE_BYTES: usize = 32;
+/// The bytes of a tag: those of a proof, and those behind what is sent of a frame or a beat.
+pub const TAG_BYTES: usize = 32;
 
 /// The least bytes of a frame: a length, a version and a kind.
 pub const LEAST_FRAME: usize = paxos_wire::limits::LENGTH_BYTES + paxos_wire::limits::LEAST_LENGTH;
@@ -15,8 +15,8 @@ pub const LEAST_FRAME: usize = paxos_wire::limits::LENGTH_BYTES + paxos_wire::li
 /// The most bytes of a frame, its length's four among them.
 pub const MOST_FRAME: usize = paxos_wire::limits::LENGTH_BYTES + paxos_wire::limits::MOST_LENGTH;
 
-/// The most that a record's length may say: a kind, a frame, and its code.
-pub const MOST_LENGTH: usize = 1 + MOST_FRAME + CODE_BYTES;
+/// The most that a record's length may say: a kind, a frame, and its tag.
+pub const MOST_LENGTH: usize = 1 + MOST_FRAME + TAG_BYTES;
 
 /// The most bytes of a record, its length's four among them.
 pub const MOST_RECORD: usize = LENGTH_BYTES + MOST_LENGTH;
@@ -52,4 +52,4 @@ pub const KEY_BYTES: usize = 32;
 pub const LAST_NUMBER: u64 = u64::MAX;
 
 /// The most bytes behind the kind of a coded record.
-pub const MOST_CONTENT: usize = MOST_FRAME + CODE_BYTES;
+pub const MOST_CONTENT: usize = MOST_FRAME + TAG_BYTES;

@@ -12,7 +12,7 @@ use crate::fault::RecordFault;
 use crate::frame::Frame;
 use crate::hello_reading::hello_of;
 use crate::kind::Kind;
-use crate::limits::{CODE_BYTES, LENGTH_BYTES, MOST_LENGTH, MOST_RECORD};
+use crate::limits::{LENGTH_BYTES, MOST_LENGTH, MOST_RECORD, TAG_BYTES};
 use crate::records::{Proof, Record};
 use byteorder::{BigEndian, ByteOrder};
 
@@ -57,12 +57,12 @@ pub(crate) fn kind_in(bytes: &[u8]) -> Result<Kind, RecordFault>
 fn proof_of(bytes: &[u8]) -> Result<Record, RecordFault>
     ensures { result ≡ content_of Kind.Proof bytes.now }
 {
-    if bytes.len() != CODE_BYTES {
+    if bytes.len() != TAG_BYTES {
         return Err(RecordFault::BadLength);
     }
-    let mut code = [0; CODE_BYTES];
-    code.copy_from_slice(bytes);
-    Ok(Record::Proof(Proof { code }))
+    let mut tag = [0; TAG_BYTES];
+    tag.copy_from_slice(bytes);
+    Ok(Record::Proof(Proof { tag }))
 }
 
 /// The record of a kind with these bytes, all of them, or its fault.

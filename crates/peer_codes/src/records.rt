@@ -1,12 +1,12 @@
 use crate::beat::Beat;
 use crate::frame::Frame;
 use crate::hello::Hello;
-use crate::limits::CODE_BYTES;
+use crate::limits::TAG_BYTES;
 
-/// That a side has the key: a code under it, over its role and both Hellos.
+/// That a side has the key: a tag under it, over its role and both Hellos.
 #[derive(Clone, Copy, Debug, PartialEq, Eq)]
 pub struct Proof {
-    pub code: [u8; CODE_BYTES],
+    pub tag: [u8; TAG_BYTES],
 }
 
 /// What the two sides of a connection say to each other.

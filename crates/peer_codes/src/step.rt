@@ -19,7 +19,7 @@ use crate::hellos::Hellos;
 use crate::hmac::is_same;
 use crate::key::Key;
 use crate::kind::Kind;
-use crate::limits::{CODE_BYTES, LEAST_FRAME, MOST_CONTENT, MOST_RECORD};
+use crate::limits::{LEAST_FRAME, MOST_CONTENT, MOST_RECORD, TAG_BYTES};
 use crate::outgoing::Outgoing;
 use crate::phase::{Phase, Ways};
 use crate::reading::kind_in;
@@ -119,9 +119,9 @@ fn on_greeting(key: &Key, own: Option<Hello>, kind: Kind, content: &[u8]) -> Ste
 {
     match kind {
         Kind::Hello => greeted(key, own, coded_hello(content)),
-        Kind::Proof => closed(ConnectionFault::OutOfTurn),
-        Kind::Frame => closed(ConnectionFault::OutOfTurn),
-        Kind::Beat => closed(ConnectionFault::OutOfTurn),
+        Kind::Proof => closed(ConnectionFault::UnexpectedRecord),
+        Kind::Frame => closed(ConnectionFault::UnexpectedRecord),
+        Kind::Beat => closed(ConnectionFault::UnexpectedRecord),
     }
 }
 
@@ -129,10 +129,10 @@ fn on_greeting(key: &Key, own: Option<Hello>, kind: Kind, content: &[u8]) -> Ste
 fn proved(theirs: Proof, ways: Ways, content: &[u8]) -> Step
     ensures { result ≡ on_proof theirs ways kind_of.Proof content.now }
 {
-    if content.len() != CODE_BYTES {
+    if content.len() != TAG_BYTES {
         return closed(ConnectionFault::Record(RecordFault::BadLength));
     }
-    if !is_same(content, &theirs.code) {
+    if !is_same(content, &theirs.tag) {
         return closed(ConnectionFault::WrongProof);
     }
     Step {
@@ -148,16 +148,16 @@ fn on_proof(theirs: Proof, ways: Ways, kind: Kind, content: &[u8]) -> Step
 {
     match kind {
         Kind::Proof => proved(theirs, ways, content),
-        Kind::Hello => closed(ConnectionFault::OutOfTurn),
-        Kind::Frame => closed(ConnectionFault::OutOfTurn),
-        Kind::Beat => closed(ConnectionFault::OutOfTurn),
+        Kind::Hello => closed(ConnectionFault::UnexpectedRecord),
+        Kind::Frame => closed(ConnectionFault::UnexpectedRecord),
+        Kind::Beat => closed(ConnectionFault::UnexpectedRecord),
     }
 }
 
-/// A frame came, as far as its code is right.
+/// A frame came, as far as its tag is right.
 fn frame_heard(ways: &mut Ways, content: &[u8]) -> Result<Event, ConnectionFault>
     requires { length content.now ≤ MOST_CONTENT }
-    ensures { staying ways.new result ≡ frame_heard ways.old (length content.now - CODE_BYTES) (uncovered ways.old.reading kind_of.Frame content.now) }
+    ensures { staying ways.new result ≡ frame_heard ways.old (length content.now - TAG_BYTES) (uncovered ways.old.reading kind_of.Frame content.now) }
 {
     match ways.reading.uncover(Kind::Frame, content) {
         Ok(bytes) => {
@@ -170,10 +170,10 @@ fn frame_heard(ways: &mut Ways, content: &[u8]) -> Result<Event, ConnectionFault
     }
 }
 
-/// A beat came, as far as its code is right.
+/// A beat came, as far as its tag is right.
 fn beat_heard(ways: &mut Ways, content: &[u8]) -> Result<Event, ConnectionFault>
     requires { length content.now ≤ MOST_CONTENT }
-    ensures { staying ways.new result ≡ beat_heard ways.old (length content.now - CODE_BYTES) (uncovered ways.old.reading kind_of.Beat content.now) }
+    ensures { staying ways.new result ≡ beat_heard ways.old (length content.now - TAG_BYTES) (uncovered ways.old.reading kind_of.Beat content.now) }
 {
     match ways.reading.uncover(Kind::Beat, content) {
         Ok(body) => match beat_of(body.as_slice()) {
@@ -192,8 +192,8 @@ fn on_record(ways: &mut Ways, kind: Kind, content: &[u8]) -> Result<Event, Conne
     match kind {
         Kind::Frame => frame_heard(ways, content),
         Kind::Beat => beat_heard(ways, content),
-        Kind::Hello => Err(ConnectionFault::OutOfTurn),
-        Kind::Proof => Err(ConnectionFault::OutOfTurn),
+        Kind::Hello => Err(ConnectionFault::UnexpectedRecord),
+        Kind::Proof => Err(ConnectionFault::UnexpectedRecord),
     }
 }
 
@@ -231,7 +231,7 @@ fn stepped(key: &Key, phase: Phase, kind: Kind, content: &[u8]) -> Step
 {
     match phase {
         Phase::Greeting(own) => on_greeting(key, own, kind, content),
-        Phase::Asked(_) => closed(ConnectionFault::OutOfTurn),
+        Phase::Asked(_) => closed(ConnectionFault::UnexpectedRecord),
         Phase::Refused => closed(ConnectionFault::Record(RecordFault::BadHello)),
         Phase::Proving(theirs, ways) => on_proof(theirs, ways, kind, content),
         Phase::Open(mut ways) => {
@@ -266,7 +266,7 @@ fn take_step(
     ensures event { result ≡ (front_step key.now.bytes phase.old front.now).event }
     ensures out { out.new ≡ record out.old { proof = later out.old.proof (front_step key.now.bytes phase.old front.now).proof } }
 {
-    let old = mem::replace(phase, Phase::Closed(ConnectionFault::OutOfTurn));
+    let old = mem::replace(phase, Phase::Closed(ConnectionFault::UnexpectedRecord));
     let Step {
         phase: next,
         proof,

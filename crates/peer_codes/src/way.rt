@@ -2,13 +2,13 @@
 
 ghost use Rattle.std.specs.Prelude.{◌≡◌, ◌-◌, ◌<◌, ◌≤◌, length, nat_lt, OnOk, OnErr};
 ghost use Rattle.peer_codes.specs.Returned.{Answers};
-ghost use Rattle.peer_codes.specs.Codes.{fresh_way, pad, xored, record_code, coded, after, uncovered};
+ghost use Rattle.peer_codes.specs.Codes.{fresh_way, pad, xored, record_tag, coded, after, uncovered};
 
 use crate::connection_fault::ConnectionFault;
 use crate::fault::RecordFault;
 use crate::hmac::{HashedKey, is_same};
 use crate::kind::Kind;
-use crate::limits::{CODE_BYTES, KEY_BYTES, LAST_NUMBER, MOST_CONTENT, MOST_FRAME, MOST_RECORD};
+use crate::limits::{KEY_BYTES, LAST_NUMBER, MOST_CONTENT, MOST_FRAME, MOST_RECORD, TAG_BYTES};
 use crate::writing::{CONTENT_AT, begin_envelope};
 use arrayvec::ArrayVec;
 use byteorder::{BigEndian, ByteOrder};
@@ -97,7 +97,7 @@ impl Way {
         ensures { result ≡ fresh_way key }
     {
         let key = HashedKey::new(&key);
-        let seal = key.code(b"HDN1 seal", &[]);
+        let seal = key.tag(b"HDN1 seal", &[]);
         Way {
             key,
             number: 0,
@@ -105,14 +105,14 @@ impl Way {
         }
     }
 
-    /// The code of what is sent, as the next record of this kind.
-    fn record_code(&self, kind: Kind, sent: &[u8]) -> [u8; CODE_BYTES]
-        ensures { result ≡ record_code self.now kind sent.now }
+    /// The tag of what is sent, as the next record of this kind.
+    fn record_tag(&self, kind: Kind, sent: &[u8]) -> [u8; TAG_BYTES]
+        ensures { result ≡ record_tag self.now kind sent.now }
     {
         let mut front = [0; 9];
         BigEndian::write_u64(&mut front, self.number);
         front[8] = kind.byte();
-        self.key.code(&front, sent)
+        self.key.tag(&front, sent)
     }
 
     /// Whether another record can be said: all but the last number are used.
@@ -131,18 +131,18 @@ impl Way {
         ensures way { self.new ≡ after self.old (length body.now) }
     {
         let number = self.number;
-        begin_envelope(out, kind, body.len() + CODE_BYTES);
+        begin_envelope(out, kind, body.len() + TAG_BYTES);
         push_all(out, body);
         mask(&mut self.seal, &mut out.as_mut_slice()[CONTENT_AT..]);
-        let code = self.record_code(kind, &out.as_slice()[CONTENT_AT..]);
-        push_all(out, &code);
+        let tag = self.record_tag(kind, &out.as_slice()[CONTENT_AT..]);
+        push_all(out, &tag);
         self.number = number + 1;
     }
 
     /// The body of the coded record of this kind, and the way goes on to the next number; a fault changes nothing.
     ///
-    /// The fault is the first of: 126 `OutOfTurn` (no number is left), 120 `BadLength` (no room for a code), 125
-    /// `WrongCode`.
+    /// The fault is the first of: 126 `UnexpectedRecord` (no number is left), 120 `BadLength` (no room for a tag), 125
+    /// `WrongTag`.
     #[tactic(auto, unfolding(crate::specs::Codes::uncovered))]
     pub fn uncover(
         &mut self,
@@ -151,19 +151,19 @@ impl Way {
     ) -> Result<ArrayVec<u8, MOST_FRAME>, ConnectionFault>
         requires { length content.now ≤ MOST_CONTENT }
         ensures body { Answers result (uncovered self.old kind content.now) }
-        ensures ok { OnOk result (self.new ≡ after self.old (length content.now - CODE_BYTES)) }
+        ensures ok { OnOk result (self.new ≡ after self.old (length content.now - TAG_BYTES)) }
         ensures err { OnErr result (self.new ≡ self.old) }
     {
         if self.number >= LAST_NUMBER {
-            return Err(ConnectionFault::OutOfTurn);
+            return Err(ConnectionFault::UnexpectedRecord);
         }
-        if content.len() < CODE_BYTES {
+        if content.len() < TAG_BYTES {
             return Err(ConnectionFault::Record(RecordFault::BadLength));
         }
-        let count = content.len() - CODE_BYTES;
+        let count = content.len() - TAG_BYTES;
         let (sent, claimed) = content.split_at(count);
-        if !is_same(claimed, &self.record_code(kind, sent)) {
-            return Err(ConnectionFault::WrongCode);
+        if !is_same(claimed, &self.record_tag(kind, sent)) {
+            return Err(ConnectionFault::WrongTag);
         }
         self.number += 1;
         let mut body = ArrayVec::new();

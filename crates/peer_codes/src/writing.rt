@@ -123,10 +123,10 @@ pub(crate) fn hello_bytes(hello: &Hello) -> ArrayVec<u8, CODED_HELLO_BYTES>
 }
 
 /// The byte of a beat's flags.
-fn flags_byte(leads: bool, over: bool) -> u8
-    ensures { result ≡ flags_byte leads over }
+fn flags_byte(campaigns: bool, over: bool) -> u8
+    ensures { result ≡ flags_byte campaigns over }
 {
-    match (leads, over) {
+    match (campaigns, over) {
         (false, false) => 0,
         (true, false) => 1,
         (false, true) => 2,
@@ -143,7 +143,7 @@ pub(crate) fn beat_bytes(beat: &Beat) -> ArrayVec<u8, BEAT_BYTES>
     push_all(&mut out, &number_bytes(beat.number));
     push_all(&mut out, &number_bytes(beat.got));
     push_all(&mut out, &number_bytes(beat.front));
-    out.push(flags_byte(beat.leads, beat.over));
+    out.push(flags_byte(beat.campaigns, beat.over));
     push_all(&mut out, &short_bytes(beat.seats));
     out
 }
@@ -183,7 +183,7 @@ pub(crate) fn body_bytes(said: &Record) -> ArrayVec<u8, MOST_FRAME>
     let mut out = ArrayVec::new();
     match said {
         Record::Hello(hello) => push_all(&mut out, hello_bytes(hello).as_slice()),
-        Record::Proof(proof) => push_all(&mut out, &proof.code),
+        Record::Proof(proof) => push_all(&mut out, &proof.tag),
         Record::Frame(frame) => push_all(&mut out, frame.bytes.as_slice()),
         Record::Beat(beat) => push_all(&mut out, beat_bytes(beat).as_slice()),
     }
@@ -202,7 +202,7 @@ fn kind_of(said: &Record) -> Kind
     }
 }
 
-/// The bytes of a record, without a code: at most 4105.
+/// The bytes of a record, without a tag: at most 4105.
 #[tactic(auto, using(crate::proofs::RecordLaws::is_record))]
 pub fn record_bytes(said: &Record) -> ArrayVec<u8, MOST_RECORD>
     ensures text { result.items ≡ record_text said.now }

@@ -3,7 +3,7 @@ use Rattle.std.specs.Prelude.{IfSome}
 use Rattle.stations.specs.Looking.{look_of}
 use Rattle.stations.specs.Stations.{Acts}
 use Rattle.dealer_node.specs.Seeing.{runs}
-use Rattle.node_service.specs.declared.member.Member.{Member}
+use Rattle.node_service.specs.declared.local_node.LocalNode.{LocalNode}
 use Rattle.node_service.specs.declared.sitting.Sittings.{Sittings}
 use Rattle.node_service.specs.Desks.{served_by}
 use Rattle.node_service.specs.Sittings.{Admits, IsGivenBy, Settles}
@@ -22,9 +22,9 @@ returns-then-not-is_given g c =
     let e = c.args.event.now in
     unstepped_then g.W.Wire e c.step-answer.new.self.made c.step-answer.result (served_by g.W.Wire old) _ c.refuse-then-not-is_given.new.self
     (subst (λ (b : Bool). IsGivenBy b c.step-answer.result) c.if-not-is_given.true c.is_given.ensures)
-    (subst (λ (m : Member _ g.D.Disk). IfSome c.step-answer.result (λ answer. Acts g.D.Disk e c.step-answer.new.self.made answer (look_of old.member.station) (look_of m.station))) (sym same)
+    (subst (λ (m : LocalNode _ g.D.Disk). IfSome c.step-answer.result (λ answer. Acts g.D.Disk e c.step-answer.new.self.made answer (look_of old.member.station) (look_of m.station))) (sym same)
     c.step-answer.ensures.acts)
-    (λ none. ap (λ (m : Member _ g.D.Disk). look_of m.station) same ∙ ap look_of (c.step-answer.ensures.none none)) c.step-answer.ensures.unmade c.hand_on-deaf.ensures.log
+    (λ none. ap (λ (m : LocalNode _ g.D.Disk). look_of m.station) same ∙ ap look_of (c.step-answer.ensures.none none)) c.step-answer.ensures.unmade c.hand_on-deaf.ensures.log
     c.hand_on-deaf.ensures.handed c.hand_on-deaf.ensures.seats c.hand_on-deaf.ensures.heard c.hand_on-deaf.ensures.sittings
     (promised old.company.peers c.hand_on-deaf.new.self.company.peers c.set_promised.new.self.peers c.hand_on-deaf.ensures.hears c.set_promised.ensures) c.refuse-then-not-is_given.ensures.kept
     c.refuse-then-not-is_given.ensures.refuses
@@ -36,7 +36,7 @@ returns g c =
     let e = c.args.event.now in
     then_kept g.W.Wire
     (stepped_if_given e c.step-answer.new.self.made c.step-answer.result (served_by g.W.Wire old) _ (subst (λ (b : Bool). IsGivenBy b c.step-answer.result) c.if-not-is_given.false c.is_given.ensures)
-    (subst (λ (m : Member _ g.D.Disk). IfSome c.step-answer.result (λ answer. Acts g.D.Disk e c.step-answer.new.self.made answer (look_of old.member.station) (look_of m.station))) (sym same)
+    (subst (λ (m : LocalNode _ g.D.Disk). IfSome c.step-answer.result (λ answer. Acts g.D.Disk e c.step-answer.new.self.made answer (look_of old.member.station) (look_of m.station))) (sym same)
     c.step-answer.ensures.acts) c.hand_on-deaf.ensures.log c.hand_on-deaf.ensures.handed c.hand_on-deaf.ensures.seats c.hand_on-deaf.ensures.heard
     (subst (λ (b : Bool). Admits b e old.sittings) (c.running.ensures.value ∙ ap runs c.node.ensures) (c.admits.ensures c.if-not-admits.false))
     (subst (λ (s : Sittings). Settles e s c.settle.new.self) c.hand_on-deaf.ensures.sittings c.settle.ensures)

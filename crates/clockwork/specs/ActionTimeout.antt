@@ -1,0 +1,41 @@
+-- When a node orders that the seat to act be played for. Times are in microseconds.
+use Rattle.std.specs.Prelude.{◌≡◌, ℕ, ◌+◌, ◌-◌, ◌*◌, ◌≤◌, min, max, Bool, true, not, ◌&&◌, ◌||◌, if◌then◌else◌, Option, Some, None, IfSome}
+use Rattle.clockwork.specs.declared.action_timeout.Awaited.{Awaited}
+use Rattle.clockwork.specs.declared.answer.Due.{Due}
+use Rattle.clockwork.specs.declared.answer.Due.TheVariants.{Now}
+use Rattle.clockwork.specs.declared.limits.TheConstants.{STEP, LONGEST, LOOK}
+use Rattle.clockwork.specs.Waits.{left}
+use Rattle.clockwork.specs.Dues.{due_in}
+
+-- the order would be this node's: the match is on, a hand runs, the node is quorate, and the seat sits here, or as far as is known nowhere
+unfoldable pub is_ours : Awaited → Bool
+is_ours awaited = not awaited.over && (awaited.hand_runs && (awaited.quorate && (awaited.sits_here || not awaited.sits_elsewhere)))
+
+-- how long the seat is waited for: where it sits nowhere, one node after another plays for it
+unfoldable pub away_wait : Awaited → ℕ
+away_wait awaited = if awaited.sits_here then awaited.patience else awaited.patience + STEP * awaited.rank
+
+-- it isn't ordered again before the patience has passed once more, or eight seconds
+abbrev pub order_left : ℕ → Option ℕ → ℕ → ℕ
+order_left time None patience = 0
+order_left time (Some moment) patience = left time moment (min patience LONGEST)
+
+unfoldable pub away_left : Awaited → ℕ
+away_left awaited = max (left awaited.time awaited.since (away_wait awaited)) (order_left awaited.time awaited.ordered awaited.patience)
+
+unfoldable pub away_due_of : Awaited → Due
+away_due_of awaited = if is_ours awaited then due_in awaited.time (away_left awaited) else due_in awaited.time LOOK
+
+-- ---- what holds of every order, and that it comes
+
+-- nothing has happened for as long as a seat may hold the table
+abbrev pub HasWaitedFor : Awaited → Type 0
+HasWaitedFor awaited = awaited.patience ≤ awaited.time - awaited.since
+
+-- the last order, if any, was as long ago, or eight seconds
+abbrev pub IsOrderedLongAgo : Awaited → Type 0
+IsOrderedLongAgo awaited = IfSome awaited.ordered (λ moment. min awaited.patience LONGEST ≤ awaited.time - moment)
+
+-- where the order would be this node's it is given once the patience and the steps of those before it have passed, at the latest
+abbrev pub IsOrderedInTime : Awaited → Type 0
+IsOrderedInTime awaited = is_ours awaited ≡ true → awaited.patience + STEP * awaited.rank ≤ awaited.time - awaited.since → IsOrderedLongAgo awaited → away_due_of awaited ≡ Now

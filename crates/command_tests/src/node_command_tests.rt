@@ -1,0 +1,247 @@
+//! The notes of a node's process and how it ends, and `node_run` where the start is its end, over wires and disks in memory.
+
+use crate::test_streams::{config, holds, is_same, is_written, prints};
+use dealer_node::NodeFault;
+use match_file::{Difference, Key, MatchFault};
+use match_log::Name;
+use match_runs::Unserved;
+use node_links::{Mismatch, Own, PeerFault, Whose};
+use node_peers::Peers;
+use node_runs::{
+    KeyFault, LifeKeeper, NodeEnd, NodeNote, key_text, life_path, node_kept_path, node_run,
+    read_key, tell_node_note,
+};
+use node_seats::Seats;
+use node_service::{LocalNode, NodeServer, Terms};
+use node_status::Askers;
+use node_wires::MemoryWire;
+use paxos_wire::Ballot;
+use peer_codes::{Key as SharedKey, Life, MatchDigest, RecordFault};
+use promise_store::{Disk, OnceDisk, Store, StoreFault};
+use serving::ServeFault;
+use stations::Station;
+use std::alloc::{AllocError, Global};
+use std::net::{IpAddr, SocketAddr};
+use std::process::Abort;
+use std::test::Fail;
+
+/// The lines of all notes that tell nothing of a seat.
+const NOTES: &[u8] = b"match m1 node 2 front 7
+key port isn't used by node
+stores/match.kept: not found: copy it from the machine of node 0
+no key: peers and seats are trusted by their addresses
+match.key: open to others than its owner
+status at 127.0.0.1:7090
+peer 1: joined
+peer 1: gone
+peer 2: 127 StoreReplaced
+peer 0: 123 OtherMatch digest (from 10.0.0.7)
+caller: 122 BadHello
+caller: 120 BadLength (12 times)
+quorum
+quorum lost
+campaigns in ballot (5, 1)
+";
+
+/// Notes of all kinds, in the order of their lines.
+fn notes<'a>(name: Name) -> [NodeNote<'a>; 15] {
+    let bad_length = PeerFault::Record(RecordFault::BadLength);
+    [
+        NodeNote::Begins {
+            name,
+            node: 2,
+            front: 7,
+        },
+        NodeNote::PassedOver("port"),
+        NodeNote::NotCopied("stores/match.kept"),
+        NodeNote::NoKey,
+        NodeNote::BadKey("match.key", KeyFault::NotSecret),
+        NodeNote::Status(SocketAddr::from(([127, 0, 0, 1], 7090))),
+        NodeNote::Joined(1),
+        NodeNote::Gone(1),
+        NodeNote::Refused {
+            peer: 2,
+            fault: PeerFault::StoreReplaced(Whose::Other),
+            source: None,
+        },
+        NodeNote::Refused {
+            peer: 0,
+            fault: PeerFault::OtherMatch(Mismatch::Digest),
+            source: Some(IpAddr::from([10, 0, 0, 7])),
+        },
+        NodeNote::Callers {
+            count: 1,
+            fault: PeerFault::Record(RecordFault::BadHello),
+        },
+        NodeNote::Callers {
+            count: 12,
+            fault: bad_length,
+        },
+        NodeNote::Quorum,
+        NodeNote::QuorumLost,
+        NodeNote::Campaigns(Ballot { round: 5, node: 1 }),
+    ]
+}
+
+#[test]
+fn each_note_is_a_line(rt: HostRuntime) -> Result<(), Fail> {
+    let name = Name::new(b"m1").expect(&rt, "a name");
+    let mut told = Vec::new(rt.alloc());
+    for note in &notes(name) {
+        tell_node_note(rt.alloc(), &mut told, note);
+    }
+    is_written(&rt, &told, NOTES);
+    Ok(())
+}
+
+/// Sees that a process ends so.
+fn ends(
+    rt: &impl Abort,
+    alloc: Global,
+    why: Unserved,
+    status: u8,
+    text: &str,
+) -> Result<(), AllocError> {
+    let end = NodeEnd::Unserved(why);
+    is_same(rt, end.status(), status);
+    prints(rt, alloc, &end, text)
+}
+
+#[test]
+fn the_status_says_what_is_at_fault(rt: HostRuntime) -> Result<(), Fail> {
+    let alloc = rt.alloc();
+    let store = NodeFault::Store(StoreFault::Disk);
+    ends(
+        &rt,
+        alloc,
+        Unserved::from(ServeFault::Node(store)),
+        3,
+        "91 Store 63 Disk",
+    )?;
+    ends(
+        &rt,
+        alloc,
+        Unserved::from(ServeFault::Node(NodeFault::Conflict)),
+        3,
+        "95 Conflict",
+    )?;
+    ends(&rt, alloc, Unserved::from(AllocError), 1, "92 OutOfMemory")?;
+    ends(
+        &rt,
+        alloc,
+        Unserved::from(ServeFault::LinkFailed),
+        1,
+        "105 LinkFailed",
+    )?;
+    ends(
+        &rt,
+        alloc,
+        Unserved::from(ServeFault::LogFailed),
+        1,
+        "106 LogFailed",
+    )?;
+    ends(&rt, alloc, Unserved::StoreInUse, 2, "108 StoreInUse")?;
+    ends(&rt, alloc, Unserved::Unreadable, 2, "104 Unreadable")?;
+    let other = Unserved::OtherMatch(Difference::Node);
+    ends(&rt, alloc, other, 2, "109 OtherMatch node")?;
+    let entry = Unserved::from(MatchFault::BadEntry(Key::Peers));
+    ends(&rt, alloc, entry, 2, "101 BadEntry peers")?;
+    is_same(&rt, NodeEnd::StoreReplaced.status(), 2);
+    prints(&rt, alloc, &NodeEnd::StoreReplaced, "127 StoreReplaced")?;
+    Ok(())
+}
+
+#[test]
+fn files_beside_a_store_have_names(rt: HostRuntime) -> Result<(), Fail> {
+    let kept = node_kept_path(rt.alloc(), "stores", 2)?;
+    is_written(&rt, kept.as_bytes(), b"stores/node2.kept");
+    let life = life_path(rt.alloc(), "stores", 2, 10)?;
+    is_written(&rt, life.as_bytes(), b"stores/node2.peer10.kept");
+    Ok(())
+}
+
+#[test]
+fn a_key_is_64_digits(rt: HostRuntime) -> Result<(), Fail> {
+    let key = SharedKey { bytes: [0xa0; 32] };
+    let text = key_text(rt.alloc(), &key)?;
+    let digits = b"a0a0a0a0a0a0a0a0a0a0a0a0a0a0a0a0a0a0a0a0a0a0a0a0a0a0a0a0a0a0a0a0\n";
+    is_written(&rt, &text, digits);
+    let read = read_key(&text).expect(&rt, "a key");
+    is_written(&rt, &read.bytes, &key.bytes);
+    holds(&rt, 2u64, read_key(b"a0").is_none());
+    Ok(())
+}
+
+/// Keeps no life: none is told in these tests.
+#[derive(Drop)]
+struct NoLives;
+
+impl LifeKeeper for NoLives {
+    ghost kept = { λ _ _ _ _. Unit {0} };
+
+    fn keep(&mut self, _peer: u8, _life: &Life) -> Result<(), NodeFault> {
+        Ok(())
+    }
+}
+
+/// The process of node 0 over this disk, of whose wires the call of this number fails; none where the disk has no store.
+fn server<D: Disk + Drop>(
+    alloc: Global,
+    disk: D,
+    call: u64,
+) -> Result<Option<NodeServer<D, MemoryWire>>, Fail> {
+    let Ok(station) = Station::open(alloc, config(alloc)?, 0, disk) else {
+        return Ok(None);
+    };
+    let own = Own {
+        number: 0,
+        nodes: 3,
+        digest: MatchDigest { bytes: [1; 32] },
+        life: Life { bytes: [2; 16] },
+        key: None,
+    };
+    let peers = Peers::new(alloc, own, &[], 1_000_000)?;
+    let seats = Seats::new(alloc, 2, None)?;
+    let wire = MemoryWire::new(alloc, call)?;
+    let member = LocalNode::new(alloc, station);
+    let askers = Askers::new(alloc)?;
+    let terms = Terms {
+        nodes: 3,
+        patience: None,
+    };
+    Ok(Some(NodeServer::new(alloc, member, wire, peers, seats, askers, terms)))
+}
+
+/// How the process of node 0 ends whose log can't be written, and whose disk fails at the call of this number, counted from
+/// 1; none where it has no store to begin on. What it told stands in `notes`.
+fn ran(alloc: Global, call: u64, notes: &mut Vec<u8>) -> Result<Option<NodeEnd>, Fail> {
+    let Ok(store) = Store::create(alloc, OnceDisk::new(alloc, call), 0, 3) else {
+        return Ok(None);
+    };
+    let Some(mut server) = server(alloc, store.close(), 1)? else {
+        return Ok(None);
+    };
+    let mut lives = NoLives;
+    Ok(node_run(alloc, &mut server, &mut lives, 7000, notes).err())
+}
+
+/// Where the disk fails at the start the store is at fault, and else the log: each is told by the end alone.
+#[test]
+fn a_start_that_fails_ends_the_process(rt: HostRuntime) -> Result<(), Fail> {
+    let mut stores = 0u64;
+    for call in 0..16 {
+        let mut notes = Vec::new(rt.alloc());
+        let Some(end) = ran(rt.alloc(), call, &mut notes)? else {
+            continue;
+        };
+        is_written(&rt, &notes, b"match m1 node 0 front 0\n");
+        if end.status() == 3 {
+            stores = stores.saturating_add(1);
+            prints(&rt, rt.alloc(), &end, "91 Store 63 Disk")?;
+        } else {
+            prints(&rt, rt.alloc(), &end, "106 LogFailed")?;
+        }
+    }
+    holds(&rt, stores, stores > 0);
+    Ok(())
+}

@@ -1,0 +1,84 @@
+ghost use Rattle.std.specs.Prelude.{◌≡◌, Some};
+ghost use Rattle.node_links.specs.Lines.{peer_fault_code, peer_fault_line};
+
+use peer_codes::RecordFault;
+use std::fmt;
+use thiserror::Error;
+
+/// In what two nodes differ that play different matches, or aren't those that they are taken for.
+#[derive(Clone, Copy, Debug, PartialEq, Eq)]
+pub enum Mismatch {
+    /// The setting of the match.
+    Digest,
+    /// How many nodes the match has.
+    Nodes,
+    /// Which node speaks, or to which.
+    Number,
+}
+
+/// Whose store was lost and made anew.
+#[derive(Clone, Copy, Debug, PartialEq, Eq)]
+pub enum Whose {
+    /// That of the node that reads the Hello.
+    Own,
+    /// That of the node that said it.
+    Other,
+}
+
+/// Why a connection between two nodes is closed.
+///
+/// It prints as its number and its name; 123 prints what differs behind them.
+#[derive(Clone, Copy, Debug, PartialEq, Eq, Error)]
+pub enum PeerFault {
+    /// 120 to 122: what came is no record, or no Hello of this kind of connection.
+    Record(RecordFault),
+    /// 123: the other is of another match, or not the node that was to speak.
+    OtherMatch(Mismatch),
+    /// 124: the other's proof isn't that of a side that has the key of the match.
+    WrongProof,
+    /// 125: a record's tag isn't that of this record at its number, on this connection.
+    WrongTag,
+    /// 126: a record of another kind than may come now.
+    UnexpectedRecord,
+    /// 127: a store of a node has another life than the one that is kept of it, so it was lost and made anew.
+    StoreReplaced(Whose),
+    /// 128: a connection of this node is open already, and it was heard over it.
+    AlreadyHere,
+}
+
+impl PeerFault {
+    /// The fault's number, 120 to 128.
+    pub fn code(self) -> u8
+        ensures { result ≡ peer_fault_code self }
+    {
+        match self {
+            PeerFault::Record(fault) => fault.code(),
+            PeerFault::OtherMatch(_) => 123,
+            PeerFault::WrongProof => 124,
+            PeerFault::WrongTag => 125,
+            PeerFault::UnexpectedRecord => 126,
+            PeerFault::StoreReplaced(_) => 127,
+            PeerFault::AlreadyHere => 128,
+        }
+    }
+}
+
+impl fmt::Display for PeerFault {
+    ghost output = { λ fault. Some (peer_fault_line fault) };
+
+    fn fmt<W: fmt::Write>(&self, f: &mut fmt::Formatter<W>) -> fmt::Result {
+        match self {
+            PeerFault::Record(RecordFault::BadLength) => f.write_str("120 BadLength"),
+            PeerFault::Record(RecordFault::BadKind) => f.write_str("121 BadKind"),
+            PeerFault::Record(RecordFault::BadHello) => f.write_str("122 BadHello"),
+            PeerFault::OtherMatch(Mismatch::Digest) => f.write_str("123 OtherMatch digest"),
+            PeerFault::OtherMatch(Mismatch::Nodes) => f.write_str("123 OtherMatch nodes"),
+            PeerFault::OtherMatch(Mismatch::Number) => f.write_str("123 OtherMatch number"),
+            PeerFault::WrongProof => f.write_str("124 WrongProof"),
+            PeerFault::WrongTag => f.write_str("125 WrongTag"),
+            PeerFault::UnexpectedRecord => f.write_str("126 UnexpectedRecord"),
+            PeerFault::StoreReplaced(_) => f.write_str("127 StoreReplaced"),
+            PeerFault::AlreadyHere => f.write_str("128 AlreadyHere"),
+        }
+    }
+}

@@ -1,0 +1,67 @@
+use node_links::PeerFault;
+use paxos_wire::Ballot;
+use peer_codes::Life;
+use seat_session::SessionFault;
+use std::net::IpAddr;
+
+/// What a process may tell of a turn, one line of standard error each. Peers and seats are counted from 0.
+#[derive(Clone, Copy, Debug)]
+pub enum ServerNotice {
+    /// A connection to a peer is open; its store has this life, where none was kept of it: it is to be kept before the next
+    /// turn, by which frames of the peer are taken.
+    Joined {
+        peer: u8,
+        life: Option<Life>,
+    },
+    /// The connection to a peer ended.
+    Gone {
+        peer: u8,
+    },
+    /// A connection to a peer is closed by a fault: to one that was dialled, to one that was there, or to one whose store, or
+    /// this node's, was made anew. The source is the address of its other end, where that is known.
+    Refused {
+        peer: u8,
+        fault: PeerFault,
+        source: Option<IpAddr>,
+    },
+    /// So many callers who aren't known were refused since this was last told, the last of them by this fault.
+    Callers {
+        count: u32,
+        fault: PeerFault,
+    },
+    /// A bot sits at a seat.
+    Seated {
+        seat: u8,
+    },
+    /// The bot of a seat is gone, or is let go of.
+    Left {
+        seat: u8,
+    },
+    /// A fault in what a seat sent. The seat itself is told nothing.
+    Faulty {
+        seat: u8,
+        fault: SessionFault,
+    },
+    /// So many came to a seat since this was last told of it who showed another token than its own, or none; it is told once
+    /// a second at most.
+    WrongToken {
+        seat: u8,
+        count: u32,
+    },
+    /// It was ordered that this seat, which is to act, is played for.
+    Ordered {
+        seat: u8,
+    },
+    /// The seat is to act, and nothing has gone on for a while.
+    Waits {
+        seat: u8,
+    },
+    /// The node and the peers that it hears are more than half of all nodes.
+    Quorum,
+    /// They have not been for a while: the seats are let go of, and nobody is seated.
+    QuorumLost,
+    /// This node campaigns in a ballot, where another node did so last, or none.
+    Campaigns {
+        ballot: Ballot,
+    },
+}

@@ -1,0 +1,131 @@
+//! The match that is played, of alice and bob, limit, the stores of its nodes, and their processes.
+
+use dealer_kind::{Config, Source};
+use match_log::{Name, SeatNames};
+use matchstate::read_deal;
+use node_links::Own;
+use node_peers::Peers;
+use node_seats::Seats;
+use node_service::{LocalNode, NodeServer, Outcome, Terms};
+use node_status::Askers;
+use node_wires::MemoryWire;
+use peer_codes::{Life, MatchDigest};
+use promise_store::{Disk, MemoryDisk};
+use stations::Station;
+use std::alloc::{AllocError, Global};
+use std::process::Abort;
+
+/// Two players, limit.
+const L2: &[u8] = b"GAMEDEF
+limit
+numPlayers = 2
+numRounds = 4
+blind = 10 5
+raiseSize = 10 10 20 20
+firstPlayer = 2 1 1 1
+maxRaises = 3 4 4 4
+numSuits = 4
+numRanks = 13
+numHoleCards = 2
+numBoardCards = 0 3 1 1
+END GAMEDEF
+";
+
+/// The process of a node over a disk and wires in memory.
+pub(crate) type Server = NodeServer<MemoryDisk, MemoryWire>;
+
+/// A peer counts as absent at first after so long.
+const SILENCE: u64 = 1_000_000;
+
+/// What all nodes deal in each hand.
+const DEAL: &[u8] = b"TdAs|8hTc/2c8c3h/9c/Kh";
+
+/// A match of so many hands by so many nodes.
+fn config(rt: &impl Abort, alloc: Global, nodes: u8, hands: u32) -> Result<Config, AllocError> {
+    let mut sources = Vec::new(alloc);
+    for _ in 0..nodes {
+        let mut deals = Vec::new(alloc);
+        for _ in 0..hands {
+            deals.push(read_deal(DEAL, 2).expect(rt, "a deal"))?;
+        }
+        sources.push(Source::Listed(deals))?;
+    }
+    let game = game_def::read(L2).expect(rt, "a game");
+    let name = Name::new(b"m1").expect(rt, "a name");
+    let word = b"l2.game".to_vec(alloc)?;
+    let names = SeatNames::read(b"alice|bob", 2).expect(rt, "names");
+    Ok(Config::new(game, name, word, names, hands, sources).expect(rt, "a config"))
+}
+
+/// A disk with these bytes, which are synced.
+pub(crate) fn disk_of(
+    rt: &impl Abort,
+    alloc: Global,
+    bytes: &[u8],
+) -> Result<MemoryDisk, AllocError> {
+    let mut disk = MemoryDisk::new(alloc, &[])?;
+    assert!(rt; disk.write_at(0, bytes).is_ok() && disk.sync().is_ok());
+    Ok(disk)
+}
+
+/// The disk of a new store of a node.
+pub(crate) fn new_disk(
+    rt: &impl Abort,
+    alloc: Global,
+    node: u8,
+    nodes: u8,
+) -> Result<MemoryDisk, AllocError> {
+    disk_of(rt, alloc, &[b'H', b'D', b'J', b'2', node, nodes, 0, 0, 0])
+}
+
+/// What a process knows of its own node.
+fn own(node: u8, nodes: u8) -> Own {
+    Own {
+        number: node,
+        nodes,
+        digest: MatchDigest { bytes: [9; 32] },
+        life: Life {
+            bytes: [node.saturating_add(1); 16],
+        },
+        key: None,
+    }
+}
+
+/// The process of a node, in a match of so many nodes and hands, over this disk.
+pub(crate) fn server(
+    rt: &impl Abort,
+    alloc: Global,
+    node: u8,
+    nodes: u8,
+    hands: u32,
+    disk: MemoryDisk,
+    call: u64,
+    now: u64,
+    patience: Option<u64>,
+) -> Result<Option<Server>, AllocError> {
+    let config = config(rt, alloc, nodes, hands)?;
+    assert!(rt; (node as usize) < config.nodes());
+    let station = match Station::open(alloc, config, node, disk) {
+        Ok(station) => station,
+        Err(_) => return Ok(None),
+    };
+    let mut wire = MemoryWire::new(alloc, call)?;
+    wire.set_now(now);
+    let peers = Peers::new(alloc, own(node, nodes), &[], SILENCE)?;
+    let seats = Seats::new(alloc, 2, None)?;
+    let askers = Askers::new(alloc)?;
+    let terms = Terms { nodes, patience };
+    let mut server = NodeServer::new(
+        alloc,
+        LocalNode::new(alloc, station),
+        wire,
+        peers,
+        seats,
+        askers,
+        terms,
+    );
+    match server.start() {
+        Outcome::GoesOn => Ok(Some(server)),
+        _ => Ok(None),
+    }
+}

@@ -1,0 +1,99 @@
+//! What the tests share: the key and both Hellos of a connection, a frame and a beat, and how bytes are compared.
+
+ghost use Rattle.std.specs.Prelude.{◌≡◌, true};
+ghost use Rattle.peer_codes.specs.Steps.{is_coded};
+
+use crate::vectors::DIGEST;
+use paxos_wire::Ballot;
+use peer_codes::{Beat, Ends, Hello, Hellos, Key, Life, Link, MatchDigest, Nonce};
+use std::process::Abort;
+
+/// The frame of an Ask from slot 1.
+pub(crate) const ASK: [u8; 10] = [0, 0, 0, 6, 1, 7, 0, 0, 0, 1];
+
+pub(crate) const BEAT: Beat = Beat {
+    number: 1,
+    got: 0,
+    front: 37,
+    campaigns: true,
+    over: false,
+    seats: 5,
+};
+
+/// The bytes of that beat.
+pub(crate) const BEAT_BYTES: [u8; 15] = [0, 0, 0, 1, 0, 0, 0, 0, 0, 0, 0, 37, 1, 0, 5];
+
+/// Bytes that rise by one from the first.
+pub(crate) fn rising<const COUNT: usize>(first: u8) -> [u8; COUNT] {
+    let mut bytes = [0; COUNT];
+    let mut next = first;
+    for byte in bytes.iter_mut() {
+        *byte = next;
+        next = next.wrapping_add(1);
+    }
+    bytes
+}
+
+pub(crate) fn key() -> Key {
+    Key { bytes: rising(0) }
+}
+
+pub(crate) fn caller() -> Hello
+    ensures { is_coded result.link ≡ true }
+{
+    Hello {
+        ends: Ends {
+            from: 1,
+            to: 0,
+            nodes: 3,
+        },
+        digest: MatchDigest { bytes: DIGEST },
+        life: Life { bytes: rising(17) },
+        kept: Some(Life { bytes: rising(1) }),
+        promised: Some(Ballot { round: 7, node: 2 }),
+        link: Link::Coded(Nonce { bytes: rising(100) }),
+    }
+}
+
+pub(crate) fn called() -> Hello
+    ensures { is_coded result.link ≡ true }
+{
+    Hello {
+        ends: Ends {
+            from: 0,
+            to: 1,
+            nodes: 3,
+        },
+        digest: MatchDigest { bytes: DIGEST },
+        life: Life { bytes: rising(1) },
+        kept: None,
+        promised: None,
+        link: Link::Coded(Nonce { bytes: rising(200) }),
+    }
+}
+
+/// A side that drew other bytes for another connection.
+pub(crate) fn with_nonce(hello: Hello, first: u8) -> Hello
+    ensures { is_coded result.link ≡ true }
+{
+    Hello {
+        link: Link::Coded(Nonce {
+            bytes: rising(first),
+        }),
+        ..hello
+    }
+}
+
+pub(crate) fn hellos() -> Hellos {
+    Hellos {
+        caller: caller(),
+        called: called(),
+    }
+}
+
+// What `assert_eq!` makes is proved anew wherever it stands, so it stands in the function below.
+
+/// The two are equal; where they aren't, both are printed.
+pub(crate) fn assert_bytes(rt: &impl Abort, found: &[u8], expected: &[u8]) {
+    assert_eq!(rt; found, expected);
+}
