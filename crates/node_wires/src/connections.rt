@@ -3,6 +3,7 @@
 ghost use Rattle.std.specs.Prelude.{◌≤◌, length, IfOk};
 
 use crate::comer::Comer;
+use crate::keep_alive::keep_alive;
 use crate::limits::{LINES, STRANGERS};
 use crate::line::Line;
 use crate::wire::Halt;
@@ -21,6 +22,8 @@ pub(crate) struct Connections {
     lines: Vec<Option<Wired>>,
     /// How many who came by themselves were taken in so far.
     count: u64,
+    /// Whether the system ends connections to peers whose machine is lost. Nodes see to that by what they send each other.
+    ends_lost_peers: bool,
 }
 
 /// Has the connection that a line has watched as that of the line at this place. False where there is none, or that failed.
@@ -33,12 +36,16 @@ fn watch_as(connection: &mut Option<Wired>, poll: &Poll, place: usize) -> bool {
 
 impl Connections {
     /// A line without a connection for each.
-    pub(crate) fn new(alloc: Global) -> Result<Connections, AllocError> {
+    pub(crate) fn new(alloc: Global, ends_lost_peers: bool) -> Result<Connections, AllocError> {
         let mut lines = Vec::with_capacity(alloc, LINES)?;
         for _ in 0..LINES {
             lines.push(None)?;
         }
-        Ok(Connections { lines, count: 0 })
+        Ok(Connections {
+            lines,
+            count: 0,
+            ends_lost_peers,
+        })
     }
 
     /// A stream is the connection of a line from now on, in place of the one that it has.
@@ -55,6 +62,9 @@ impl Connections {
         };
         // The one before is closed before the next is watched under its token.
         self.close(line);
+        if self.ends_lost_peers || line.is_of_bot() {
+            keep_alive(&stream)?;
+        }
         let wired = Wired::watch(poll, stream, place, address, turn)?;
         self.put(place, wired)
     }

@@ -18,6 +18,7 @@
 mod bind_fault;
 mod comer;
 mod connections;
+mod keep_alive;
 pub mod limits;
 mod line;
 mod memory_wire;

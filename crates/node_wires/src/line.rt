@@ -18,6 +18,14 @@ pub enum Line {
 }
 
 impl Line {
+    /// Whether it is with a bot, or with one who may become one.
+    pub(crate) fn is_of_bot(self) -> bool {
+        match self {
+            Line::Seat(_) | Line::Guest(_) => true,
+            Line::Peer(_) | Line::Caller(_) | Line::Asker(_) => false,
+        }
+    }
+
     /// The place of a line among all; none of a number that no node, place or seat has.
     pub(crate) fn place(self) -> Option<usize> {
         match self {

@@ -20,8 +20,8 @@ const STATUS_DOOR: usize = SEAT_DOOR + SEATS;
 /// Where a node's process is reached.
 #[derive(Clone, Copy)]
 pub(crate) struct Reached {
-    /// Where other nodes dial it.
-    pub(crate) peers: SocketAddr,
+    /// Where other nodes dial it, if they may.
+    pub(crate) peers: Option<SocketAddr>,
     /// Where its seat 0 is awaited, and each further one at the port behind.
     pub(crate) seats: SocketAddr,
     /// How many seats there are.
@@ -33,8 +33,8 @@ pub(crate) struct Reached {
 /// The ports of a node's process.
 #[derive(Drop)]
 pub(crate) struct Ports {
-    /// Where other nodes dial this one.
-    peers: Door,
+    /// Where other nodes dial this one, if they may.
+    peers: Option<Door>,
     /// Of each seat.
     seats: Vec<Door>,
     /// Where the node is asked for its status, if it may be.
@@ -82,6 +82,19 @@ impl Door {
     }
 }
 
+/// Listens at an address that is watched under a token, where one is given.
+fn open_if_given(
+    rt: &HostRuntime,
+    poll: &Poll,
+    address: Option<SocketAddr>,
+    token: usize,
+) -> Result<Option<Door>, BindFault> {
+    match address {
+        Some(address) => Ok(Some(Door::open(rt, poll, address, token)?)),
+        None => Ok(None),
+    }
+}
+
 /// A listener at an address that is watched under a token.
 fn watched(
     rt: &HostRuntime,
@@ -126,12 +139,9 @@ impl Ports {
         poll: &Poll,
         reached: Reached,
     ) -> Result<Ports, BindFault> {
-        let peers = Door::open(rt, poll, reached.peers, DOOR)?;
+        let peers = open_if_given(rt, poll, reached.peers, DOOR)?;
         let seats = open_seats(rt, poll, reached.seats, reached.players)?;
-        let status = match reached.status {
-            Some(address) => Some(Door::open(rt, poll, address, STATUS_DOOR)?),
-            None => None,
-        };
+        let status = open_if_given(rt, poll, reached.status, STATUS_DOOR)?;
         Ok(Ports {
             peers,
             seats,
@@ -142,7 +152,9 @@ impl Ports {
     /// The system told that somebody came to the port of this token.
     pub(crate) fn note(&mut self, token: usize) {
         if token == DOOR {
-            self.peers.came = true;
+            if let Some(door) = &mut self.peers {
+                door.came = true;
+            }
         } else if token == STATUS_DOOR {
             if let Some(door) = &mut self.status {
                 door.came = true;
@@ -156,7 +168,12 @@ impl Ports {
 
     /// The next one who dialled.
     pub(crate) fn next_caller(&mut self) -> Option<(TcpStream, SocketAddr)> {
-        self.peers.next()
+        self.peers.as_mut()?.next()
+    }
+
+    /// Where a seat's bot is awaited: the address that the system gave, also where it was asked for any free port.
+    pub(crate) fn seat_address(&self, seat: u8) -> Option<SocketAddr> {
+        self.seats.get(seat as usize)?.listener.local_addr().ok()
     }
 
     /// The next one who came to a seat's port.

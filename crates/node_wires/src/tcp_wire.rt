@@ -95,29 +95,62 @@ impl<'a> TcpWire<'a> {
                 kind: ErrorKind::InvalidInput,
             });
         };
-        let poll = Poll::new(rt)?;
-        let events = Events::with_capacity(rt.alloc(), TOLD_AT_ONCE)?;
-        let begun = Instant::now(rt)?;
         let reached = Reached {
-            peers: *own,
+            peers: Some(*own),
             seats,
             players,
             status,
         };
+        TcpWire::open(rt, peers, reached, false)
+    }
+
+    /// Opens one port, at which one bot is awaited as that of seat 0: the wires of who stands between a bot and the nodes.
+    /// He dials the nodes, by number, and none of them dials him. There is no log, and no status. Connections whose other
+    /// end is lost, bot or node, are ended by the system within half a minute.
+    pub fn bind_bot(
+        rt: &'a HostRuntime,
+        nodes: Vec<SocketAddr>,
+        bot: SocketAddr,
+    ) -> Result<TcpWire<'a>, BindFault> {
+        let reached = Reached {
+            peers: None,
+            seats: bot,
+            players: 1,
+            status: None,
+        };
+        TcpWire::open(rt, nodes, reached, true)
+    }
+
+    /// Opens the ports at which it is reached.
+    fn open(
+        rt: &'a HostRuntime,
+        addresses: Vec<SocketAddr>,
+        reached: Reached,
+        ends_lost_peers: bool,
+    ) -> Result<TcpWire<'a>, BindFault> {
+        let poll = Poll::new(rt)?;
+        let events = Events::with_capacity(rt.alloc(), TOLD_AT_ONCE)?;
+        let begun = Instant::now(rt)?;
         let ports = Ports::open(rt, &poll, reached)?;
-        let connections = Connections::new(rt.alloc())?;
+        let connections = Connections::new(rt.alloc(), ends_lost_peers)?;
         Ok(TcpWire {
             rt,
             poll,
             events,
             begun,
-            addresses: peers,
+            addresses,
             ports,
             connections,
             log: None,
             failed: None,
             passed: Passages::new(),
         })
+    }
+
+    /// Where a seat's bot is awaited; none of a seat that there isn't, or where the system doesn't tell. Where the port 0 was
+    /// asked for, it is the free one that the system gave.
+    pub fn seat_address(&self, seat: u8) -> Option<SocketAddr> {
+        self.ports.seat_address(seat)
     }
 
     /// The log from now on: a file that is open for appending.
