@@ -6,8 +6,8 @@
 //!
 //! `Config::new` takes a match and its nodes, within their limits, and its readers give them back; a node's `Source`
 //! gives the node's own deal of each hand by `Source::deal`. The test
-//! `a_match_has_three_or_five_nodes_with_deals_for_each_hand` of `rule_tests` makes a config. There are no faults of
-//! its own: what isn't within its limits is none.
+//! `a_match_has_three_five_or_seven_nodes_with_deals_for_each_hand` of `rule_tests` makes configs. There are no faults
+//! of its own: what isn't within its limits is none.
 #![tactic(auto)]
 
 mod config;

@@ -21,7 +21,7 @@ use crate::made::Made;
 use crate::member::Member;
 use crate::rooms::Lists;
 use crate::up::Up;
-use crate::voting::send_proposal;
+use crate::voting::{Kind, send_commands};
 use paxos_wire::{Ballot, CommandList};
 use promise_store::Disk;
 use proposer::AcceptRun;
@@ -162,9 +162,10 @@ impl<D: Disk + Drop> Up<D> {
         ensures left { Spends self.old.running self.new.running made.old made.new 1 (length proposal.now.commands) (FRAMES_OF_A_CLOSE * length proposal.now.commands) }
     {
         let commands = proposal.commands.as_slice();
-        send_proposal(
+        send_commands(
             &mut made.frames,
             member,
+            Kind::Proposed,
             proposal.ballot,
             proposal.slot,
             commands,

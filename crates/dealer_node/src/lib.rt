@@ -3,8 +3,8 @@
 //!
 //! `Node::new` makes it, down; `create` a new store on its disk, once, and `start` opens it. From then on `on_frame`,
 //! `on_line`, `on_tick`, `on_away`, `connect` and `drop_seat` are its calls, each of which puts what it makes into an `Out`, until
-//! `stop`. `running`, `front`, `table`, `promised`, `campaigns`, `pending` and `connected` read it. The test
-//! `a_tick_asks_for_promises` of `match_tests` walks this way.
+//! `stop`. `running`, `front`, `table`, `promised`, `campaigns`, `leads`, `pending` and `connected` read it. The test
+//! `a_tick_and_four_deliveries_deal` of `match_tests` has three nodes walk this way, in a cluster.
 //!
 //! The rules of a node are pure functions (`node_rules`, with the table in `docs/NODES.md`), and each call is one of them,
 //! whatever memory and disk do: `Takes` in `specs/Taking.antt` says how, for every call and every answer. Refused are 90

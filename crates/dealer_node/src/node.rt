@@ -1,5 +1,6 @@
 ghost use Rattle.std.specs.Prelude.{◌≡◌, ℕ, ◌<◌, ◌≤◌, true, false, List, [], Option, IsTrue, IsErr, Ok, Err, IfOk, IfErr, IfSome, OnOk, is_some, length, option_map};
 ghost use Rattle.protocol_model.specs.Stores.{Store as Kept, empty_store};
+ghost use Rattle.proposer.specs.Campaigns.{leads};
 ghost use Rattle.node_rules.specs.Standings.{Standing, applied, front_of, place_of, stopped};
 ghost use Rattle.node_rules.specs.Showing.{is_connected as is_talk_ready};
 ghost use Rattle.node_rules.specs.Seats.{session_at};
@@ -384,6 +385,17 @@ impl<D: Disk + Drop> Node<D> {
         match &self.up {
             None => false,
             Some(up) => up.running.campaigns(),
+        }
+    }
+
+    /// Whether the node leads: a quorum promised its ballot, and it wasn't refused since. One that is down doesn't.
+    pub fn leads(&self) -> bool
+        ensures seen { (s : Standing) → IsSeen D.Disk self.now s → result ≡ leads (member_in self.now).nodes s.campaign }
+        ensures down { runs self.now ≡ false → result ≡ false }
+    {
+        match &self.up {
+            None => false,
+            Some(up) => up.running.leads(),
         }
     }
 

@@ -2,6 +2,7 @@ ghost use Rattle.std.specs.Prelude.{◌≡◌, ◌+◌, ◌*◌, ◌≤◌, ◌<
 ghost use Rattle.paxos_wire.specs.declared.limits.TheConstants.{SLOTS};
 ghost use Rattle.slot_log.specs.Slots.{front};
 ghost use Rattle.protocol_model.specs.Stores.{Store};
+ghost use Rattle.proposer.specs.Campaigns.{is_leading};
 ghost use Rattle.node_rules.specs.Standings.{Standing, started};
 ghost use Rattle.node_rules.specs.Rules.{seeing};
 ghost use Rattle.node_rules.specs.Turns.{sending};
@@ -104,6 +105,13 @@ impl Running {
         ensures { result ≡ is_some self.now.proposer.campaign }
     {
         self.proposer.ballot().is_some()
+    }
+
+    /// Whether a quorum promised the ballot that it prepared.
+    pub(crate) fn leads(&self) -> bool
+        ensures { result ≡ is_leading self.now.proposer }
+    {
+        self.proposer.is_leading()
     }
 
     /// How many commands are applied at most once so many more are known.

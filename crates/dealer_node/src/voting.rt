@@ -1,5 +1,4 @@
-ghost use Rattle.std.specs.Prelude.{◌≡◌, ◌+◌, ◌*◌, ◌++◌, length, map, OnOk, OnErr, Err};
-ghost use Rattle.paxos_wire.specs.declared.message.Message.TheVariants.{Accept as Proposing, Accepted as Accepting};
+ghost use Rattle.std.specs.Prelude.{◌≡◌, ◌+◌, ◌*◌, ◌≤◌, ◌++◌, length, map, OnOk, OnErr, Err};
 ghost use Rattle.node_rules.specs.Sending.{to_others};
 ghost use Rattle.dealer_node.specs.Turned.{framed};
 ghost use Rattle.dealer_node.specs.Fitting.{AreMessages};
@@ -9,7 +8,7 @@ ghost use Rattle.dealer_node.specs.Members.{place_at};
 ghost use Rattle.dealer_node.specs.Outs.{told_by};
 ghost use Rattle.dealer_node.specs.Rooms.{HasSpace, Grows};
 ghost use Rattle.dealer_node.specs.Running.{TakesRule, ClashesBy, IsAt, CanLearn, Learns};
-ghost use Rattle.dealer_node.specs.Voting.{telling_votes};
+ghost use Rattle.dealer_node.specs.Voting.{message_with, telling_votes};
 ghost use Rattle.dealer_node.specs.declared.limits.TheConstants.{FRAMES_TO_ALL};
 
 use crate::made::Made;
@@ -17,39 +16,45 @@ use crate::member::Member;
 use crate::running::Running;
 use crate::sending::send_to_others;
 use crate::texts::Texts;
+use paxos_wire::limits::WINDOW;
 use paxos_wire::{Ballot, Commands, Message};
 use slot_log::{Command, SlotFault};
 
-/// Sends the others that this node accepted commands in a ballot, the first at the slot and each further one at the slot
-/// behind. The frame of each counts as one for each of its commands.
-fn send_accepted(
-    frames: &mut Texts<u8>,
-    member: &Member,
-    ballot: Ballot,
-    slot: u32,
-    commands: &[Command],
-)
-    requires ballot { IsBallot ballot }
-    requires run { IsCommandRun slot commands.now }
-    requires space { HasSpace frames.old FRAMES_TO_ALL (MOST_SINGLE_FRAME * (FRAMES_TO_ALL * length commands.now)) }
-    ensures texts { frames.new.texts ≡ frames.old.texts ++ map framed (to_others (place_at member.now) (Accepting ballot slot commands.now)) }
-    ensures fits { AreMessages (to_others (place_at member.now) (Accepting ballot slot commands.now)) }
-    ensures grows { Grows frames.old frames.new FRAMES_TO_ALL (MOST_SINGLE_FRAME * (FRAMES_TO_ALL * length commands.now)) }
-{
-    let nodes = member.nodes();
-    let message = Message::Accepted {
-        ballot,
-        slot,
-        commands: Commands::new(commands),
-    };
-    send_to_others(frames, nodes, member.node(), &message);
+/// What a message says of the commands that it has.
+#[derive(Clone, Copy)]
+pub(crate) enum Kind {
+    /// They are proposed: an Accept.
+    Proposed,
+    /// This node accepted them: an Accepted.
+    Voted,
 }
 
-/// Sends the others a proposal of commands in a ballot, the first at the slot and each further one at the slot behind. The
-/// frame of each counts as one for each of its commands.
-pub(crate) fn send_proposal(
+/// The message of this kind that has commands in a ballot, the first at the slot and each further one at the slot behind.
+fn message_with<'a>(kind: Kind, ballot: Ballot, slot: u32, commands: &'a [Command]) -> Message<'a>
+    requires { length commands.now ≤ WINDOW }
+    ensures { result ≡ message_with kind ballot slot commands.now }
+{
+    let commands = Commands::new(commands);
+    match kind {
+        Kind::Proposed => Message::Accept {
+            ballot,
+            slot,
+            commands,
+        },
+        Kind::Voted => Message::Accepted {
+            ballot,
+            slot,
+            commands,
+        },
+    }
+}
+
+/// Sends the others a message of this kind with commands in a ballot, the first at the slot and each further one at the
+/// slot behind. The frame of each counts as one for each of its commands.
+pub(crate) fn send_commands(
     frames: &mut Texts<u8>,
     member: &Member,
+    kind: Kind,
     ballot: Ballot,
     slot: u32,
     commands: &[Command],
@@ -57,16 +62,12 @@ pub(crate) fn send_proposal(
     requires ballot { IsBallot ballot }
     requires run { IsCommandRun slot commands.now }
     requires space { HasSpace frames.old FRAMES_TO_ALL (MOST_SINGLE_FRAME * (FRAMES_TO_ALL * length commands.now)) }
-    ensures texts { frames.new.texts ≡ frames.old.texts ++ map framed (to_others (place_at member.now) (Proposing ballot slot commands.now)) }
-    ensures fits { AreMessages (to_others (place_at member.now) (Proposing ballot slot commands.now)) }
+    ensures texts { frames.new.texts ≡ frames.old.texts ++ map framed (to_others (place_at member.now) (message_with kind ballot slot commands.now)) }
+    ensures fits { AreMessages (to_others (place_at member.now) (message_with kind ballot slot commands.now)) }
     ensures grows { Grows frames.old frames.new FRAMES_TO_ALL (MOST_SINGLE_FRAME * (FRAMES_TO_ALL * length commands.now)) }
 {
     let nodes = member.nodes();
-    let message = Message::Accept {
-        ballot,
-        slot,
-        commands: Commands::new(commands),
-    };
+    let message = message_with(kind, ballot, slot, commands);
     send_to_others(frames, nodes, member.node(), &message);
 }
 
@@ -94,7 +95,14 @@ impl Running {
         ensures frames { Grows made.old.frames made.new.frames FRAMES_TO_ALL (MOST_SINGLE_FRAME * (FRAMES_TO_ALL * length commands.now)) }
         ensures rest { made.new ≡ record made.old { frames = made.new.frames; shown = made.new.shown } }
     {
-        send_accepted(&mut made.frames, member, ballot, slot, commands);
+        send_commands(
+            &mut made.frames,
+            member,
+            Kind::Voted,
+            ballot,
+            slot,
+            commands,
+        );
         self.count_votes(member, member.node(), ballot, slot, commands, made)
     }
 }

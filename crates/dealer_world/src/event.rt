@@ -1,5 +1,6 @@
-ghost use Rattle.std.specs.Prelude.{◌≡◌, length};
+ghost use Rattle.std.specs.Prelude.{◌≡◌, ◌↔◌, length, IsTrue};
 ghost use Rattle.dealer_world.specs.Events.{node_of, bytes_in};
+ghost use Rattle.dealer_world.specs.Stepping.{IsFor};
 
 /// What comes to one node of a cluster. Nodes and seats are counted from 0.
 #[derive(Debug, Drop)]
@@ -36,6 +37,22 @@ impl Event {
             | Event::Drop { node, .. }
             | Event::Stop { node, .. }
             | Event::Start { node } => *node,
+        }
+    }
+
+    /// Whether its nodes and its seat are of a match of so many nodes and players.
+    pub fn is_for(&self, nodes: usize, players: usize) -> bool
+        ensures { IsTrue result ↔ IsFor nodes players self.now }
+    {
+        match self {
+            Event::Frame { from, to, .. } => (*from as usize) < nodes && (*to as usize) < nodes,
+            Event::Line { node, seat, .. }
+            | Event::Connect { node, seat }
+            | Event::Drop { node, seat } => (*node as usize) < nodes && (*seat as usize) < players,
+            Event::Tick { node }
+            | Event::Away { node }
+            | Event::Stop { node, .. }
+            | Event::Start { node } => (*node as usize) < nodes,
         }
     }
 

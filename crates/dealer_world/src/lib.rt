@@ -8,7 +8,7 @@
 //! from one that stopped inside a call. `step` gives an `Event` to its node, `run` gives several, up to the first that
 //! finds no memory (`Stopped`). The faults are those of the node, 90 to 95; by 92 nothing has changed, and 95 never
 //! comes where the disks are honest and no frame was forged. The tests `a_tick_and_four_deliveries_deal` and
-//! `a_round_is_run_at_once` of `match_tests` walk this way.
+//! `a_list_goes_on_where_it_found_no_memory` of `match_tests` walk this way.
 //!
 //! The record is read by numbers, without memory: `frame`, all that was sent; `arrival`, what reached running nodes;
 //! `piece`, all lines and log lines in the order in which they were shown; `starts`, each of which began a log; and

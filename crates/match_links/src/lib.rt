@@ -8,7 +8,8 @@
 //! and `receive` for a frame between two nodes; `write` and `add_to_log` for what a node shows; `hang_up` for a seat that is
 //! dropped, and `close` for a node that stops; at the end `part`.
 //!
-//! Both kinds serve a whole match in tests of `match_tests`: `a_match_outlives_a_node`, and the same over sockets.
+//! Both kinds serve a whole match: `MemoryLinks` in tests of `match_tests`, as `a_match_outlives_a_node`, and `TcpLinks`
+//! through the program, by `tests/serve`.
 //!
 //! Nothing is promised of what a link gives: what is promised of a match holds whatever its links answer. What passed is
 //! kept, in order, for clauses alone (`specs/Passages.antt`): who was seated, the pieces that came, the lines that seats

@@ -1,6 +1,5 @@
 //! A match of one hand, played on a cluster one step at a time, and what is due of it then.
 
-ghost use Rattle.std.specs.Prelude.{IsTrue};
 ghost use Rattle.dealer_world.specs.Promise.{IsForMatch};
 ghost use Rattle.dealer_world.specs.Viewing.{view_of};
 
@@ -42,29 +41,12 @@ const ACCEPT: u8 = 4;
 
 const ACCEPTED: u8 = 5;
 
-/// Whether the nodes and the seat of an event are of a cluster's match.
-fn is_for<D: Disk + Drop>(cluster: &Cluster<D>, event: &Event) -> bool
-    ensures { IsTrue result → IsForMatch (view_of cluster.now).config event.now }
-{
-    let nodes = cluster.node_count();
-    let players = cluster.config().game().players();
-    match event {
-        Event::Frame { from, to, .. } => (*from as usize) < nodes && (*to as usize) < nodes,
-        Event::Line { node, seat, .. }
-        | Event::Connect { node, seat }
-        | Event::Drop { node, seat } => (*node as usize) < nodes && (*seat as usize) < players,
-        Event::Tick { node }
-        | Event::Away { node }
-        | Event::Stop { node, .. }
-        | Event::Start { node } => (*node as usize) < nodes,
-    }
-}
-
 /// Asserts that an event is of a cluster's match.
 pub(crate) fn assert_for<D: Disk + Drop>(rt: &impl Abort, cluster: &Cluster<D>, event: &Event)
     ensures { IsForMatch (view_of cluster.now).config event.now }
 {
-    assert!(rt; is_for(cluster, event));
+    let players = cluster.config().game().players();
+    assert!(rt; event.is_for(cluster.node_count(), players));
 }
 
 /// Gives an event to its node. Here alone a step is taken, so that its contract is read once.

@@ -5,20 +5,13 @@ ghost use Rattle.paxos_wire.specs.Fits.{IsBallot};
 
 use crate::acceptors::created_in_memory;
 use crate::journal::{FIRST, commands};
-use crate::samples::{assert_same, holds};
+use crate::samples::{FIVE, assert_same, holds};
 use acceptor::{Acceptor, RunAnswer};
 use paxos_wire::{Ballot, CommandList};
 use promise_store::{Disk, StoreFault};
 use slot_log::Command;
 use std::process::Abort;
 use std::test::Fail;
-
-/// A deal, a call, that somebody is away, a raise to 20, and a fold.
-const FIVE: [u8; 58] = [
-    0x01, 0, 0, 0, 0, 0x09, 0x21, 0x33, 0x1a, 0x20, 0x00, 0x18, 0x06, 0x1c, 0x2e, 2, 0, 0, 0, 0, 0,
-    0, 1, 0, 0, 0, 0, 3, 0, 0, 0, 0, 0, 1, 2, 0, 0, 0, 0, 0, 2, 2, 0, 0, 0, 20, 2, 0, 0, 0, 0, 0,
-    3, 0, 0, 0, 0, 0,
-];
 
 /// Sees that these commands are answered in a ballot from a slot on.
 fn are_accepted(

@@ -26,6 +26,13 @@ pub(crate) fn act(action: Action) -> Command {
     }
 }
 
+/// The bytes of five commands: a deal, a call, that somebody is away, a raise to 20, and a fold.
+pub(crate) const FIVE: [u8; 58] = [
+    0x01, 0, 0, 0, 0, 0x09, 0x21, 0x33, 0x1a, 0x20, 0x00, 0x18, 0x06, 0x1c, 0x2e, 2, 0, 0, 0, 0, 0,
+    0, 1, 0, 0, 0, 0, 3, 0, 0, 0, 0, 0, 1, 2, 0, 0, 0, 0, 0, 2, 2, 0, 0, 0, 20, 2, 0, 0, 0, 0, 0,
+    3, 0, 0, 0, 0, 0,
+];
+
 // What `assert_eq!` makes is proved anew wherever it stands, so it stands in the functions below.
 
 /// The two are equal; where they aren't, both are printed.

@@ -1,6 +1,6 @@
 -- How many commands a command run may have: as many as told commands wait.
-use Rattle.std.proofs.Common.{ℕ, zero, suc, ◌≡◌, ◌≢◌, ◌<◌, ◌≤◌, ◌+◌, ◌-◌, ◌⊎◌, inl, inr, Bool, true, false, true≢false, not, List, [], ◌∷◌, Option, Some, None, Ok, refl, sym, ap, subst, ◌∙◌, arith, if◌then◌else◌, length, ◌==◌, set, get_or, get_or-set_other}
-use Rattle.std.specs.Prelude.{is_some, nat_lt, max, min}
+use Rattle.std.proofs.Common.{ℕ, zero, suc, ◌≡◌, ◌≢◌, ◌<◌, ◌≤◌, ◌+◌, ◌-◌, ◌⊎◌, inl, inr, Bool, true, false, true≢false, List, [], ◌∷◌, Option, Some, None, Ok, refl, sym, ap, subst, ◌∙◌, arith, if◌then◌else◌, length, ◌==◌, set, get_or, get_or-set_other}
+use Rattle.std.specs.Prelude.{is_some, max, min}
 use Rattle.std.proofs.lemmas.Bool.{lt-ltb, le-ltb, eqb-true, eq-eqb}
 use Rattle.std.proofs.lemmas.Bool.Decides.{eqb_tells}
 use Rattle.paxos_wire.specs.declared.limits.TheConstants.{WINDOW, SLOTS}
@@ -9,11 +9,11 @@ use Rattle.paxos_wire.specs.declared.entry.Entry.{Entry}
 use Rattle.slot_log.specs.declared.command.Command.{Command}
 use Rattle.protocol_model.specs.Sets.{In}
 use Rattle.protocol_model.specs.Quorums.{count}
-use Rattle.protocol_model.proofs.Quorums.{count_within, one_counted}
+use Rattle.protocol_model.proofs.Quorums.{one_counted}
 use Rattle.proposer.specs.declared.campaign.Campaign.{Campaign}
 use Rattle.proposer.specs.declared.accept_run.AcceptRun.{AcceptRun}
-use Rattle.proposer.specs.Campaigns.{Proposing, promise_by, is_covered, is_proposed, greatest_told, is_counted, with_promise, counting}
-use Rattle.proposer.specs.CommandRuns.{may_follow, in_front, told_commands, commands_of, run_by, run_of, is_waiting, waiting_by, most_commands, IsBounded}
+use Rattle.proposer.specs.Campaigns.{Proposing, is_proposed, greatest_told, is_counted, with_promise, counting}
+use Rattle.proposer.specs.CommandRuns.{may_follow, in_front, told_commands, commands_of, run_by, is_waiting, waiting_by, most_commands, IsBounded}
 use Rattle.proposer.specs.Counted.{Tells, IsGreatest}
 use Rattle.proposer.proofs.Greatest.{greatest_decides}
 use Rattle.proposer.proofs.ToldCommands.{follows, stays_covered}

@@ -6,7 +6,7 @@ use Rattle.proposer.specs.declared.campaign.Campaign.{Campaign}
 use Rattle.proposer.specs.declared.accept_run.AcceptRun.{AcceptRun}
 use Rattle.proposer.specs.declared.fault.ProposeFault.{ProposeFault}
 use Rattle.proposer.specs.declared.fault.ProposeFault.TheVariants.{OutOfWindow}
-use Rattle.proposer.specs.Campaigns.{Proposing, begun, idle, counting, proposal_of, marked}
+use Rattle.proposer.specs.Campaigns.{Proposing, begun, counting, proposal_of, marked}
 use Rattle.proposer.specs.CommandRuns.{told_commands, run_of, run_of_one, marked_run, waiting_by, waiting_told, most_commands, IsBounded}
 use Rattle.proposer.specs.CommandRunLaws.{Ends}
 use Rattle.proposer.proofs.Examples.{ballot, fold, call, entry, new, preparing, leading}

@@ -11,7 +11,6 @@ use Rattle.protocol_model.specs.Messages.{Message, Covers, Accept as accept}
 use Rattle.protocol_model.specs.Quorums.{IsFree, IsGreatestTold}
 use Rattle.protocol_model.specs.CommandRuns.{proposed, MayProposeEach}
 use Rattle.proposer.specs.declared.campaign.Campaign.{Campaign}
-use Rattle.proposer.specs.declared.accept.Accept.{Accept}
 use Rattle.proposer.specs.declared.accept_run.AcceptRun.{AcceptRun}
 use Rattle.proposer.specs.declared.fault.ProposeFault.{ProposeFault}
 use Rattle.proposer.specs.declared.fault.ProposeFault.TheVariants.{OutOfWindow}

@@ -13,6 +13,7 @@
 
 mod accept;
 mod accept_run;
+mod batch;
 mod campaign;
 mod fault;
 pub mod laws;

@@ -17,18 +17,7 @@ use promise_store::Disk;
 pub(crate) fn is_for<D: Disk + Drop>(cluster: &Cluster<D>, event: &Event) -> bool
     ensures { IsTrue result ↔ IsForMatch (view_of cluster.now).config event.now }
 {
-    let nodes = cluster.node_count();
-    let players = cluster.config().game().players();
-    match event {
-        Event::Frame { from, to, .. } => (*from as usize) < nodes && (*to as usize) < nodes,
-        Event::Line { node, seat, .. }
-        | Event::Connect { node, seat }
-        | Event::Drop { node, seat } => (*node as usize) < nodes && (*seat as usize) < players,
-        Event::Tick { node }
-        | Event::Away { node }
-        | Event::Stop { node, .. }
-        | Event::Start { node } => (*node as usize) < nodes,
-    }
+    event.is_for(cluster.node_count(), cluster.config().game().players())
 }
 
 /// An event that is no frame, as it is to be given to a cluster of its match for whatever it is due; the seat is that of

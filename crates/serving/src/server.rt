@@ -62,16 +62,15 @@ impl<D: Disk + Drop, L: Links + Drop> Drop for Server<D, L> {
     }
 }
 
-/// Whether the server goes on after a call of a node that was answered so: it was taken, or a frame was lost since its
-/// node is down, or the node's store failed, which is mended once.
-fn goes_on(event: &Event, answer: Result<(), NodeFault>) -> bool
-    ensures { result ≡ goes_on event.now answer }
+/// Whether the server goes on after a call of a node that was refused so: a frame was lost since its node is down, or the
+/// node's store failed, which is mended once.
+fn goes_on(event: &Event, fault: NodeFault) -> bool
+    ensures { result ≡ goes_on event.now (Err fault) }
 {
-    match answer {
-        Ok(()) => true,
-        Err(NodeFault::Down) => matches!(event, Event::Frame { .. }),
-        Err(NodeFault::Store(_)) => true,
-        Err(_) => false,
+    match fault {
+        NodeFault::Down => matches!(event, Event::Frame { .. }),
+        NodeFault::Store(_) => true,
+        _ => false,
     }
 }
 
@@ -255,7 +254,7 @@ impl<D: Disk + Drop, L: Links + Drop> Server<D, L> {
         ensures waiting { self.new.waiting ≡ self.old.waiting }
         ensures closes { Closes waiting.now (Err fault) (served_of self.old) result (served_of self.new) }
     {
-        if !goes_on(&waiting.event, Err(fault)) || !self.begin_repair_after(&waiting.event, fault) {
+        if !goes_on(&waiting.event, fault) || !self.begin_repair_after(&waiting.event, fault) {
             return Err(ServeFault::Node(fault));
         }
         self.desk.show(&self.cluster)?;

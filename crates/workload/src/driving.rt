@@ -9,8 +9,7 @@
 //! What comes of a line is printed as `play` prints it. A call that finds no memory is told as `I E 92 OutOfMemory`, and
 //! may be made again.
 
-ghost use Rattle.std.specs.Prelude.{◌≡◌, ◌<◌, IsTrue};
-ghost use Rattle.dealer_world.specs.Stepping.{IsFor};
+ghost use Rattle.std.specs.Prelude.{◌≡◌, ◌<◌};
 
 use crate::frames::from_hexadecimal;
 use crate::telling::{put_event, put_frames_from};
@@ -196,22 +195,6 @@ fn told_words(words: &str) -> Option<(u8, u8, &str)> {
     Some((from.parse().ok()?, to.parse().ok()?, digits))
 }
 
-/// Whether an event names nodes and seats that there are.
-fn is_for(nodes: usize, players: usize, event: &Event) -> bool
-    ensures { IsTrue result → IsFor nodes players event.now }
-{
-    match event {
-        Event::Frame { from, to, .. } => (*from as usize) < nodes && (*to as usize) < nodes,
-        Event::Line { node, seat, .. }
-        | Event::Connect { node, seat }
-        | Event::Drop { node, seat } => (*node as usize) < nodes && (*seat as usize) < players,
-        Event::Tick { node }
-        | Event::Away { node }
-        | Event::Stop { node, .. }
-        | Event::Start { node } => { (*node as usize) < nodes }
-    }
-}
-
 /// Gives an event to its node, and puts what comes of it.
 fn happen<D: Disk + Drop>(
     cluster: &mut Cluster<D>,
@@ -220,7 +203,7 @@ fn happen<D: Disk + Drop>(
 ) -> Result<(), AllocError> {
     let nodes = cluster.node_count();
     let players = cluster.config().game().players();
-    if !is_for(nodes, players, event) {
+    if !event.is_for(nodes, players) {
         return out.extend_from_slice(b"E 110 BadScript\n");
     }
     let first = cluster.frame_count();

@@ -1,4 +1,4 @@
-use Rattle.std.proofs.Common.{◌+◌, ◌-◌, ◌++◌, List, [], ◌∷◌, sym, ap, ◌∙◌, rules, arith, length-append}
+use Rattle.std.proofs.Common.{◌+◌, ◌++◌, List, [], ◌∷◌, sym, ap, ◌∙◌, rules, arith, length-append}
 use Rattle.std.proofs.lemmas.List.{append-nil}
 use Rattle.slot_log.specs.declared.command.Command.{Command}
 use Rattle.proposer.proofs.ToldCommands.{none_told_past, goes_on, none_follows, none_told, is_done}
