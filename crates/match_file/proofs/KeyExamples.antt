@@ -1,5 +1,5 @@
--- What a node reads of a key, of tokens, of patience and of where its status is asked for; and near misses.
-use Rattle.std.proofs.Common.{◌≡◌, ℕ, pos, Bool, true, false, List, [], ◌∷◌, ◌++◌, replicate, Some, None, refl, arith}
+-- What a node reads of a key, of tokens, of absent seats and of where its status is asked for; and near misses.
+use Rattle.std.proofs.Common.{◌≡◌, ℕ, pos, Bool, true, false, List, [], ◌∷◌, ◌++◌, replicate, slice_index, Some, None, refl, ap, arith}
 use Rattle.std.specs.Prelude.{codes}
 use Rattle.std.specs.declared.net.ip_addr.IpAddr.TheVariants as Ip
 use Rattle.std.specs.declared.net.socket_addr.SocketAddr.{SocketAddr}
@@ -7,15 +7,17 @@ use Rattle.std.specs.declared.net.socket_addr.SocketAddr.TheVariants.{V4}
 use Rattle.hex.proofs.OnLiterals.{hex_on_literals}
 use Rattle.toml.specs.Data.{Data, string, integer, array, table, Members, no_members, member}
 use Rattle.toml.specs.View.{items_of}
+use Rattle.match_file.specs.declared.absent.Absent.TheVariants.{Wait, Play}
 use Rattle.match_file.specs.declared.key.Key.{Key}
-use Rattle.match_file.specs.declared.key.Key.TheVariants.{Stores, KeyFile, Peers, Tokens, Patience}
+use Rattle.match_file.specs.declared.key.Key.TheVariants.{Node, Stores, Away, KeyFile, Peers, From, Tokens, Patience, Start}
 use Rattle.match_file.specs.declared.match_fault.MatchFault.TheVariants.{BadEntry}
 use Rattle.match_file.specs.Keys.{key_text}
 use Rattle.match_file.specs.Said.{IsAbsent}
 use Rattle.match_file.specs.Addresses.{is_loopback, has_key, is_usable, with_host, SaysStatus}
 use Rattle.match_file.specs.Tokens.{SaysDigest, SaysTokens}
-use Rattle.match_file.specs.NodeEntries.{SaysKey, IsPatience, SaysPatience, IsUnrun}
-use Rattle.match_file.specs.Unused.{unused_keys, passed_keys}
+use Rattle.match_file.specs.Absences.{SaysAway}
+use Rattle.match_file.specs.NodeEntries.{SaysKey, IsUnrun}
+use Rattle.match_file.specs.Unused.{unused_keys, unused_by_node}
 use Rattle.match_file.proofs.Tokening.{no_digest, none_for_far, other_count}
 
 -- a file with one entry
@@ -168,31 +170,30 @@ no_tokens_passed_over says = let e : Some (array (items_of (string ten ∷ strin
 not_for_three : IsAbsent (SaysTokens 3 [] two_tokens)
 not_for_three = other_count 3 [] two_tokens (string ten ∷ string ten ∷ []) refl (λ same. omega (arith, same))
 
--- ---- patience
+-- ---- absent seats
 
-waited_for_ever : SaysPatience no_members None
-waited_for_ever = tt
+nothing_said_of_them : SaysAway no_members None
+nothing_said_of_them = tt
 
-least_patience : SaysPatience (only Patience (integer (pos 1))) (Some 1)
-least_patience = record { number = refl; least = omega arith; most = omega arith }
+nothing_said_is_not_waiting : SaysAway no_members (Some Wait) → ⊥
+nothing_said_is_not_waiting says = says
 
-greatest_patience : SaysPatience (only Patience (integer (pos 86400))) (Some 86400)
-greatest_patience = record { number = refl; least = omega arith; most = omega arith }
+played_for : SaysAway (only Away (string (codes "play"))) (Some Play)
+played_for = refl
 
-patience_said : (said seconds : ℕ) → IsPatience (integer (pos said)) seconds → said ≡ seconds
-patience_said said seconds says = let e : integer (pos said) ≡ integer (pos seconds) = says.number in cc
+waited_for : SaysAway (only Away (string (codes "wait"))) (Some Wait)
+waited_for = refl
 
-no_patience : IsAbsent (SaysPatience (only Patience (integer (pos 0))))
-no_patience None says = says
-no_patience (Some seconds) says = omega (arith, says.least, patience_said 0 seconds says)
+not_the_other : SaysAway (only Away (string (codes "wait"))) (Some Play) → ⊥
+not_the_other says =
+    let same : codes "wait" ≡ codes "play" = cc in
+    let e : 119 ≡ 112 = ap (λ (text : List ℕ). slice_index text 0) same in
+    omega (arith, e)
 
-more_than_a_day : IsAbsent (SaysPatience (only Patience (integer (pos 86401))))
-more_than_a_day None says = says
-more_than_a_day (Some seconds) says = omega (arith, says.most, patience_said 86401 seconds says)
-
-no_patience_as_a_text : IsAbsent (SaysPatience (only Patience (string (codes "30"))))
-no_patience_as_a_text None says = says
-no_patience_as_a_text (Some seconds) says = let e : string (codes "30") ≡ integer (pos seconds) = says.number in cc
+no_other_word : IsAbsent (SaysAway (only Away (string (codes "never"))))
+no_other_word None says = says
+no_other_word (Some Wait) says = let e : string (codes "never") ≡ string (codes "wait") = says in cc
+no_other_word (Some Play) says = let e : string (codes "never") ≡ string (codes "play") = says in cc
 
 -- ---- in which order they are told
 
@@ -200,23 +201,46 @@ abbrev in_folders : Members → Members
 in_folders more = member (codes "stores") (string (codes "s")) (member (codes "logs") (string (codes "l")) more)
 
 key_told : IsUnrun 2 (in_folders (only KeyFile (integer (pos 1)))) (BadEntry KeyFile)
-key_told = (((codes "s", refl), (codes "l", refl)), no_key_of_a_number)
+key_told = (((codes "s", refl), (codes "l", refl)), (None, tt), no_key_of_a_number)
+
+-- absent seats are told before a key
+away_told : IsUnrun 2 (in_folders (member (codes "away") (string (codes "never")) keyed)) (BadEntry Away)
+away_told = (((codes "s", refl), (codes "l", refl)), no_other_word)
+
+no_key_before_away : IsUnrun 2 (in_folders (member (codes "away") (string (codes "never")) (only KeyFile (integer (pos 1))))) (BadEntry KeyFile) → ⊥
+no_key_before_away wrong = no_other_word wrong.1.0 wrong.1.1
 
 no_key_before_logs : IsUnrun 2 (only Stores (string (codes "s"))) (BadEntry KeyFile) → ⊥
 no_key_before_logs wrong = let e : None ≡ Some (string wrong.0.1.0) = wrong.0.1.1 in cc
 
 no_peers_before_key : IsUnrun 2 (in_folders (only KeyFile (integer (pos 1)))) (BadEntry Peers) → ⊥
-no_peers_before_key wrong = no_key_of_a_number wrong.1.0 wrong.1.1
+no_peers_before_key wrong = no_key_of_a_number wrong.2.0 wrong.2.1
 
 no_patience_before_seats : IsUnrun 2 (in_folders (only Patience (integer (pos 0)))) (BadEntry Patience) → ⊥
 no_patience_before_seats wrong = let e : None ≡ Some (array (items_of wrong.1.seats_of.0)) = wrong.1.seats_of.1 in cc
 
--- `status` stands in a node's table alone
-all_used : unused_keys (member (codes "key") (string (codes "k")) (member (codes "patience") (integer (pos 9)) (member (codes "tokens") (array (items_of [])) no_members))) ≡ []
+no_start_before_seats : IsUnrun 2 (in_folders (only Start (integer (pos 0)))) (BadEntry Start) → ⊥
+no_start_before_seats wrong = let e : None ≡ Some (array (items_of wrong.1.seats_of.0)) = wrong.1.seats_of.1 in cc
+
+-- `status` and `from` stand in a node's table alone
+all_used : unused_keys (member (codes "key") (string (codes "k")) (member (codes "patience") (integer (pos 9)) (member (codes "start") (integer (pos 9)) (member (codes "tokens") (array (items_of [])) no_members)))) ≡ []
 all_used = refl
 
-status_at_the_top : unused_keys (member (codes "status") (string (codes "21900")) no_members) ≡ codes "status" ∷ []
+status_at_the_top : unused_keys (member (codes "from") (string (codes "::1")) (member (codes "status") (string (codes "21900")) no_members)) ≡ codes "from" ∷ codes "status" ∷ []
 status_at_the_top = refl
 
-key_not_passed_over : passed_keys keyed ≡ []
-key_not_passed_over = refl
+key_is_used : unused_by_node keyed ≡ []
+key_is_used = refl
+
+start_is_not : unused_by_node (member (codes "start") (integer (pos 9)) no_members) ≡ Start ∷ []
+start_is_not = refl
+
+-- of `from` it is where it stands in one of the tables, and not at the top
+abbrev from_there : Data
+from_there = table (member (codes "from") (string (codes "::1")) no_members)
+
+nor_from : unused_by_node (only Node (array (items_of (table no_members ∷ from_there ∷ [])))) ≡ From ∷ []
+nor_from = refl
+
+no_from_at_the_top : unused_by_node (member (codes "from") (string (codes "::1")) (only Node (array (items_of (table no_members ∷ []))))) ≡ []
+no_from_at_the_top = refl

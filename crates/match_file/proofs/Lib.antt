@@ -14,3 +14,7 @@ pub mod Tokening
 pub mod Entering
 pub mod NodeExamples
 pub mod KeyExamples
+pub mod Timing
+pub mod TimeExamples
+pub mod Hosting
+pub mod HostExamples

@@ -14,7 +14,7 @@ use Rattle.match_file.specs.declared.key.Key.TheVariants.{Logs, Port, Away, Peer
 use Rattle.match_file.specs.declared.match_fault.MatchFault.TheVariants.{BadEntry}
 use Rattle.match_file.specs.Identities.{identified_text, node_kept_text, life_text}
 use Rattle.match_file.specs.SourceTexts.{deal_line, source_text}
-use Rattle.match_file.specs.Unused.{unused_keys, passed_keys}
+use Rattle.match_file.specs.Unused.{unused_keys, unused_by_node}
 use Rattle.match_file.specs.NodeEntries.{IsUnrun}
 
 -- ---- kept texts
@@ -89,12 +89,12 @@ nothing_unused = refl
 peers_at_the_top : unused_keys (member (codes "peers") (string (codes "10.0.0.7:21000")) no_members) ≡ codes "peers" ∷ []
 peers_at_the_top = refl
 
--- they are passed over right or wrong
-two_passed_over : passed_keys of_both ≡ Port ∷ Away ∷ []
-two_passed_over = refl
+-- by these a node doesn't go, right or wrong
+two_unused_by_node : unused_by_node of_both ≡ Port ∷ Away ∷ []
+two_unused_by_node = refl
 
-none_passed_over : passed_keys (member (codes "stores") (string (codes "s")) no_members) ≡ []
-none_passed_over = refl
+none_unused_by_node : unused_by_node (member (codes "stores") (string (codes "s")) no_members) ≡ []
+none_unused_by_node = refl
 
 abbrev in_folder : Members
 in_folder = member (codes "stores") (string (codes "s")) no_members
@@ -111,4 +111,4 @@ no_seats_before_logs wrong = let e : None ≡ Some (string wrong.0.1.0) = wrong.
 
 -- no port is asked for
 no_port : IsUnrun 2 no_members (BadEntry Port) → ⊥
-no_port wrong = absurd wrong.2
+no_port wrong = absurd wrong.3

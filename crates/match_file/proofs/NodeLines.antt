@@ -1,5 +1,5 @@
 -- The lines of what is kept beside a node's store.
-use Rattle.std.proofs.Common.{◌≡◌, ℕ, List, [], ◌++◌, ap, ◌∙◌, codes, decimal}
+use Rattle.std.proofs.Common.{◌≡◌, ℕ, List, [], ap, ◌∙◌, codes, decimal}
 use Rattle.hex.specs.Hex.{encode_lower}
 use Rattle.match_file.specs.Kept.{line}
 use Rattle.match_file.specs.Identities.{life_line}

@@ -10,12 +10,13 @@ use Rattle.std.specs.Net.Socket.{socket_ip, socket_port}
 use Rattle.std.specs.Net.Grammar.{IsSocketText}
 use Rattle.toml.specs.Data.{Data, Members, string, get}
 use Rattle.match_file.specs.declared.key.Key.{Key}
-use Rattle.match_file.specs.declared.key.Key.TheVariants.{Node, KeyFile, Peers, Seats, Status}
+use Rattle.match_file.specs.declared.key.Key.TheVariants.{Node, KeyFile, Peers, Seats, Status, From}
 use Rattle.match_file.specs.declared.match_fault.MatchFault.{MatchFault}
 use Rattle.match_file.specs.declared.match_fault.MatchFault.TheVariants.{BadEntry, OutOfMemory}
 use Rattle.match_file.specs.Keys.{key_text}
 use Rattle.match_file.specs.Matches.{entry_at}
 use Rattle.match_file.specs.Said.{IsAbsent, IsThere, SaysEach}
+use Rattle.match_file.specs.Hosts.{SaysFroms}
 
 -- the number is one of these
 abbrev pub is_within : ℕ → ℕ → ℕ → Bool
@@ -90,5 +91,7 @@ IsUnreached players table (BadEntry Peers) = IsAbsent (SaysAddresses Peers 1 tab
 IsUnreached players table (BadEntry Seats) = IsThere (SaysAddresses Peers 1 table) × IsAbsent (SaysAddresses Seats players table)
 IsUnreached players table (BadEntry Status) =
     IsThere (SaysAddresses Peers 1 table) × IsThere (SaysAddresses Seats players table) × IsAbsent (SaysStatuses table)
+IsUnreached players table (BadEntry From) =
+    IsThere (SaysAddresses Peers 1 table) × IsThere (SaysAddresses Seats players table) × IsThere (SaysStatuses table) × IsAbsent (SaysFroms table)
 IsUnreached players table OutOfMemory = Unit {0}
 IsUnreached players table fault = ⊥

@@ -1,7 +1,7 @@
 -- The keys of a match file.
 use Rattle.std.specs.Prelude.{ℕ, List, codes}
 use Rattle.match_file.specs.declared.key.Key.{Key}
-use Rattle.match_file.specs.declared.key.Key.TheVariants.{Name, Game, Hands, Names, Node, Stores, Logs, Port, Outage, Away, KeyFile, Peers, Seats, Status, Tokens, Patience}
+use Rattle.match_file.specs.declared.key.Key.TheVariants.{Name, Game, Hands, Names, Node, Stores, Logs, Port, Outage, Away, KeyFile, Peers, Seats, Status, From, Tokens, Patience, Start}
 
 -- a key as it stands in the file
 abbrev pub key_text : Key → List ℕ
@@ -19,5 +19,7 @@ key_text KeyFile = codes "key"
 key_text Peers = codes "peers"
 key_text Seats = codes "seats"
 key_text Status = codes "status"
+key_text From = codes "from"
 key_text Tokens = codes "tokens"
 key_text Patience = codes "patience"
+key_text Start = codes "start"

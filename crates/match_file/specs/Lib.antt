@@ -10,8 +10,10 @@ pub mod Unused
 pub mod Kept
 pub mod KeptLines
 pub mod KeptMatch
+pub mod Hosts
 pub mod Addresses
 pub mod Tokens
+pub mod Times
 pub mod NodeEntries
 pub mod Identities
 pub mod SourceTexts

@@ -1,18 +1,21 @@
-ghost use Rattle.std.specs.Prelude.{◌≡◌, MatchOption};
+ghost use Rattle.std.specs.Prelude.{◌≡◌, MatchOption, MatchResult};
 ghost use Rattle.toml.specs.Data.{string};
 ghost use Rattle.toml.specs.View.{view};
-ghost use Rattle.match_file.specs.Absences.{absent_text, SaysAbsent};
+ghost use Rattle.match_file.specs.Absences.{absent_text, SaysAbsent, SaysAway};
 ghost use Rattle.match_file.specs.Said.{IsAbsent};
+ghost use Rattle.match_file.specs.Refusals.{IsToldOf};
+ghost use Rattle.match_file.specs.declared.key.Key.TheVariants.{Away};
 
 use crate::entries::{at, text_of};
 use crate::key::Key;
+use crate::match_fault::MatchFault;
 use crate::match_file::MatchFile;
 use toml::Value;
 
-/// What is done about a seat that was dropped while its match is served.
+/// What is done about a seat that was dropped while its match is served, or for which nodes in processes of their own wait.
 #[derive(Clone, Copy, Debug, PartialEq, Eq)]
 pub enum Absent {
-    /// It is waited for, at the next node.
+    /// It is waited for; by `serve` at the next node.
     Wait,
     /// It is played for: at each of its turns it folds where it faces something, and else calls.
     Play,
@@ -28,6 +31,19 @@ impl MatchFile {
         match at(&self.table, Key::Away) {
             Some(value) => absent_of(value),
             None => Some(Absent::Wait),
+        }
+    }
+
+    /// What nodes in processes of their own do about seats; none where there is no entry.
+    pub(crate) fn away(&self) -> Result<Option<Absent>, MatchFault>
+        ensures { MatchResult result (SaysAway (members self.now)) (IsToldOf Away (IsAbsent (SaysAway (members self.now)))) }
+    {
+        match at(&self.table, Key::Away) {
+            Some(value) => match absent_of(value) {
+                Some(absent) => Ok(Some(absent)),
+                None => Err(MatchFault::BadEntry(Key::Away)),
+            },
+            None => Ok(None),
         }
     }
 }

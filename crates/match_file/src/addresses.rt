@@ -6,6 +6,7 @@ ghost use Rattle.toml.specs.View.{view};
 ghost use Rattle.match_file.specs.Said.{IsAbsent, EachSays};
 ghost use Rattle.match_file.specs.Refusals.{IsToldOf};
 ghost use Rattle.match_file.specs.Addresses.{has_key, is_usable, IsAddress, SaysAddress, SaysAddresses, SaysStatuses, IsUnreached};
+ghost use Rattle.match_file.specs.Hosts.{SaysFroms};
 ghost use Rattle.match_file.specs.declared.key.Key.TheVariants.{Peers, Seats};
 
 use crate::entries::{array_at, at, text_of};
@@ -14,7 +15,7 @@ use crate::match_fault::MatchFault;
 use crate::match_file::MatchFile;
 use crate::trusted::is_trusted;
 use std::alloc::Global;
-use std::net::SocketAddr;
+use std::net::{IpAddr, SocketAddr};
 use toml::Value;
 
 /// Where the nodes of a match are reached, each in a process of its own, by number: addresses that are trusted, or any
@@ -27,28 +28,33 @@ pub struct Addresses {
     pub seats: Vec<SocketAddr>,
     /// Where each node awaits who asks how it is, any address; none where it can't be asked.
     pub status: Vec<Option<SocketAddr>>,
+    /// From which addresses each node dials, besides that at which the others reach it; any addresses.
+    pub from: Vec<Vec<IpAddr>>,
 }
 
 impl MatchFile {
     ghost use Rattle.match_file.specs.MatchFile.{members};
 
-    /// Where the nodes are reached, in a match of so many players: what stands at `peers`, at `seats` and at `status` in
-    /// each node's table. The fault is 101 `BadEntry` of the first of these that is wrong in one of the tables, or 92
-    /// `OutOfMemory`.
+    /// Where the nodes are reached, in a match of so many players: what stands at `peers`, `seats`, `status` and
+    /// `from` in each node's table. The fault is 101 `BadEntry` of the first of these that is wrong in one of the tables, or
+    /// 92 `OutOfMemory`.
     pub fn addresses(&self, alloc: Global, players: usize) -> Result<Addresses, MatchFault>
         requires { players ≤ 10 }
         ensures peers { IfOk result (λ all. SaysAddresses Peers 1 (members self.now) all.peers.items) }
         ensures seats { IfOk result (λ all. SaysAddresses Seats players (members self.now) all.seats.items) }
         ensures status { IfOk result (λ all. SaysStatuses (members self.now) all.status.items) }
+        ensures from { IfOk result (λ all. SaysFroms (members self.now) all.from.items) }
         ensures fault { IfErr result (IsUnreached players (members self.now)) }
     {
         let peers = self.addresses_at(alloc, Key::Peers, 1)?;
         let seats = self.addresses_at(alloc, Key::Seats, players)?;
         let status = self.statuses(alloc)?;
+        let from = self.froms(alloc)?;
         Ok(Addresses {
             peers,
             seats,
             status,
+            from,
         })
     }
 

@@ -32,10 +32,14 @@ pub enum Key {
     Seats,
     /// Where a node awaits who asks how it is, in its table.
     Status,
+    /// From which addresses a node dials, in its table.
+    From,
     /// The digests of the seats' tokens.
     Tokens,
     /// How long a seat that doesn't act is waited for.
     Patience,
+    /// How long seats are waited for that haven't come yet.
+    Start,
 }
 
 impl Key {
@@ -58,8 +62,10 @@ impl Key {
             Key::Peers => "peers",
             Key::Seats => "seats",
             Key::Status => "status",
+            Key::From => "from",
             Key::Tokens => "tokens",
             Key::Patience => "patience",
+            Key::Start => "start",
         }
     }
 }

@@ -4,12 +4,13 @@
 //! that file and game file say. `stores` and `service` answer what the nodes on disk and over TCP need besides,
 //! `node_entries` what a node needs that runs in a process of its own, the addresses of all among it. Each looks at its
 //! keys in the order in which they are listed and answers the first fault; keys that it doesn't look at are passed over,
-//! right or wrong; `unused` tells those that no command reads. `kept_text` is what is kept of a match beside its stores,
-//! and `kept_difference` in what a kept one is another; the identity in front of it (`read_identified`), `NodeKept` and a
-//! peer's life are what lies beside the store of a node in a process of its own. Nothing here opens a file.
+//! right or wrong; `unused` tells those that no command reads, and `unused_by_node` those by which a node in a process of
+//! its own doesn't go. `kept_text` is what is kept of a match beside its stores, and `kept_difference` in what a kept one
+//! is another; the identity in front of it (`read_identified`), `NodeKept` and a peer's life are what lies beside the
+//! store of a node in a process of its own. Nothing here opens a file.
 //!
-//! The tests `a_match_is_what_its_files_say`, `what_is_served_is_what_the_file_says` and `a_node_reads_its_entries` of
-//! `rule_tests` walk this way.
+//! `holdem_table` walks this way in its commands, and `tests/bad_input/match_rows.py` has rows of files that are right and
+//! wrong.
 //! Faults: `MatchFault`, 100 to 102, 104 and 92, the first in the order that `specs/Refusals.antt` states.
 #![tactic(auto)]
 
@@ -20,6 +21,7 @@ mod difference;
 mod digest;
 mod entries;
 mod hex_lines;
+mod hosts;
 mod kept;
 mod kept_lines;
 mod kept_match;
@@ -36,6 +38,7 @@ mod sameness;
 mod seat_names;
 mod service;
 mod statuses;
+mod times;
 mod tokens;
 mod trusted;
 mod unused;

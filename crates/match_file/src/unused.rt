@@ -1,13 +1,20 @@
-ghost use Rattle.std.specs.Prelude.{◌≡◌, IfOk, map};
+ghost use Rattle.std.specs.Prelude.{◌≡◌, IfOk, is_some, map};
+ghost use Rattle.std.specs.List.{list_any};
+ghost use Rattle.toml.specs.Data.{get};
+ghost use Rattle.toml.specs.View.{view};
+ghost use Rattle.match_file.specs.Keys.{key_text};
+ghost use Rattle.match_file.specs.Matches.{entry_at};
 ghost use Rattle.match_file.specs.Unused.{is_used};
+ghost use Rattle.match_file.specs.declared.key.Key.TheVariants.{Node, From};
 
-use crate::entries::at;
+use crate::entries::{array_at, at};
 use crate::key::Key;
 use crate::match_file::MatchFile;
 use std::alloc::{AllocError, Global};
+use toml::Value;
 
 /// The keys that commands read.
-const KEYS: [Key; 13] = [
+const KEYS: [Key; 14] = [
     Key::Name,
     Key::Game,
     Key::Hands,
@@ -21,14 +28,15 @@ const KEYS: [Key; 13] = [
     Key::KeyFile,
     Key::Tokens,
     Key::Patience,
+    Key::Start,
 ];
 
-/// The keys that `serve` alone reads: a node in a process of its own passes them over.
-const SERVED: [Key; 3] = [Key::Port, Key::Outage, Key::Away];
+/// The keys by which a node in a process of its own doesn't go: two of `serve` alone, and three that it only reads.
+const UNUSED: [Key; 5] = [Key::Port, Key::Outage, Key::Away, Key::From, Key::Start];
 
 impl MatchFile {
     ghost use Rattle.match_file.specs.MatchFile.{members};
-    ghost use Rattle.match_file.specs.Unused.{unused_keys, passed_keys};
+    ghost use Rattle.match_file.specs.Unused.{unused_keys, unused_by_node, is_there, has_from};
 
     /// The keys that no command reads, in the table's order.
     pub fn unused(&self, alloc: Global) -> Result<Vec<&str>, AllocError>
@@ -43,19 +51,48 @@ impl MatchFile {
         Ok(unused)
     }
 
-    /// The keys that stand in the file and that a node in a process of its own passes over, right or wrong: those of
-    /// `port`, `outage` and `away`, in this order.
-    pub fn passed_over(&self, alloc: Global) -> Result<Vec<Key>, AllocError>
-        ensures { IfOk result (λ keys. keys.items ≡ passed_keys (members self.now)) }
+    /// The keys that stand in the file and by which a node in a process of its own doesn't go: those of `port`, `outage`,
+    /// `away`, `from` (in a node's table) and `start`, in this order.
+    pub fn unused_by_node(&self, alloc: Global) -> Result<Vec<Key>, AllocError>
+        ensures { IfOk result (λ keys. keys.items ≡ unused_by_node (members self.now)) }
     {
-        let mut passed = Vec::new(alloc);
-        for key in &SERVED {
-            if at(&self.table, *key).is_some() {
-                passed.push(*key)?;
+        let mut unused = Vec::new(alloc);
+        for key in &UNUSED {
+            if self.is_there(*key) {
+                unused.push(*key)?;
             }
         }
-        Ok(passed)
+        Ok(unused)
     }
+
+    /// Whether something stands at a key: `from` in a node's table, any other at the top.
+    fn is_there(&self, key: Key) -> bool
+        ensures { result ≡ is_there key (members self.now) }
+    {
+        match key {
+            Key::From => self.has_from(),
+            _ => at(&self.table, key).is_some(),
+        }
+    }
+
+    /// Whether a node's table has `from`.
+    fn has_from(&self) -> bool
+        ensures { result ≡ has_from (entry_at Node (members self.now)) }
+    {
+        match array_at(&self.table, Key::Node) {
+            Some(values) => is_from_among(values),
+            None => false,
+        }
+    }
+}
+
+/// Whether one of these tables has `from`.
+fn is_from_among(values: &[Value]) -> bool
+    ensures { result ≡ list_any (λ value. is_some (get (key_text From) (view value))) values.now }
+{
+    values
+        .iter()
+        .any(|value| value.get(Key::From.text()).is_some())
 }
 
 /// Whether some command reads what stands at a key.
