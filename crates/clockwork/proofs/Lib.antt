@@ -1,4 +1,5 @@
 pub mod Examples
+mod WatchExamples
 mod Lists
 mod Ticking
 mod Later

@@ -1,5 +1,5 @@
 -- What holds of every tick, and that each tick that is needed comes.
-use Rattle.std.specs.Prelude.{◌≡◌, ◌⊎◌, ℕ, ◌+◌, ◌-◌, ◌<◌, ◌≤◌, Bool, true, false, if◌then◌else◌, nat_lt, length, map, Option, Some, None, IfSome, All}
+use Rattle.std.specs.Prelude.{◌≡◌, ◌⊎◌, ℕ, ◌+◌, ◌-◌, ◌<◌, ◌≤◌, Bool, true, false, if◌then◌else◌, length, map, Option, Some, None, IfSome, All}
 use Rattle.clockwork.specs.declared.known.Ticks.{Ticks}
 use Rattle.clockwork.specs.declared.known.PeerReport.{PeerReport}
 use Rattle.clockwork.specs.declared.known.Link.{Link}
@@ -8,6 +8,7 @@ use Rattle.clockwork.specs.declared.known.Peer.{Peer}
 use Rattle.clockwork.specs.declared.known.Known.{Known}
 use Rattle.clockwork.specs.declared.answer.Due.TheVariants.{Now}
 use Rattle.clockwork.specs.declared.limits.TheConstants.{LONGEST, MOST_HELP, MOST_PEERS}
+use Rattle.clockwork.specs.Silence.{is_heard}
 use Rattle.clockwork.specs.Waits.{doubled}
 use Rattle.clockwork.specs.Presence.{slowest, lag_of, is_quorate, is_behind, behind_wait}
 use Rattle.clockwork.specs.Work.{has_work, one_reopened, is_untold, soon_in}
@@ -77,7 +78,7 @@ ten_seconds = 10000000
 abbrev pub heard_again : ℕ → ℕ → Link → Link
 heard_again time pace (Closed since) = Closed since
 heard_again time pace (Open connection) =
-    if nat_lt (time - connection.heard) pace then Open (record connection { heard = time + ten_seconds }) else Open connection
+    if is_heard connection.heard time pace then Open (record connection { heard = time + ten_seconds }) else Open connection
 
 abbrev pub peer_later : ℕ → ℕ → Peer → Peer
 peer_later time pace peer = record peer { link = heard_again time pace peer.link }

@@ -1,3 +1,4 @@
+pub mod Silence
 pub mod Waits
 pub mod Presence
 pub mod Ranks
@@ -7,3 +8,5 @@ pub mod Work
 pub mod Dues
 pub mod Laws
 pub mod ActionTimeout
+pub mod PeerReports
+pub mod Watches

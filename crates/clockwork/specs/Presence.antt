@@ -1,16 +1,17 @@
 -- Who is present, and how long the slowest took.
-use Rattle.std.specs.Prelude.{ℕ, ◌+◌, ◌-◌, ◌*◌, min, max, Bool, false, not, ◌&&◌, if◌then◌else◌, nat_lt, List, length, Option, Some, None, unwrap_or, is_some, fold, count_by}
+use Rattle.std.specs.Prelude.{ℕ, ◌+◌, ◌*◌, min, max, Bool, false, not, ◌&&◌, if◌then◌else◌, nat_lt, List, length, Option, Some, None, unwrap_or, is_some, fold, count_by}
 use Rattle.std.specs.List.{list_any}
 use Rattle.clockwork.specs.declared.known.PeerReport.{PeerReport}
 use Rattle.clockwork.specs.declared.known.Link.{Link}
 use Rattle.clockwork.specs.declared.known.Link.TheVariants.{Closed, Open}
 use Rattle.clockwork.specs.declared.known.Peer.{Peer}
 use Rattle.clockwork.specs.declared.limits.TheConstants.{SHORTEST, LONGEST, SLACK, LAG, STEP, ALONE, BEHIND}
+use Rattle.clockwork.specs.Silence.{is_heard}
 
 -- how long the last round trip took, of a peer that was heard lately
 unfoldable pub trip : ℕ → Link → ℕ
 trip time (Closed since) = 0
-trip time (Open connection) = if nat_lt (time - connection.heard) LONGEST then unwrap_or connection.round_trip 0 else 0
+trip time (Open connection) = if is_heard connection.heard time LONGEST then unwrap_or connection.round_trip 0 else 0
 
 -- the longest of these and of the node's own last call
 unfoldable pub slowest : ℕ → ℕ → List Peer → ℕ
@@ -32,7 +33,7 @@ soon_of slowest = min LONGEST (max STEP slowest)
 -- what a peer told, where it is present: its connection is open, something came over it within so long, and it told its front over it
 unfoldable pub told : ℕ → ℕ → Link → Option PeerReport
 told time pace (Closed since) = None
-told time pace (Open connection) = if nat_lt (time - connection.heard) pace then connection.beat else None
+told time pace (Open connection) = if is_heard connection.heard time pace then connection.beat else None
 
 -- how many peers are present
 unfoldable pub present : ℕ → ℕ → List Peer → ℕ

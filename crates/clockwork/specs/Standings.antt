@@ -1,5 +1,5 @@
 -- How a node stands to the node whose ballot it has promised.
-use Rattle.std.specs.Prelude.{ℕ, ◌+◌, ◌-◌, ◌==◌, Bool, true, false, not, ◌&&◌, if◌then◌else◌, nat_lt, Option, Some, None, find}
+use Rattle.std.specs.Prelude.{ℕ, ◌+◌, ◌==◌, Bool, true, false, not, ◌&&◌, if◌then◌else◌, Option, Some, None, find}
 use Rattle.clockwork.specs.declared.known.PeerReport.{PeerReport}
 use Rattle.clockwork.specs.declared.known.Link.{Link}
 use Rattle.clockwork.specs.declared.known.Link.TheVariants.{Closed, Open}
@@ -7,6 +7,7 @@ use Rattle.clockwork.specs.declared.known.Peer.{Peer}
 use Rattle.clockwork.specs.declared.known.Known.{Known}
 use Rattle.clockwork.specs.declared.standing.Standing.{Standing}
 use Rattle.clockwork.specs.declared.standing.Standing.TheVariants.{Campaigns, Fresh, Led, Lost, Idle, Follows}
+use Rattle.clockwork.specs.Silence.{is_heard}
 use Rattle.clockwork.specs.Presence.{told}
 
 -- since when a peer has told that it doesn't campaign, where that is what it last told
@@ -17,7 +18,7 @@ idle_since (Some beat) = if beat.campaigns then None else Some beat.told
 -- since when a peer is known to be gone: its connection ended, or it has been silent for too long
 unfoldable pub gone_since : ℕ → ℕ → Link → Option ℕ
 gone_since time pace (Closed since) = Some since
-gone_since time pace (Open connection) = if nat_lt (time - connection.heard) pace then None else Some (connection.heard + pace)
+gone_since time pace (Open connection) = if is_heard connection.heard time pace then None else Some (connection.heard + pace)
 
 abbrev pub standing_by : ℕ → Option ℕ → Option ℕ → Standing
 standing_by leader (Some gone) idle = Lost leader gone

@@ -1,4 +1,4 @@
-/// Whether a node is to tick now.
+/// Whether something is due now: a tick, or an order that the seat to act is played for.
 #[derive(Clone, Copy, Debug, PartialEq, Eq)]
 pub enum Due {
     /// It is.

@@ -4,9 +4,11 @@
 //! answers, nothing that nodes promise can break; by it a match goes on soon after a process, a machine or a wire is lost,
 //! and not by many ballots at once.
 //!
-//! A process keeps a `Known`, and asks whenever something came, a connection opened or ended, or the moment of the last
-//! answer has come. By `has_work` and `is_behind` it knows when `work_since` and `behind_since` begin anew, by
-//! `is_quorate` whether it may keep its seats, by `pace` how long it hears out a silent connection. There are no faults.
+//! A process keeps a `Watch`, which has what is seen of its node and since when, and of each peer what that has told over
+//! an open connection and since when (`report_after`). Of both it makes a `Known`, and asks whenever something came, a
+//! connection opened or ended, or the moment of the last answer has come. By `has_work` and `is_behind` it knows when
+//! `work_since` and `behind_since` begin anew, by `is_quorate` whether it may keep its seats, by `pace` how long a silent
+//! peer counts as present (`is_heard`). There are no faults.
 //!
 //! The tests of `clockwork_lines` have the rules row by row, and `tests/processes_sim` lets simulated processes tick by them.
 #![tactic(auto)]
@@ -18,16 +20,22 @@ mod helping;
 mod known;
 pub mod laws;
 pub mod limits;
+mod peer_report;
 mod presence;
 mod ranks;
+pub mod silence;
 mod standing;
 mod waits;
+mod watch;
 mod work;
 
 pub use action_timeout::{Awaited, away_due};
 pub use answer::Due;
 pub use clock::due;
 pub use known::{Known, Link, OpenLink, Peer, PeerReport, Ticks};
+pub use peer_report::report_after;
 pub use presence::{is_behind, is_quorate, pace};
 pub use ranks::rank;
+pub use silence::is_heard;
+pub use watch::{Seen, Watch};
 pub use work::has_work;

@@ -6,6 +6,7 @@ ghost use Rattle.clockwork.specs.Laws.{quorate, behind};
 
 use crate::known::{Known, Link, Peer, PeerReport};
 use crate::limits::{ALONE, BEHIND, LAG, LONGEST, SHORTEST, SLACK, STEP};
+use crate::silence::is_heard;
 
 /// How long the last round trip to a peer took, where that was measured and something came of the peer within the longest
 /// time that a silent peer may count as present.
@@ -16,7 +17,7 @@ fn trip(time: u64, link: Link) -> u64
     match link {
         Link::Closed { .. } => 0,
         Link::Open(connection) => {
-            if time.saturating_sub(connection.heard) < LONGEST {
+            if is_heard(connection.heard, time, LONGEST) {
                 connection.round_trip.unwrap_or(0)
             } else {
                 0
@@ -89,7 +90,7 @@ pub(crate) fn told(time: u64, pace: u64, link: Link) -> Option<PeerReport>
     match link {
         Link::Closed { .. } => None,
         Link::Open(connection) => {
-            if time.saturating_sub(connection.heard) < pace {
+            if is_heard(connection.heard, time, pace) {
                 connection.beat
             } else {
                 None

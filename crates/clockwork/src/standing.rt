@@ -4,6 +4,7 @@ ghost use Rattle.clockwork.specs.Standings.{idle_since, gone_since, standing_ove
 
 use crate::known::{Known, Link, Peer, PeerReport};
 use crate::presence::told;
+use crate::silence::is_heard;
 
 /// How a node stands to the node whose ballot it has promised.
 #[derive(Clone, Copy)]
@@ -44,7 +45,7 @@ fn gone_since(time: u64, pace: u64, link: Link) -> Option<u64>
     match link {
         Link::Closed { since } => Some(since),
         Link::Open(connection) => {
-            if time.saturating_sub(connection.heard) < pace {
+            if is_heard(connection.heard, time, pace) {
                 None
             } else {
                 Some(connection.heard + pace)

@@ -1,10 +1,12 @@
 //! How connections end: by the wire, by a fault, or because they are stale.
 
 use crate::dialling::end_dial;
-use crate::limits::{LINKS, SILENCES, STRANGER};
+use crate::limits::{LINKS, STRANGER};
 use crate::link::dialled_at;
 use crate::peer::Peer;
 use crate::peers::Peers;
+use clockwork::is_heard;
+use clockwork::silence::SILENCES;
 use node_links::PeerFault;
 use node_links::limits::NODES;
 use node_wires::Wire;
@@ -149,9 +151,7 @@ impl Peers {
         };
         match self.joined_at(place) {
             Some(number) => match self.peers.get(number as usize) {
-                Some(peer) => {
-                    now.saturating_sub(peer.heard) >= self.silence.saturating_mul(SILENCES)
-                }
+                Some(peer) => { !is_heard(peer.heard, now, self.silence.saturating_mul(SILENCES)) }
                 None => true,
             },
             None => dialled_at(place).is_none() && now.saturating_sub(link.began) >= STRANGER,

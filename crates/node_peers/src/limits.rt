@@ -16,6 +16,3 @@ pub const BACKLOG: usize = 1024;
 
 /// One who dialled and isn't open after so long is let go.
 pub const STRANGER: u64 = 2_000_000;
-
-/// A connection over which nothing came for so many times as long as it takes a peer to count as absent is closed.
-pub const SILENCES: u64 = 4;

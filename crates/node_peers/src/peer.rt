@@ -3,6 +3,7 @@ ghost use Rattle.node_peers.specs.Sending.{IsSent};
 
 use crate::lines::Lines;
 use crate::view::View;
+use clockwork::is_heard;
 use node_links::limits::{KEPT, WAITING};
 use node_links::{
     Accepted, Asked, Dial, Forwarded, Notes, Outbox, Owed, OwnReport, PeerFault, Pulse, Question,
@@ -107,9 +108,9 @@ impl Peer {
         self.outbox.keep_newest(KEPT);
     }
 
-    /// Whether something came less than so long ago over an open connection.
+    /// Whether something was heard within so long over an open connection.
     pub(crate) fn is_here(&self, now: u64, silence: u64) -> bool {
-        self.open.is_some() && now.saturating_sub(self.heard) < silence
+        self.open.is_some() && is_heard(self.heard, now, silence)
     }
 
     /// A frame goes to the peer, or is dropped: an Ask that comes too soon behind another, and what is too old where too

@@ -1,9 +1,11 @@
 //! How a process ends whose match is over.
 
 use crate::desk::has_been_told;
-use crate::limits::{END_READ, SEATS, TOLD, UNHEARD};
+use crate::limits::{END_READ, SEATS, TOLD};
 use crate::outcome::Outcome;
 use crate::server::NodeServer;
+use clockwork::is_heard;
+use clockwork::silence::UNHEARD;
 use node_peers::View;
 use node_wires::Wire;
 use promise_store::Disk;
@@ -17,7 +19,7 @@ impl<D: Disk + Drop, W: Wire + Drop> NodeServer<D, W> {
         if view.is_open && now.saturating_sub(view.since) < TOLD {
             return false;
         }
-        self.reports.is_over(number) || now.saturating_sub(view.heard.max(self.began)) >= UNHEARD
+        self.reports.is_over(number) || !is_heard(view.heard.max(self.began), now, UNHEARD)
     }
 
     /// Whether no peer needs to be waited for.

@@ -17,9 +17,6 @@ pub const TOLD: u64 = 2 * node_links::limits::BEAT;
 /// So long seats may take, once the match is over, to read what they were told.
 pub const END_READ: u64 = 2_000_000;
 
-/// A peer that wasn't heard for so long isn't waited for once the match is over.
-pub const UNHEARD: u64 = 10_000_000;
-
 /// So long nothing goes on until it is told for which seat all wait,
 pub const WAITING: u64 = 5_000_000;
 

@@ -1,9 +1,7 @@
 //! The node of a process, and what its last call made.
 
-ghost use Rattle.std.specs.Prelude.{◌≡◌, ◌<◌, ◌↔◌, length, true, IsTrue, IfSome, IsNone};
+ghost use Rattle.std.specs.Prelude.{◌≡◌, true, IfSome, IsNone};
 ghost use Rattle.dealer_node.specs.Outs.{nothing_told};
-ghost use Rattle.dealer_world.specs.Events.{node_of};
-ghost use Rattle.dealer_world.specs.Stepping.{IsFor};
 ghost use Rattle.stations.specs.Stations.{Acts};
 ghost use Rattle.node_service.specs.Ending.{IsOverAt};
 
@@ -29,32 +27,6 @@ impl<D: Disk + Drop> Drop for LocalNode<D> {
     }
 }
 
-/// Whether an event is one of this node, in a match of so many nodes and players.
-fn is_for(event: &Event, number: u8, nodes: usize, players: usize) -> bool
-    ensures { IsTrue result ↔ ((node_of event.now ≡ number) × IsFor nodes players event.now) }
-{
-    match event {
-        Event::Frame { from, to, bytes: _ } => {
-            *to == number && (*from as usize) < nodes && (*to as usize) < nodes
-        }
-        Event::Line {
-            node,
-            seat,
-            bytes: _,
-        } => *node == number && (*node as usize) < nodes && (*seat as usize) < players,
-        Event::Tick { node } => *node == number && (*node as usize) < nodes,
-        Event::Away { node } => *node == number && (*node as usize) < nodes,
-        Event::Connect { node, seat } => {
-            *node == number && (*node as usize) < nodes && (*seat as usize) < players
-        }
-        Event::Drop { node, seat } => {
-            *node == number && (*node as usize) < nodes && (*seat as usize) < players
-        }
-        Event::Stop { node, pick: _ } => *node == number && (*node as usize) < nodes,
-        Event::Start { node } => *node == number && (*node as usize) < nodes,
-    }
-}
-
 impl<D: Disk + Drop> LocalNode<D> {
     ghost use Rattle.stations.specs.Looking.{look_of};
 
@@ -77,7 +49,7 @@ impl<D: Disk + Drop> LocalNode<D> {
         self.made.clear();
         let nodes = self.station.config().nodes();
         let players = self.station.config().game().players();
-        if !is_for(event, self.station.number(), nodes, players) {
+        if event.node() != self.station.number() || !event.is_for(nodes, players) {
             return None;
         }
         Some(self.station.step(event, &mut self.made))

@@ -5,9 +5,8 @@ ghost use Rattle.clockwork.specs.declared.limits.TheConstants.{MOST_PEERS};
 
 use crate::limits::NODES;
 use clockwork::limits::MOST_PEERS;
-use clockwork::{Link, OpenLink, Peer, PeerReport};
+use clockwork::{Link, OpenLink, Peer, PeerReport, report_after};
 use node_peers::View;
-use node_watch::report_after;
 use peer_codes::Beat;
 
 /// What a peer has told of itself.
@@ -59,7 +58,7 @@ impl LastReport {
         let earlier = if self.since == since { self.beat } else { None };
         let beat = match earlier {
             Some(earlier) if self.number == told.number => refreshed(earlier, front, now),
-            earlier => report_after(earlier, told, front, now),
+            earlier => { report_after(earlier, told.front, told.campaigns, told.over, front, now) }
         };
         LastReport {
             beat: Some(beat),

@@ -2,6 +2,7 @@
 
 use crate::limits::SEATS;
 use crate::server::NodeServer;
+use clockwork::is_heard;
 use node_peers::View;
 use node_status::{PeerStatus, SeatStatus, Sits, Status, status_line};
 use node_wires::Wire;
@@ -13,7 +14,7 @@ impl<D: Disk + Drop, W: Wire + Drop> NodeServer<D, W> {
 
     /// Whether a peer is there: its connection is open, and it wasn't silent for long.
     pub(crate) fn is_present(&self, view: &View, now: u64) -> bool {
-        view.is_open && now.saturating_sub(view.heard) < self.pace
+        view.is_open && is_heard(view.heard, now, self.pace)
     }
 
     /// Whether a bot sits here at a seat.
@@ -95,7 +96,7 @@ impl<D: Disk + Drop, W: Wire + Drop> NodeServer<D, W> {
                 hand: node.table().dealt().checked_sub(1),
                 over: seen.over,
                 promised: node.promised(),
-                leads: seen.campaigns,
+                leads: node.leads(),
                 quorum: self.turn_timer.is_quorate,
                 peers: &peers,
                 seats: &seats,

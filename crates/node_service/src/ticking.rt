@@ -14,10 +14,11 @@ use crate::peer_reports::{Others, PeerReports};
 use crate::server::NodeServer;
 use crate::server_notice::ServerNotice;
 use clockwork::limits::{LATEST, LOOK, MOST_PEERS};
-use clockwork::{Awaited, Due, Known, away_due, due, has_work, is_behind, is_quorate, pace, rank};
+use clockwork::{
+    Awaited, Due, Known, Watch, away_due, due, has_work, is_behind, is_quorate, pace, rank,
+};
 use dealer_world::Event;
 use node_peers::{Peers, View};
-use node_watch::Watch;
 use node_wires::Wire;
 use promise_store::Disk;
 

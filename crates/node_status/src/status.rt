@@ -16,7 +16,7 @@ pub struct Status<'a> {
     pub over: bool,
     /// The ballot that it promised last, if it promised one.
     pub promised: Option<Ballot>,
-    /// It leads: it sends what is to be chosen.
+    /// It leads: a quorum promised its ballot, and it was not refused since.
     pub leads: bool,
     /// It and the peers that are present are a majority.
     pub quorum: bool,

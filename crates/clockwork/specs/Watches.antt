@@ -4,8 +4,8 @@ use Rattle.std.specs.Borrow.{Bor}
 use Rattle.clockwork.specs.declared.known.Ticks.{Ticks}
 use Rattle.clockwork.specs.declared.known.Peer.{Peer}
 use Rattle.clockwork.specs.declared.known.Known.{Known}
-use Rattle.node_watch.specs.declared.watch.Seen.{Seen}
-use Rattle.node_watch.specs.declared.watch.Watch.{Watch}
+use Rattle.clockwork.specs.declared.watch.Seen.{Seen}
+use Rattle.clockwork.specs.declared.watch.Watch.{Watch}
 
 abbrev pub watch_of : Seen → ℕ → Watch
 watch_of seen now = record { seen = seen; moved = now; promised_since = now; was_led = seen.campaigns; work_since = None; behind_since = None; ticks = None; last_call = 0 }
@@ -46,12 +46,13 @@ seen_at w seen took now = record {
 abbrev pub stood : Watch → Bool → Bool → ℕ → Watch
 stood w work behind now = record w { work_since = since w.work_since (work && not behind) now; behind_since = since w.behind_since behind now }
 
-abbrev pub in_vain : Option Ticks → ℕ
-in_vain None = 1
-in_vain (Some ticks) = min 255 (ticks.in_vain + 1)
+-- how many ticks were in vain, with the one that comes now
+abbrev pub next_in_vain : Option Ticks → ℕ
+next_in_vain None = 1
+next_in_vain (Some ticks) = min 255 (ticks.in_vain + 1)
 
 abbrev pub ticked_at : Watch → ℕ → Watch
-ticked_at w now = record w { ticks = Some (record { last = now; in_vain = in_vain w.ticks }) }
+ticked_at w now = record w { ticks = Some (record { last = now; in_vain = next_in_vain w.ticks }) }
 
 -- what is known at this moment, with these peers
 abbrev pub known_of : Watch → ℕ → Bor (List Peer) → ℕ → Known

@@ -1,32 +1,39 @@
 -- What is kept from turn to turn, on values; moments in microseconds.
-use Rattle.std.proofs.Common.{◌≡◌, ℕ, Bool, true, false, Option, Some, None, refl}
-use Rattle.clockwork.specs.declared.known.PeerReport as report
-use Rattle.peer_codes.specs.declared.beat.Beat as told
-use Rattle.node_watch.specs.declared.watch.Seen.{Seen}
-use Rattle.node_watch.specs.declared.watch.Watch.{Watch}
-use Rattle.node_watch.specs.PeerReports.{report_after}
-use Rattle.node_watch.specs.Watches.{watch_of, seen_at, stood, ticked_at}
+use Rattle.std.proofs.Common.{◌≡◌, ℕ, true, false, Option, Some, None, refl}
+use Rattle.clockwork.specs.declared.known.PeerReport.{PeerReport}
+use Rattle.clockwork.specs.declared.watch.Seen.{Seen}
+use Rattle.clockwork.specs.declared.watch.Watch.{Watch}
+use Rattle.clockwork.specs.Silence.{is_heard}
+use Rattle.clockwork.specs.PeerReports.{report_after}
+use Rattle.clockwork.specs.Watches.{watch_of, seen_at, stood, ticked_at}
 
-abbrev beat : Bool → told.Beat
-beat campaigns = record { number = 4; got = 3; front = 10; campaigns = campaigns; over = false; seats = 0 }
+-- heard within the limit, not at it, and at a moment that lies ahead
+heard_within : is_heard 100 1099 1000 ≡ true
+heard_within = refl
 
-abbrev before : report.PeerReport
+silent_at_the_limit : is_heard 100 1100 1000 ≡ false
+silent_at_the_limit = refl
+
+heard_ahead : is_heard 2000 100 1000 ≡ true
+heard_ahead = refl
+
+abbrev before : PeerReport
 before = record { front = 10; below = 100; campaigns = true; told = 50; over = false }
 
 -- it stands still below this node's front, and campaigns as it did
-stands_still : report_after (Some before) (beat true) 12 900 ≡ before
+stands_still : report_after (Some before) 10 true false 12 900 ≡ before
 stands_still = refl
 
 -- it isn't below: from now on it may be
-not_below : report_after (Some before) (beat true) 10 900 ≡ record { front = 10; below = 900; campaigns = true; told = 50; over = false }
+not_below : report_after (Some before) 10 true false 10 900 ≡ record { front = 10; below = 900; campaigns = true; told = 50; over = false }
 not_below = refl
 
 -- it no longer campaigns, as it first tells now
-no_longer_campaigns : report_after (Some before) (beat false) 12 900 ≡ record { front = 10; below = 100; campaigns = false; told = 900; over = false }
+no_longer_campaigns : report_after (Some before) 10 false false 12 900 ≡ record { front = 10; below = 100; campaigns = false; told = 900; over = false }
 no_longer_campaigns = refl
 
-first_beat : report_after None (beat true) 12 900 ≡ record { front = 10; below = 900; campaigns = true; told = 900; over = false }
-first_beat = refl
+first_heartbeat : report_after None 10 true true 12 900 ≡ record { front = 10; below = 900; campaigns = true; told = 900; over = true }
+first_heartbeat = refl
 
 abbrev seen : ℕ → Option ℕ → Seen
 seen front promised = record { front = front; promised = promised; campaigns = false; over = false; hand_runs = true; act_waits = true }

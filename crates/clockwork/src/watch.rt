@@ -1,7 +1,7 @@
 ghost use Rattle.std.specs.Prelude.{◌≡◌, true};
-ghost use Rattle.node_watch.specs.Watches.{watch_of, is_same, quiet, since, seen_at, stood, ticked_at, known_of};
+ghost use Rattle.clockwork.specs.Watches.{watch_of, is_same, quiet, since, seen_at, stood, ticked_at, known_of};
 
-use clockwork::{Known, Peer, Ticks};
+use crate::known::{Known, Peer, Ticks};
 
 /// What is seen of a node between two calls.
 #[derive(Clone, Copy, Debug, PartialEq, Eq)]

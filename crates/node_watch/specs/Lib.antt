@@ -1,2 +1,0 @@
-pub mod PeerReports
-pub mod Watches
