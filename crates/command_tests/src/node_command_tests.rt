@@ -212,36 +212,74 @@ fn server<D: Disk + Drop>(
     Ok(Some(NodeServer::new(alloc, member, wire, peers, seats, askers, terms)))
 }
 
-/// How the process of node 0 ends whose log can't be written, and whose disk fails at the call of this number, counted from
-/// 1; none where it has no store to begin on. What it told stands in `notes`.
-fn ran(alloc: Global, call: u64, notes: &mut Vec<u8>) -> Result<Option<NodeEnd>, Fail> {
-    let Ok(store) = Store::create(alloc, OnceDisk::new(alloc, call), 0, 3) else {
-        return Ok(None);
-    };
-    let Some(mut server) = server(alloc, store.close(), 1)? else {
-        return Ok(None);
-    };
-    let mut lives = NoLives;
-    Ok(node_run(alloc, &mut server, &mut lives, 7000, notes).err())
+/// How a process ended, if it had a store to begin on, and whether a call of its disk failed.
+#[derive(Drop)]
+struct Ran {
+    end: Option<NodeEnd>,
+    has_failed: bool,
 }
 
-/// Where the disk fails at the start the store is at fault, and else the log: each is told by the end alone.
+/// It had no store to begin on.
+const UNBEGUN: Ran = Ran {
+    end: None,
+    has_failed: true,
+};
+
+/// How the process of node 0 ends whose log can't be written, and whose disk fails at the call of this number, counted from
+/// 1. What it told stands in `notes`.
+fn ran(alloc: Global, call: u64, notes: &mut Vec<u8>) -> Result<Ran, Fail> {
+    let Ok(store) = Store::create(alloc, OnceDisk::new(alloc, call), 0, 3) else {
+        return Ok(UNBEGUN);
+    };
+    let Some(mut server) = server(alloc, store.close(), 1)? else {
+        return Ok(UNBEGUN);
+    };
+    let mut lives = NoLives;
+    let end = node_run(alloc, &mut server, &mut lives, 7000, notes).err();
+    let has_failed = match server.station().node().disk() {
+        Some(disk) => disk.failures() > 0,
+        None => true,
+    };
+    Ok(Ran { end, has_failed })
+}
+
+/// Sees what a process told and how it ended, and says whether by its store.
+fn ended_by_store(
+    rt: &impl Abort,
+    alloc: Global,
+    end: NodeEnd,
+    notes: &[u8],
+) -> Result<bool, AllocError> {
+    is_written(rt, notes, b"match m1 node 0 front 0\n");
+    let is_by_store = end.status() == 3;
+    let text = if is_by_store {
+        "91 Store 63 Disk"
+    } else {
+        "106 LogFailed"
+    };
+    prints(rt, alloc, &end, text)?;
+    Ok(is_by_store)
+}
+
+/// More calls than a disk is given until its process ends.
+const MOST_CALLS: u64 = 1_000;
+
+/// Where the disk fails at the start the store is at fault, and else the log: each is told by the end alone. Each call of
+/// the disk fails once, until none does.
 #[test]
 fn a_start_that_fails_ends_the_process(rt: HostRuntime) -> Result<(), Fail> {
     let mut stores = 0u64;
-    for call in 0..16 {
+    for call in 1..MOST_CALLS {
         let mut notes = Vec::new(rt.alloc());
-        let Some(end) = ran(rt.alloc(), call, &mut notes)? else {
-            continue;
-        };
-        is_written(&rt, &notes, b"match m1 node 0 front 0\n");
-        if end.status() == 3 {
-            stores = stores.saturating_add(1);
-            prints(&rt, rt.alloc(), &end, "91 Store 63 Disk")?;
-        } else {
-            prints(&rt, rt.alloc(), &end, "106 LogFailed")?;
+        let Ran { end, has_failed } = ran(rt.alloc(), call, &mut notes)?;
+        if let Some(end) = end {
+            let is_by_store = ended_by_store(&rt, rt.alloc(), end, &notes)?;
+            stores = stores.saturating_add(is_by_store as u64);
+        }
+        if !has_failed {
+            holds(&rt, stores, stores > 0);
+            return Ok(());
         }
     }
-    holds(&rt, stores, stores > 0);
-    Ok(())
+    panic!(&rt; "a call fails whatever its number");
 }

@@ -61,7 +61,7 @@ fn run_file(
     run_entries(rt, config, node, entries, notes)
 }
 
-/// What the match file says of a node, if the match has one of this number. Notes tell the keys that are passed over.
+/// What the match file says of a node, if the match has one of this number. Notes tell the keys by which it doesn't go.
 fn entries_of<'a>(
     rt: &HostRuntime,
     file: &'a MatchFile,
@@ -76,7 +76,7 @@ fn entries_of<'a>(
     }
     config.limits();
     let entries = file.node_entries(rt.alloc(), config.game().players())?;
-    for key in file.passed_over(rt.alloc())? {
+    for key in file.unused_by_node(rt.alloc())? {
         notes.tell_node(&NodeNote::PassedOver(key.text()));
     }
     Ok(entries)
@@ -125,7 +125,7 @@ struct Access {
     key: Option<Key>,
     /// What the token of each seat is known by.
     tokens: Option<Vec<TokenDigest>>,
-    /// After how many seconds a seat is played for.
+    /// After how many milliseconds a seat is played for.
     patience: Option<u32>,
 }
 
@@ -341,7 +341,7 @@ fn log_cause(server: &TcpNode<'_>) -> Cause {
     }
 }
 
-/// So many seconds.
-fn in_microseconds(seconds: u32) -> u64 {
-    seconds as u64 * 1_000_000
+/// So many milliseconds.
+fn in_microseconds(milliseconds: u32) -> u64 {
+    milliseconds as u64 * 1_000
 }

@@ -2,7 +2,7 @@
 
 use crate::pair::{SILENCE, Side, take_turns};
 use crate::samples::{ACCEPTED, ASK, HELLO_RECORD, assert_bytes, assert_number, life, own};
-use node_wires::Line;
+use node_wires::{Line, MemoryWire, Wire};
 use std::alloc::{AllocError, Global};
 use std::process::Abort;
 use std::test::Fail;
@@ -118,17 +118,34 @@ fn a_silent_peer_is_gone_and_comes_back(rt: HostRuntime) -> Result<(), Fail> {
     Ok(())
 }
 
-/// Each call of a wire failing once, they meet all the same, and no frame comes that wasn't sent.
+/// More calls than a wire is given in the turns below.
+const MOST_CALLS: u64 = 1_000;
+
+/// Whether the call of this number was made of a wire, and so failed: else one of as many more does.
+fn has_failed(wire: &mut MemoryWire, call: u64) -> bool {
+    for _ in 0..call {
+        if wire.draw().is_none() {
+            return false;
+        }
+    }
+    true
+}
+
+/// Each call of a wire failing once, until none does, they meet all the same, and no frame comes that wasn't sent.
 #[test]
 fn each_call_fails_once(rt: HostRuntime) -> Result<(), Fail> {
     let alloc = rt.alloc();
-    for call in 1..40 {
+    for call in 1..MOST_CALLS {
         let (mut low, mut high) = met(alloc, call)?;
         high.peers.send(0, &ACCEPTED, 7_000);
         take_turns(alloc, &mut low, &mut high, 60_000, 8)?;
         assert!(rt; low.seen.joined >= 1 && high.seen.joined >= 1);
         // Once, and once more where they met anew.
         assert!(rt; low.seen.frames <= 2 && low.seen.sum == 0);
+        if !has_failed(&mut high.wire, call) {
+            assert!(rt; call > 20);
+            return Ok(());
+        }
     }
-    Ok(())
+    panic!(rt; "a call fails whatever its number");
 }

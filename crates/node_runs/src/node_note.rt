@@ -27,7 +27,7 @@ pub enum NodeNote<'a> {
         node: u8,
         front: u32,
     },
-    /// A key of the match file that `serve` reads and `node` doesn't.
+    /// A key of the match file by which `node` doesn't go.
     PassedOver(&'a str),
     /// The file that the machine of node 0 has, and this one hasn't.
     NotCopied(&'a str),
@@ -56,7 +56,7 @@ pub enum NodeNote<'a> {
     Quorum,
     /// No more so.
     QuorumLost,
-    /// This node leads, by this ballot.
+    /// This node campaigns in this ballot: it prepares or leads.
     Campaigns(Ballot),
 }
 
@@ -199,7 +199,7 @@ fn put_callers(out: &mut Vec<u8>, count: u32, fault: &PeerFault) -> Result<(), A
     put_times(out, count)
 }
 
-/// Appends by which ballot the node leads.
+/// Appends in which ballot the node campaigns.
 fn put_campaign(out: &mut Vec<u8>, ballot: &Ballot) -> Result<(), AllocError>
     ensures { OnOk result (out.new.items ≡ out.old.items ++ (codes "campaigns in ballot " ++ ballot_line ballot.now)) }
 {

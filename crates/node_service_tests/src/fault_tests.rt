@@ -7,26 +7,35 @@ use std::alloc::{AllocError, Global};
 use std::process::Abort;
 use std::test::Fail;
 
-/// The match where the call of this number of the wires of node 0 fails.
-fn play_with_failed(rt: &impl Abort, alloc: Global, call: u64) -> Result<(), AllocError> {
+/// The match where the call of this number of the wires of node 0 fails. It says whether it did: the match may be over before.
+fn fails_in(rt: &impl Abort, alloc: Global, call: u64) -> Result<bool, AllocError> {
     let mut world = World::new(rt, alloc, 3, 2, [0, 1], b'f', (0, call))?;
     run(rt, &mut world, 20_000)?;
     assert_whole(rt, &world);
-    Ok(())
+    Ok(world.places.iter().any(|place| place.has_failed))
 }
+
+/// More calls than the wires of a node are given in a match.
+const MOST_CALLS: u64 = 1_000_000;
 
 #[test]
 fn a_call_fails_at_first(rt: HostRuntime) -> Result<(), Fail> {
     for call in 1..9 {
-        play_with_failed(&rt, rt.alloc(), call)?;
+        assert!(rt; fails_in(&rt, rt.alloc(), call)?);
     }
     Ok(())
 }
 
+/// The ninth call, and then each that is twice as far, until none fails.
 #[test]
 fn a_call_fails_later(rt: HostRuntime) -> Result<(), Fail> {
-    for number in 0..8 {
-        play_with_failed(&rt, rt.alloc(), 9 + 17 * number)?;
+    let mut call = 9u64;
+    while call < MOST_CALLS {
+        if !fails_in(&rt, rt.alloc(), call)? {
+            assert!(rt; call > 100);
+            return Ok(());
+        }
+        call = call.saturating_mul(2);
     }
-    Ok(())
+    panic!(rt; "a call fails whatever its number");
 }

@@ -3,7 +3,7 @@
 use crate::samples::Server;
 use crate::world::STEP;
 use node_service::{Outcome, ServerNotice};
-use node_wires::{Line, MemoryWire};
+use node_wires::{Line, MemoryWire, Wire};
 use std::alloc::{AllocError, Global};
 
 /// The most nodes.
@@ -26,6 +26,20 @@ pub(crate) struct Place {
     /// The log of its last process that ended.
     pub(crate) log: Vec<u8>,
     pub(crate) counts: Counts,
+    /// The call of its next process's wires that fails, counted from 1; 0 where none does.
+    pub(crate) call: u64,
+    /// The call that was to fail did.
+    pub(crate) has_failed: bool,
+}
+
+/// Whether the call of this number was made of a wire, and so failed: else one of as many more does.
+fn has_failed(wire: &mut MemoryWire, call: u64) -> bool {
+    for _ in 0..call {
+        if wire.draw().is_none() {
+            return false;
+        }
+    }
+    call > 0
 }
 
 /// How often each was told.
@@ -72,7 +86,18 @@ impl Place {
                 lost: 0,
                 ordered: [0, 0],
             },
+            call: 0,
+            has_failed: false,
         }
+    }
+
+    /// Its process begins, or ended at its start, since a call of its wires failed.
+    pub(crate) fn begin(&mut self, server: Option<Server>) {
+        if server.is_none() {
+            self.has_failed = self.has_failed || self.call > 0;
+            self.call = 0;
+        }
+        self.server = server;
     }
 
     /// One turn of its process at this moment.
@@ -100,10 +125,12 @@ impl Place {
 
     /// The process ends: what its disk has stays, and its log is kept.
     pub(crate) fn die(&mut self, alloc: Global) -> Result<(), AllocError> {
-        let Some(server) = self.server.take() else {
+        let Some(mut server) = self.server.take() else {
             return Ok(());
         };
         self.log = Vec::from_slice(alloc, server.wire().log())?;
+        self.has_failed = self.has_failed || has_failed(server.wire_mut(), self.call);
+        self.call = 0;
         if let Some(disk) = server.station().node().disk() {
             self.bytes = Vec::from_slice(alloc, disk.bytes())?;
         }

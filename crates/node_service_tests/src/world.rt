@@ -20,8 +20,6 @@ pub(crate) struct World {
     pub(crate) bots: Vec<Bot>,
     /// Pairs of which nothing comes through, by sender and receiver.
     pub(crate) cuts: [[bool; NODES]; NODES],
-    /// The node whose wires fail once, and in which call.
-    failing: (u8, u64),
     /// How long a seat may hold the table, of processes that begin from now on.
     pub(crate) patience: Option<u64>,
 }
@@ -37,15 +35,14 @@ impl Drop for World {
             places: _,
             bots: _,
             cuts: _,
-            failing: _,
             patience: _,
         } = self;
     }
 }
 
 impl World {
-    /// All processes of a match of so many hands, whose bots sit at these nodes and do this. The wires of one of the nodes
-    /// fail in a call of this number; with 0 none does.
+    /// All processes of a match of so many hands, whose bots sit at these nodes and do this. The wires of this node's first
+    /// process fail in the call of this number, counted from 1; with 0 none does.
     pub(crate) fn new(
         rt: &impl Abort,
         alloc: Global,
@@ -58,7 +55,9 @@ impl World {
         let mut places = Vec::new(alloc);
         for node in 0..nodes {
             let disk = new_disk(rt, alloc, node, nodes)?;
-            places.push(Place::new(Vec::from_slice(alloc, disk.bytes())?, alloc))?;
+            let mut place = Place::new(Vec::from_slice(alloc, disk.bytes())?, alloc);
+            place.call = if failing.0 == node { failing.1 } else { 0 };
+            places.push(place)?;
         }
         let mut bots = Vec::new(alloc);
         bots.push(Bot::new(alloc, 0, at[0], action))?;
@@ -71,7 +70,6 @@ impl World {
             places,
             bots,
             cuts: [[false; NODES]; NODES],
-            failing,
             patience: None,
         })
     }
@@ -80,11 +78,6 @@ impl World {
     fn begin(&mut self, rt: &impl Abort, node: u8) -> Result<(), AllocError> {
         let (nodes, hands, now, alloc) = (self.nodes, self.hands, self.now, self.alloc);
         let patience = self.patience;
-        let call = if self.failing.0 == node {
-            self.failing.1
-        } else {
-            0
-        };
         let Some(place) = self.places.get_mut(node as usize) else {
             return Ok(());
         };
@@ -96,10 +89,8 @@ impl World {
             return Ok(());
         }
         let disk = disk_of(rt, alloc, &place.bytes)?;
-        place.server = server(rt, alloc, node, nodes, hands, disk, call, now, patience)?;
-        if call != 0 {
-            self.failing = (node, 0);
-        }
+        let call = place.call;
+        place.begin(server(rt, alloc, node, nodes, hands, disk, call, now, patience)?);
         Ok(())
     }
 
