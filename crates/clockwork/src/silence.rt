@@ -1,7 +1,7 @@
-//! Whether a peer was heard lately, and for how long it may be silent before it counts as gone.
+//! Whether a peer was heard lately: the one test of silence.
 //!
-//! For how long a silent peer still counts as present is a limit that changes with what the slowest took (`pace`). The two
-//! limits that don't stand here.
+//! The limit within which a silent peer counts as present changes with what the slowest took (`pace`). The two limits below
+//! are for what is done about a longer silence.
 
 ghost use Rattle.std.specs.Prelude.{◌≡◌};
 ghost use Rattle.clockwork.specs.Silence.{is_heard};

@@ -222,8 +222,9 @@ Above the tables may stand
                         addresses of this machine or of a private network
   tokens = [\"HEX\", ..]  the SHA-256 of each seat's token; then a bot's first
                         line is #TOKEN and its token, 64 hexadecimal digits
-  patience = S          a seat for which all wait S seconds is played for
-port, outage and away are passed over.
+  patience = S          a seat for which all wait S seconds is played for: a
+                        number, or a text such as \"2.5\"
+port, outage, away, start and, in a node's table, from aren't used.
 
 Each node runs in a process of its own, on the machine of its store, which
 holdem_table init MATCH I makes: first that of node 0, which makes match.kept
@@ -235,9 +236,9 @@ and dials another one where its connection ends.
 Standard error has notes, one a line: that no key is named, where the status
 is, which node of which match begins, which peers joined or are gone, faults
 of connections, whether more than half of the nodes are here, when this one
-campaigns, which seats were seated or are gone, came with a wrong token, or are
-played for; with --times the time (UTC) stands before each. Nothing is printed
-on standard output.
+campaigns, which seats were seated or are gone, came with a wrong token, or
+are played for; with --times the time (UTC) stands before each. Nothing is
+printed on standard output.
 
 Exit status:
   0  the match is over, and the other nodes know it
