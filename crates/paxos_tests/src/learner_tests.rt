@@ -1,4 +1,4 @@
-ghost use Rattle.std.specs.Prelude.{◌≡◌};
+ghost use Rattle.std.specs.Prelude.{◌≡◌, ◌≤◌};
 
 use crate::journal::commands;
 use crate::samples::{FIVE, act, assert_same, holds};
@@ -221,7 +221,9 @@ fn answer_to_run(
 }
 
 /// Sees that a run from this one of the five slots on completes quorums at these.
-fn completes(rt: &impl Abort, found: &[bool; WINDOW], first: usize, count: usize, chosen: &[bool]) {
+fn completes(rt: &impl Abort, found: &[bool; WINDOW], first: usize, count: usize, chosen: &[bool])
+    requires { first ≤ 5 }
+{
     for place in 0..WINDOW {
         let expected = place < count && first + place < chosen.len() && chosen[first + place];
         assert_same(rt, found[place], expected);
