@@ -30,8 +30,8 @@ use Rattle.dealer_world.specs.Unforged.{IsAmong, IsUnforged}
 use Rattle.stations.specs.Deeds.{Deed, Did, new_at, Doing, deeds_of, IsOrder, record_of}
 use Rattle.stations.specs.Joining.{AreProcesses}
 use Rattle.stations.specs.Stations.{Look, known_place, deed_by, GainsDeed, nothing, call, LeavesFile, died, broke_off}
-use Rattle.stations.specs.Lives.{IsProcess, Ended, at_rest, inside, MayHaveDone, new_store, one_more, IsHistoryOf}
-use Rattle.stations.specs.Together.{HasLived, HasHistory, MayFind, HaveHistories}
+use Rattle.stations.specs.Incarnations.{IsProcess, Ended, at_rest, inside, MayHaveDone, new_store, one_more, IsHistoryOf}
+use Rattle.stations.specs.Together.{HasIncarnations, HasHistory, MayFind, HaveHistories}
 use Rattle.stations.proofs.Dying.{stops_down}
 
 -- ---- orders of deeds
@@ -185,8 +185,8 @@ module _ {D : Type 0} (g : Ghosts D) (place : Place) (file : List ℕ) where
     a_process_with_another_deal hand differs is = differs (ap (λ (p : Place). p.deals hand) is.placed)
 
     -- nor does one with another deal go on as the present one
-    a_present_process_with_another_deal : (hand : ℕ) → (known_place look).deals hand ≢ place.deals hand → HasLived g place (Some look) → ⊥
-    a_present_process_with_another_deal hand differs lived = differs (ap (λ (p : Place). p.deals hand) lived.at)
+    a_present_process_with_another_deal : (hand : ℕ) → (known_place look).deals hand ≢ place.deals hand → HasIncarnations g place (Some look) → ⊥
+    a_present_process_with_another_deal hand differs had = differs (ap (λ (p : Place). p.deals hand) had.at)
 
     a_process_of_another_node : look.number ≢ place.node → IsProcess g place file look → ⊥
     a_process_of_another_node differs is = differs (ap (λ (p : Place). p.node) is.placed)
@@ -218,13 +218,13 @@ module _ {D : Type 0} (g : Ghosts D) (place : Place) (file : List ℕ) where
   -- one node, whose process is its first
   module _ (plan : Plan) (look : Look (Node D)) (at : known_place look ≡ place_of plan 0)
       (new : StandsFor (header (place_of plan 0).node (place_of plan 0).nodes) (begun_of g look.node) empty_store) where
-    one_node : (i : ℕ) → i < 1 → HasLived g (place_of plan i) (get_or (Some look ∷ []) i None)
-    one_node zero less = record { at = at; lives = new_store (begun_of g look.node) new }
+    one_node : (i : ℕ) → i < 1 → HasIncarnations g (place_of plan i) (get_or (Some look ∷ []) i None)
+    one_node zero less = record { at = at; incarnations = new_store (begun_of g look.node) new }
     one_node (suc i) less = absurd (omega (arith, less))
 
     what_it_did : (i : ℕ) (less : i < 1) → HasHistory g (place_of plan i) (get_or (Some look ∷ []) i None) (one_node i less) look.deeds
     unfolding one_node
-    what_it_did zero less = ([], refl, sym (append-nil look.deeds))
+    what_it_did zero less = record { before = []; history = refl; newest = sym (append-nil look.deeds) }
     what_it_did (suc i) less = absurd (omega (arith, less))
 
     is_its_history : HaveHistories g plan (Some look ∷ []) one_node (λ i. look.deeds)
@@ -234,7 +234,7 @@ module _ {D : Type 0} (g : Ghosts D) (place : Place) (file : List ℕ) where
     unfolding one_node
     what_it_did_is_left_out did have =
         let own = have 0 (omega arith) in
-        let more : [] ≡ died ∷ own.0 = subst (λ (deeds : List Deed). [] ≡ deeds ++ own.0) did own.2 in cc
+        let more : [] ≡ died ∷ own.before = subst (λ (deeds : List Deed). [] ≡ deeds ++ own.before) did own.newest in cc
 
     -- its next process may find whatever this one leaves if it dies now
     what_its_next_process_may_find : (image : List ℕ) → images_of g look.node image → MayFind g (place_of plan 0) (Some look) (one_node 0 (omega arith)) image
@@ -307,6 +307,6 @@ module _ {D : Type 0} (g : Ghosts D) (place : Place) where
   its_next_process file left new look is image did = ([], died ∷ look.deeds, refl, refl, ap (λ (own : List Deed). died ∷ (own ++ [])) (sym did))
 
   what_its_present_process_did_is_left_out : (look : Look (Node D)) (at : known_place look ≡ place) (new : StandsFor (header place.node place.nodes) (begun_of g look.node) empty_store)
-      → look.deeds ≡ starts place ∷ [] → HasHistory g place (Some look) (record { at = at; lives = new_store (begun_of g look.node) new }) [] → ⊥
-  what_its_present_process_did_is_left_out look at new did (before, none, same) =
-      let more : [] ≡ starts place ∷ before = subst (λ (own : List Deed). [] ≡ own ++ before) did same in cc
+      → look.deeds ≡ starts place ∷ [] → HasHistory g place (Some look) (record { at = at; incarnations = new_store (begun_of g look.node) new }) [] → ⊥
+  what_its_present_process_did_is_left_out look at new did own =
+      let more : [] ≡ starts place ∷ own.before = subst (λ (deeds : List Deed). [] ≡ deeds ++ own.before) did own.newest in cc

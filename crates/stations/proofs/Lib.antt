@@ -1,9 +1,9 @@
 mod Joining
 mod Acting
 mod Dying
-mod Living
+mod Incarnations
 mod Together
 mod Walks
 mod Examples
 mod FrameExamples
-mod LifeExamples
+mod IncarnationExamples

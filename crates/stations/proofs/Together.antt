@@ -26,8 +26,8 @@ use Rattle.stations.specs.Deeds.{Deed, Did, new_at, Doing, record_of}
 use Rattle.stations.specs.Joining.{IsTrueOrder, AreProcesses, ProcessesShowOneList, ProcessesAreBacked, ProcessesNeverConflict}
 use Rattle.stations.specs.Stations.{Look, known_place, HoldsAfter, LeavesFile}
 use Rattle.stations.specs.Looking.{look_of}
-use Rattle.stations.specs.Lives.{LivesAreDeeds}
-use Rattle.stations.specs.Together.{HasLived, HasHistory, MayFind, HaveLived, HaveHistories, AllAreBacked, NoNextConflicts, ArePromised, StationsArePromised}
+use Rattle.stations.specs.Incarnations.{IncarnationsAreDeeds}
+use Rattle.stations.specs.Together.{HasIncarnations, HasHistory, MayFind, HaveIncarnations, HaveHistories, AllAreBacked, NoNextConflicts, ArePromised, StationsArePromised}
 use Rattle.stations.proofs.Dying.{ImagesAreSeen}
 use Rattle.stations.proofs.Joining.{all_merely}
 
@@ -45,19 +45,19 @@ seen_one see (first ∷ list) (suc i) = seen_one see list i
 
 module _ {D : Type 0} (g : Ghosts D) where
   -- a node is where its deeds lead; what its next process may find stands for what that holds, and its present one, if it has one, is seen as it
-  record IsThere (place : Place) (now : Option (Look (Node D))) (lived : HasLived g place now) (deeds : List Deed) : Type 0 where
+  record IsThere (place : Place) (now : Option (Look (Node D))) (had : HasIncarnations g place now) (deeds : List Deed) : Type 0 where
     s : Standing
     did : Did place (new_at place) deeds s
-    finds : (file : List ℕ) → MayFind g place now lived file → StandsFor (header place.node place.nodes) file s.store ⊎ StandsFor (header place.node place.nodes) file s.begun
+    finds : (file : List ℕ) → MayFind g place now had file → StandsFor (header place.node place.nodes) file s.store ⊎ StandsFor (header place.node place.nodes) file s.begun
     placed : (look : Look (Node D)) → now ≡ Some look → place_at (member_in look.node) ≡ place
     seen : (look : Look (Node D)) → now ≡ Some look → IsSeen g look.node s
 
-  abbrev HasDone : (place : Place) (now : Option (Look (Node D))) → HasLived g place now → Type 0
-  HasDone place now lived = (deeds : List Deed) × HasHistory g place now lived deeds × IsThere place now lived deeds
+  abbrev HasDone : (place : Place) (now : Option (Look (Node D))) → HasIncarnations g place now → Type 0
+  HasDone place now had = (deeds : List Deed) × HasHistory g place now had deeds × IsThere place now had deeds
 
   -- one without a process
-  left_there : (place : Place) (lived : HasLived g place None) (deeds : List Deed) → LeavesFile place lived.0 deeds → IsThere place None lived deeds
-  left_there place lived deeds left = record {
+  left_there : (place : Place) (had : HasIncarnations g place None) (deeds : List Deed) → LeavesFile place had.file deeds → IsThere place None had deeds
+  left_there place had deeds left = record {
     s = left.s;
     did = left.did;
     finds = λ file is.
@@ -67,9 +67,9 @@ module _ {D : Type 0} (g : Ghosts D) where
   }
 
   -- one with a process
-  now_there : ImagesAreSeen g → (place : Place) (look : Look (Node D)) (lived : HasLived g place (Some look)) (deeds : List Deed) → place_at (member_in look.node) ≡ place
-      → HoldsAfter g place look.node deeds → IsThere place (Some look) lived deeds
-  now_there images place look lived deeds placed at = record {
+  now_there : ImagesAreSeen g → (place : Place) (look : Look (Node D)) (had : HasIncarnations g place (Some look)) (deeds : List Deed) → place_at (member_in look.node) ≡ place
+      → HoldsAfter g place look.node deeds → IsThere place (Some look) had deeds
+  now_there images place look had deeds placed at = record {
     s = at.s;
     did = at.did;
     finds = λ file image.
@@ -82,66 +82,66 @@ module _ {D : Type 0} (g : Ghosts D) where
       same_look : (one other : Look (Node D)) → Some one ≡ Some other → one ≡ other
       same_look one other is = cc
 
-  one_node : LivesAreDeeds g → ImagesAreSeen g → IsTrue g.is_honest → (place : Place) (now : Option (Station D g)) (lived : HasLived g place (option_map look_of now))
-      → ∥ HasDone place (option_map look_of now) lived ∥₁
-  one_node law images honest place None lived =
-      ∥∥₁_map (law place lived.0 lived.1 honest) (λ so. (so.0, so.1, left_there place lived so.0 so.2))
-  one_node law images honest place (Some station) lived =
+  one_node : IncarnationsAreDeeds g → ImagesAreSeen g → IsTrue g.is_honest → (place : Place) (now : Option (Station D g)) (had : HasIncarnations g place (option_map look_of now))
+      → ∥ HasDone place (option_map look_of now) had ∥₁
+  one_node law images honest place None had =
+      ∥∥₁_map (law place had.file had.incarnations honest) (λ so. (so.0, so.1, left_there place had so.0 so.2))
+  one_node law images honest place (Some station) had =
       let look = look_of station in
-      ∥∥₁_elim (law place (begun_of g look.node) lived.lives honest) (hlevel) (λ so.
-      let left : LeavesFile (known_place look) (begun_of g look.node) so.0 = subst (λ (p : Place). LeavesFile p (begun_of g look.node) so.0) (sym lived.at) so.2 in
+      ∥∥₁_elim (law place (begun_of g look.node) had.incarnations honest) (hlevel) (λ so.
+      let left : LeavesFile (known_place look) (begun_of g look.node) so.0 = subst (λ (p : Place). LeavesFile p (begun_of g look.node) so.0) (sym had.at) so.2 in
       let at : ∥ HoldsAfter g place look.node (look.deeds ++ so.0) ∥₁ =
-      subst (λ (p : Place). ∥ HoldsAfter g p look.node (look.deeds ++ so.0) ∥₁) lived.at (station.true_to so.0 ∣ left ∣₁ honest) in
+      subst (λ (p : Place). ∥ HoldsAfter g p look.node (look.deeds ++ so.0) ∥₁) had.at (station.true_to so.0 ∣ left ∣₁ honest) in
       ∥∥₁_elim station.at_place (hlevel) (λ placed.
-      ∥∥₁_map at (λ here. (look.deeds ++ so.0, (so.0, so.1, refl), now_there images place look lived (look.deeds ++ so.0) (placed ∙ lived.at) here))))
+      ∥∥₁_map at (λ here. (look.deeds ++ so.0, record { before = so.0; history = so.1; newest = refl }, now_there images place look had (look.deeds ++ so.0) (placed ∙ had.at) here))))
 
   module _ (stations : List (Option (Station D g))) where
     abbrev looks : List (Option (Look (Node D)))
     looks = map (option_map look_of) stations
 
-    abbrev DoneAt : (plan : Plan) → HaveLived g plan looks → (i : ℕ) → i < length looks → Type 0
-    DoneAt plan lived i less = HasDone (place_of plan i) (get_or looks i None) (lived i less)
+    abbrev DoneAt : (plan : Plan) → HaveIncarnations g plan looks → (i : ℕ) → i < length looks → Type 0
+    DoneAt plan had i less = HasDone (place_of plan i) (get_or looks i None) (had i less)
 
-    node_at : LivesAreDeeds g → ImagesAreSeen g → IsTrue g.is_honest → (plan : Plan) (lived : HaveLived g plan looks) (i : ℕ) (less : i < length looks) → ∥ DoneAt plan lived i less ∥₁
-    node_at law images honest plan lived i less =
-        subst (λ (now : Option (Look (Node D))). (had : HasLived g (place_of plan i) now) → ∥ HasDone (place_of plan i) now had ∥₁) (sym (seen_one look_of stations i))
-        (one_node law images honest (place_of plan i) (get_or stations i None)) (lived i less)
+    node_at : IncarnationsAreDeeds g → ImagesAreSeen g → IsTrue g.is_honest → (plan : Plan) (had : HaveIncarnations g plan looks) (i : ℕ) (less : i < length looks) → ∥ DoneAt plan had i less ∥₁
+    node_at law images honest plan had i less =
+        subst (λ (now : Option (Look (Node D))). (had : HasIncarnations g (place_of plan i) now) → ∥ HasDone (place_of plan i) now had ∥₁) (sym (seen_one look_of stations i))
+        (one_node law images honest (place_of plan i) (get_or stations i None)) (had i less)
 
     -- of all at once
-    all_nodes : LivesAreDeeds g → ImagesAreSeen g → IsTrue g.is_honest → (plan : Plan) (lived : HaveLived g plan looks)
-        → ∥ ((i : ℕ) → i < length looks → (less : i < length looks) → DoneAt plan lived i less) ∥₁
-    all_nodes law images honest plan lived =
-        all_merely (λ i. (less : i < length looks) → DoneAt plan lived i less) (length looks) (λ i less.
-        ∥∥₁_map (node_at law images honest plan lived i less) (λ done other. subst (λ (l : i < length looks). DoneAt plan lived i l) (le_prop less other) done))
+    all_nodes : IncarnationsAreDeeds g → ImagesAreSeen g → IsTrue g.is_honest → (plan : Plan) (had : HaveIncarnations g plan looks)
+        → ∥ ((i : ℕ) → i < length looks → (less : i < length looks) → DoneAt plan had i less) ∥₁
+    all_nodes law images honest plan had =
+        all_merely (λ i. (less : i < length looks) → DoneAt plan had i less) (length looks) (λ i less.
+        ∥∥₁_map (node_at law images honest plan had i less) (λ done other. subst (λ (l : i < length looks). DoneAt plan had i l) (le_prop less other) done))
 
-    module _ (plan : Plan) (lived : HaveLived g plan looks) (each : (i : ℕ) → i < length looks → (less : i < length looks) → DoneAt plan lived i less) where
+    module _ (plan : Plan) (had : HaveIncarnations g plan looks) (each : (i : ℕ) → i < length looks → (less : i < length looks) → DoneAt plan had i less) where
       -- what node i did, and nothing beyond the last node
       did_by : (i : ℕ) → i < length looks ⊎ length looks ≤ i → List Deed
       did_by i (inl less) = (each i less less).0
       did_by i (inr beyond) = []
 
       did_so : (i : ℕ) (which : i < length looks ⊎ length looks ≤ i) (less : i < length looks)
-          → HasHistory g (place_of plan i) (get_or looks i None) (lived i less) (did_by i which) × IsThere (place_of plan i) (get_or looks i None) (lived i less) (did_by i which)
+          → HasHistory g (place_of plan i) (get_or looks i None) (had i less) (did_by i which) × IsThere (place_of plan i) (get_or looks i None) (had i less) (did_by i which)
       unfolding did_by
       did_so i (inl within) less =
-          subst (λ (l : i < length looks). HasHistory g (place_of plan i) (get_or looks i None) (lived i l) (each i within within).0 × IsThere (place_of plan i) (get_or looks i None) (lived i l) (each i within within).0)
+          subst (λ (l : i < length looks). HasHistory g (place_of plan i) (get_or looks i None) (had i l) (each i within within).0 × IsThere (place_of plan i) (get_or looks i None) (had i l) (each i within within).0)
           (le_prop within less) ((each i within within).1, (each i within within).2)
       did_so i (inr beyond) less = absurd (omega (arith, less, beyond))
 
       abbrev all_did : ℕ → List Deed
       all_did i = did_by i (cases_lt i (length looks))
 
-      has_history : HaveHistories g plan looks lived all_did
+      has_history : HaveHistories g plan looks had all_did
       has_history i less = (did_so i (cases_lt i (length looks)) less).0
 
-      there_at : (i : ℕ) (less : i < length looks) → IsThere (place_of plan i) (get_or looks i None) (lived i less) (all_did i)
+      there_at : (i : ℕ) (less : i < length looks) → IsThere (place_of plan i) (get_or looks i None) (had i less) (all_did i)
       there_at i less = (did_so i (cases_lt i (length looks)) less).1
 
   -- ---- with an order of all
 
   module _ (stations : List (Option (Look (Node D)))) (setting : Setting) (sources : List Source) (is_plan : IsPlan (plan_of setting sources))
-      (count : length stations ≡ length sources) (lived : HaveLived g (plan_of setting sources) stations) (histories : ℕ → List Deed)
-      (each : (i : ℕ) (less : i < length stations) → IsThere (place_of (plan_of setting sources) i) (get_or stations i None) (lived i less) (histories i)) (all : List Doing)
+      (count : length stations ≡ length sources) (had : HaveIncarnations g (plan_of setting sources) stations) (histories : ℕ → List Deed)
+      (each : (i : ℕ) (less : i < length stations) → IsThere (place_of (plan_of setting sources) i) (get_or stations i None) (had i less) (histories i)) (all : List Doing)
       (order : IsTrueOrder (length sources) histories all) where
     counted : (i : ℕ) → i < length sources → i < length stations
     counted i less = subst (λ (n : ℕ). i < n) (sym count) less
@@ -159,7 +159,7 @@ module _ {D : Type 0} (g : Ghosts D) where
         law setting sources histories all are_processes i s (call_of is.found e) is.store within there.did is.seated
         (subst (λ (arrived : List Arrived). IsUnforged (record_of all).sent ((record_of all).delivered ++ map (placed_at (length (record_of all).sent)) arrived)) is.arrived unforged) is.turn
 
-    all_are_backed : ProcessesAreBacked → AllAreBacked g (plan_of setting sources) stations lived all
+    all_are_backed : ProcessesAreBacked → AllAreBacked g (plan_of setting sources) stations had all
     all_are_backed law i less file frame message finds sent from says =
         let there = each i less in
         let s = there.s in
@@ -172,7 +172,7 @@ module _ {D : Type 0} (g : Ghosts D) where
         ])
 
     are_promised : ConflictsAreRefusals g → ProcessesShowOneList → ProcessesAreBacked → ProcessesNeverConflict → IsTrue g.is_honest
-        → ArePromised g stations setting sources lived histories all
+        → ArePromised g stations setting sources had histories all
     are_promised refusals shows backs law honest = record {
       processes = are_processes;
       list = shows setting sources histories all are_processes;
@@ -180,12 +180,13 @@ module _ {D : Type 0} (g : Ghosts D) where
       conflict = none_conflicts refusals law honest;
     }
 
-  pub stations_are_promised : LivesAreDeeds g → ImagesAreSeen g → ConflictsAreRefusals g → ProcessesShowOneList → ProcessesAreBacked → ProcessesNeverConflict
+  pub stations_are_promised : IncarnationsAreDeeds g → ImagesAreSeen g → ConflictsAreRefusals g → ProcessesShowOneList → ProcessesAreBacked → ProcessesNeverConflict
       → (stations : List (Option (Station D g))) → StationsArePromised g (map (option_map look_of) stations)
-  stations_are_promised lives images refusals shows backs law stations setting sources is_plan count honest lived =
+  stations_are_promised incarnations images refusals shows backs law stations setting sources is_plan count honest had =
       let plan = plan_of setting sources in
-      ∥∥₁_map (all_nodes stations lives images honest plan lived) (λ each. (
-        all_did stations plan lived each,
-        has_history stations plan lived each,
-        (λ all order. are_promised (looks stations) setting sources is_plan count lived (all_did stations plan lived each) (there_at stations plan lived each) all order refusals shows backs law honest),
-      ))
+      ∥∥₁_map (all_nodes stations incarnations images honest plan had) (λ each. record {
+        histories = all_did stations plan had each;
+        have = has_history stations plan had each;
+        promised = λ all order.
+            are_promised (looks stations) setting sources is_plan count had (all_did stations plan had each) (there_at stations plan had each) all order refusals shows backs law honest;
+      })

@@ -4,5 +4,5 @@ pub mod Joining
 pub mod Stations
 pub mod Giving
 pub mod Looking
-pub mod Lives
+pub mod Incarnations
 pub mod Together

@@ -3,7 +3,7 @@
 ghost use Rattle.std.specs.Prelude.{map, option_map};
 ghost use Rattle.stations.specs.Joining.{ProcessesShowOneList, ProcessesAreBacked, ProcessesSendToNodes, ProcessesNeverConflict};
 ghost use Rattle.stations.specs.Stations.{DeathsAtRestAreDeeds, DeathsInsideAreDeeds};
-ghost use Rattle.stations.specs.Lives.{LivesAreDeeds};
+ghost use Rattle.stations.specs.Incarnations.{IncarnationsAreDeeds};
 ghost use Rattle.stations.specs.Together.{StationsArePromised, ListsOfStationsArePromised};
 ghost use Rattle.stations.specs.Looking.{look_of};
 
@@ -60,8 +60,8 @@ pub fn deaths_are_deeds<D: Disk + Drop>()
 
 /// The processes that a node had, one after another, the first over a new store, each next over what the one before left:
 /// what they did, together, is by the rules of the node, and the last of them left what these lead to.
-pub fn lives_are_deeds<D: Disk + Drop>()
-    ensures { LivesAreDeeds D.Disk }
+pub fn incarnations_are_deeds<D: Disk + Drop>()
+    ensures { IncarnationsAreDeeds D.Disk }
 {
     deaths_are_deeds::<D>();
 }
@@ -85,7 +85,7 @@ pub fn stations_are_promised<D: Disk + Drop>(_stations: &[Option<Station<D>>])
 pub fn lists_of_stations_are_promised<D: Disk + Drop>()
     ensures { ListsOfStationsArePromised D.Disk }
 {
-    lives_are_deeds::<D>();
+    incarnations_are_deeds::<D>();
     images_are_seen::<D>();
     events_are_calls::<D>();
     processes_show_one_list();

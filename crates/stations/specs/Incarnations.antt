@@ -36,17 +36,17 @@ module _ {D : Type 0} (g : Ghosts D) where
       (own ≡ died ∷ look.deeds) ⊎ (own ≡ broke_off (front_in look.node) e ∷ look.deeds)
 
   -- the processes that a node had, up to a file: the first was begun on a new store, each next on what the one before left
-  pub data Lives (place : Place) : List ℕ → Type 0 where
-    new_store : (file : List ℕ) → StandsFor (header place.node place.nodes) file empty_store → Lives place file
-    one_more : (found left : List ℕ) → Lives place found → Ended place found left → Lives place left
+  pub data Incarnations (place : Place) : List ℕ → Type 0 where
+    new_store : (file : List ℕ) → StandsFor (header place.node place.nodes) file empty_store → Incarnations place file
+    one_more : (found left : List ℕ) → Incarnations place found → Ended place found left → Incarnations place left
 
   -- what these did together, newest first
-  abbrev pub IsHistoryOf : (place : Place) (file : List ℕ) → Lives place file → List Deed → Type 0
+  abbrev pub IsHistoryOf : (place : Place) (file : List ℕ) → Incarnations place file → List Deed → Type 0
   IsHistoryOf place _ (new_store file is) deeds = deeds ≡ []
-  IsHistoryOf place _ (one_more found left lives ended) deeds =
-      (before : List Deed) × (own : List Deed) × IsHistoryOf place found lives before × MayHaveDone place found left ended own × (deeds ≡ own ++ before)
+  IsHistoryOf place _ (one_more found left incarnations ended) deeds =
+      (before : List Deed) × (own : List Deed) × IsHistoryOf place found incarnations before × MayHaveDone place found left ended own × (deeds ≡ own ++ before)
 
   -- there is a history that leads to the file
-  abbrev pub LivesAreDeeds : Type 0
-  LivesAreDeeds = (place : Place) (file : List ℕ) (lives : Lives place file) → IsTrue g.is_honest
-      → ∥ ((deeds : List Deed) × IsHistoryOf place file lives deeds × LeavesFile place file deeds) ∥₁
+  abbrev pub IncarnationsAreDeeds : Type 0
+  IncarnationsAreDeeds = (place : Place) (file : List ℕ) (incarnations : Incarnations place file) → IsTrue g.is_honest
+      → ∥ ((deeds : List Deed) × IsHistoryOf place file incarnations deeds × LeavesFile place file deeds) ∥₁

@@ -19,8 +19,8 @@ use Rattle.dealer_node.specs.Nodes.{Node}
 use Rattle.dealer_node.specs.Seeing.{disk_in, images_by, images_of}
 use Rattle.dealer_world.specs.RuleRuns.{plan_of}
 use Rattle.stations.specs.Stations.{Look, opened, died}
-use Rattle.stations.specs.Lives.{IsProcess, Ended, at_rest, Lives, new_store, one_more, IsHistoryOf}
-use Rattle.stations.specs.Together.{MayFind}
+use Rattle.stations.specs.Incarnations.{IsProcess, Ended, at_rest, Incarnations, new_store, one_more, IsHistoryOf}
+use Rattle.stations.specs.Together.{PastIncarnations, MayFind}
 
 abbrev plan : Plan
 plan = plan_of setting (Seed 7 ∷ Seed 8 ∷ Seed 9 ∷ [])
@@ -107,24 +107,27 @@ module _ (file : List ℕ) (whole : landed 1 [] 0 file ≡ file) (disk : MemoryD
 -- ---- two that died before they were started
 
 module _ (first second : MemoryDisk) (begun : IsBegunOn created first) (again : IsBegunOn created second) where
-  first_life : Ended in_memory place created created
-  first_life = at_rest (look first) (is_process created refl first begun) (leaves_it created refl first begun)
+  first_incarnation : Ended in_memory place created created
+  first_incarnation = at_rest (look first) (is_process created refl first begun) (leaves_it created refl first begun)
 
-  second_life : Ended in_memory place created created
-  second_life = at_rest (look second) (is_process created refl second again) (leaves_it created refl second again)
+  second_incarnation : Ended in_memory place created created
+  second_incarnation = at_rest (look second) (is_process created refl second again) (leaves_it created refl second again)
 
-  two_lives : Lives in_memory place created
-  two_lives = one_more created created (one_more created created (new_store created stands) first_life) second_life
+  two_incarnations : Incarnations in_memory place created
+  two_incarnations = one_more created created (one_more created created (new_store created stands) first_incarnation) second_incarnation
 
-  what_they_did : IsHistoryOf in_memory place created two_lives (died ∷ died ∷ [])
-  unfolding two_lives first_life second_life
+  what_they_did : IsHistoryOf in_memory place created two_incarnations (died ∷ died ∷ [])
+  unfolding two_incarnations first_incarnation second_incarnation
   what_they_did = (died ∷ [], died ∷ [], ([], died ∷ [], refl, refl, refl), refl, refl)
 
+  abbrev both : PastIncarnations in_memory place
+  both = record { file = created; incarnations = two_incarnations }
+
   -- the node's next process finds what the last one left, and nothing else
-  what_the_next_finds : MayFind in_memory place None (created, two_lives) created
+  what_the_next_finds : MayFind in_memory place None both created
   what_the_next_finds = refl
 
-  what_it_does_not_find : MayFind in_memory place None (created, two_lives) with_promise → ⊥
+  what_it_does_not_find : MayFind in_memory place None both with_promise → ⊥
   what_it_does_not_find same = let more : 18 ≡ 9 = ap (λ (file : List ℕ). length file) same in omega (arith, more)
 
 -- one that was begun on what the one before it didn't leave
@@ -145,5 +148,5 @@ module _ (running : Look (Node MemoryDisk)) (is : IsProcess in_memory place crea
   dies_there : Ended in_memory place created torn
   dies_there = at_rest running is (subst (λ d. images_by in_memory d torn) (sym its) (subst (λ (c : List Event). IsImage (contents c) torn) (sym calls) a_part_is_left))
 
-  goes_on : Lives in_memory place torn
+  goes_on : Incarnations in_memory place torn
   goes_on = one_more torn torn (one_more created torn (new_store created stands) dies_there) (at_rest (look next) (is_process torn refl next on) (leaves_it torn refl next on))
