@@ -28,7 +28,7 @@ outage = [{node = 1, at = 1, back = 2}]
 SERVED = DEALS.replace(b"[[node]]", SERVE + b"[[node]]", 1)
 REFUSED = {"100 NotToml", "101 BadEntry", "102 Game"}
 WORDS = [
-    *b"name game hands names node deals seed port host stores logs away outage key tokens patience peers seats status".split(),
+    *b"name game hands names node deals seed port host stores logs away outage key tokens patience start peers seats status from".split(),
     *b"[[node]] [node] = 0 1 2 3 10000 10001 -1 1.5 true".split(),
     *b"TdAs|8hTc/2c8c3h/9c/Kh alice bob l2.game 18446744073709551615 18446744073709551616 [ ] { } , # ''' \"\"\"".split(),
     b'"', b"'", b"\\", b"\n", b"\r\n", b" ", b"\0", b"\xff", b"\xc3\xa9", b'name = "m"\n', b"hands = 1\n", b"[[node]]\n", b"seed = 1\n",

@@ -134,7 +134,19 @@ seats = "10.0.0.9:7000"
 OTHERS = "9.255.255.255 11.0.0.0 172.15.255.255 172.32.0.0 192.169.0.0 100.63.255.255 100.128.0.0 [fbff::1] [fe00::1] [fe80::1%3] [::ffff:10.0.0.7] [::]"
 TRUSTED = """127.0.0.0:1 127.255.255.255:65535 10.0.0.0:1 10.255.255.255:1 172.16.0.0:1 172.31.255.255:1 192.168.0.0:1
 192.168.255.255:1 100.64.0.0:1 100.127.255.255:1 [fc00::]:1 [fdff:ffff:ffff:ffff:ffff:ffff:ffff:ffff]:1"""
+# From where a node may dial: one IP address, or an array of such; and what is neither.
+HOSTS = """"10.0.0.7" "8.8.8.8" "0.0.0.0" "::" "fd00::7" "::ffff:10.0.0.7" '::1' [] ["fd00::7"] ["10.0.0.7","::1","10.0.0.7"]""".split()
+NO_HOSTS = """"10.0.0.7:21000" "[fd00::7]" "fd00::7%3" "10.0.0" "010.0.0.7" "10.0.0.256" "10.0.0.7/8" "localhost" "" "\\t10.0.0.7" 10 true
+[7] [""] ["10.0.0.7",8] [["10.0.0.7"]] {ip="10.0.0.7"}""".split()
 REACHED_ROWS = [
+    *[("seed = 1", f"seed = 1\nfrom = {value}", "101 BadEntry from") for value in NO_HOSTS],
+    *[("seed = 1", f"seed = 1\nfrom = {value}", "") for value in HOSTS],
+    ("seed = 3", "seed = 3\nfrom = 7", "101 BadEntry from"),
+    ("[fd00::7%3]:65534", '[fd00::7%3]:0"\nfrom = "7', "101 BadEntry seats"),
+    ('stores = "stores"', 'from = 7\nstores = "stores"', ""),
+    *[('logs = "a folder"', f'logs = "a folder"\naway = {word}', "101 BadEntry away") for word in ('"never"', '"Wait"', '""', "1", '["wait"]')],
+    *[('logs = "a folder"', f'logs = "a folder"\naway = {word}', "") for word in ('"wait"', '"play"')],
+    ('logs = "a folder"', 'away = "never"', "101 BadEntry logs"),
     ('stores = "stores"\nlogs = "a folder"\n', "", "101 BadEntry stores"),
     ('logs = "a folder"\n', "", "101 BadEntry logs"),
     ('peers = "10.0.0.7:21000"\nseats', "other", "101 BadEntry peers"),
@@ -173,6 +185,10 @@ seed = 3
 peers = "8.8.4.4:21000"
 seats = "8.8.4.4:7000"
 """
+# Times from 0.1 to 86400 seconds: a number of whole ones, or a text with one to three digits behind its point; and what is neither.
+TIMES = """1 86400 "0.1" "0.10" "0.100" "0.5" "2.25" "0.999" "30.0" "86399.999" "86400.0" "86400.000" '1.5'""".split()
+NO_TIMES = """86401 0 -1 0.5 30.0 true [1] ["0.5"] "30" "" "." "0." ".5" "0.1234" "00.5" "01.5" "+0.5" "-0.5" "0.-5" "0.5s" "0.5.5" "0,5" "1e1.5"
+"0.5\\t" "0.0" "0.09" "0.099" "86400.001" "86401.0" "4294967296.5" "18446744073709551617.5" "\\u0661.5" """.split()
 KEYED_ROWS = [
     ('"match.key"', "1", "101 BadEntry key"),
     ('key = "match.key"\n', "", "101 BadEntry peers"),
@@ -188,10 +204,16 @@ KEYED_ROWS = [
     ('E7B4282"', 'E7B428g"', "101 BadEntry tokens"),
     ('"A76C', '7, # "A76C', "101 BadEntry tokens"),
     ('"A76C', '# "A76C', "101 BadEntry tokens"),
-    *[("86400", word, "101 BadEntry patience") for word in ("86401", "0", "-1", '"30"')],
-    ("86400", "1", ""),
+    ('E7B4282",\n]', 'E7B428"\n]\nstart = 0', "101 BadEntry tokens"),
+    ('status = "21900"', 'status = "0"\nfrom = 7', "101 BadEntry status"),
+    ('status = "21900"', 'status = "21900"\nfrom = ["::1"]', ""),
+    ('key = "match.key"', 'key = 1\naway = "never"', "101 BadEntry away"),
+    *[("86400", word, "101 BadEntry patience") for word in NO_TIMES],
+    *[("86400", word, "") for word in TIMES],
     ("patience = 86400", "", ""),
-    ("86400", "86400", ""),
+    *[("86400", f"1\nstart = {word}", "101 BadEntry start") for word in NO_TIMES],
+    *[("86400", f"1\nstart = {word}", "") for word in TIMES],
+    ("86400", "0\nstart = 0", "101 BadEntry patience"),
 ]
 
 
