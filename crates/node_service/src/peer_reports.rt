@@ -1,6 +1,7 @@
 //! What each peer has told of itself.
 
-ghost use Rattle.std.specs.Prelude.{◌≤◌, length};
+ghost use Rattle.std.specs.Prelude.{◌≡◌, ◌≤◌, length};
+ghost use Rattle.clockwork.specs.PeerReports.{report_after};
 ghost use Rattle.clockwork.specs.declared.limits.TheConstants.{MOST_PEERS};
 
 use crate::limits::NODES;
@@ -27,6 +28,13 @@ struct LastReport {
 #[derive(Clone, Copy)]
 pub(crate) struct PeerReports {
     all: [LastReport; NODES],
+}
+
+/// What a peer has told of itself once this beat came, where this node's front is `own` and `earlier` was told before.
+fn reported(earlier: Option<PeerReport>, told: &Beat, own: u32, now: u64) -> PeerReport
+    ensures { result ≡ report_after earlier told.now.front told.now.campaigns told.now.over own now }
+{
+    report_after(earlier, told.front, told.campaigns, told.over, own, now)
 }
 
 /// Of a beat that was taken before only this is new: where the peer isn't behind this node's front, it is so now.
@@ -58,7 +66,7 @@ impl LastReport {
         let earlier = if self.since == since { self.beat } else { None };
         let beat = match earlier {
             Some(earlier) if self.number == told.number => refreshed(earlier, front, now),
-            earlier => { report_after(earlier, told.front, told.campaigns, told.over, front, now) }
+            earlier => reported(earlier, told, front, now),
         };
         LastReport {
             beat: Some(beat),

@@ -2,7 +2,7 @@
 
 use crate::match_tests::{assert_whole, run};
 use crate::world::World;
-use node_wires::Line;
+use node_wires::{Line, MemoryWire};
 use std::alloc::{AllocError, Global};
 use std::process::Abort;
 use std::test::Fail;
@@ -10,6 +10,16 @@ use std::test::Fail;
 /// How node 1 is while the first player of the first hand is waited for: node 0 leads in the first ballot.
 const STATUS: &[u8] =
     b"node 1 front 1 hand 0 over no promised 1.0 leads no quorum yes peers 0:1:campaigns,2:1 seats alice:away,bob:away pending no backlog 0,0 commands 0/s
+";
+
+/// How node 0 is once it has begun a ballot of which nobody has heard: it leads nobody.
+const UNHEARD: &[u8] =
+    b"node 0 front 0 hand - over no promised 1.0 leads no quorum yes peers 1:0,2:0 seats alice:away,bob:away pending no backlog 0,0 commands 0/s
+";
+
+/// The same once the others have promised it the ballot, and the first hand runs.
+const HEARD: &[u8] =
+    b"node 0 front 1 hand 0 over no promised 1.0 leads yes quorum yes peers 1:1,2:1 seats alice:away,bob:away pending no backlog 0,0 commands 0/s
 ";
 
 /// A match of two hands by three nodes, which nobody comes to, with this patience.
@@ -38,20 +48,65 @@ fn who_is_away_is_played_for(rt: HostRuntime) -> Result<(), Fail> {
 fn who_asks_is_told_how_a_node_is(rt: HostRuntime) -> Result<(), Fail> {
     let mut world = empty(&rt, rt.alloc(), None)?;
     run(&rt, &mut world, 300)?;
-    let Some(place) = world.places.get_mut(1) else {
+    assert_told(&rt, &mut world, 1, STATUS)?;
+    Ok(())
+}
+
+/// The wires of a node's process.
+fn wire_of<'a>(rt: &impl Abort, world: &'a mut World, node: usize) -> &'a mut MemoryWire {
+    let Some(place) = world.places.get_mut(node) else {
         panic!(rt; "no nodes");
     };
     let Some(wire) = place.wire() else {
         panic!(rt; "no process");
     };
-    wire.ask();
-    world.step(&rt)?;
-    let Some(place) = world.places.get_mut(1) else {
-        panic!(rt; "no nodes");
-    };
-    let Some(wire) = place.wire() else {
-        panic!(rt; "no process");
-    };
-    assert_eq!(rt; wire.written(Line::Asker(0)), STATUS);
+    wire
+}
+
+/// One who asks a node how it is gets this line in the next turn.
+fn assert_told(
+    rt: &impl Abort,
+    world: &mut World,
+    node: usize,
+    line: &[u8],
+) -> Result<(), AllocError> {
+    wire_of(rt, world, node).ask();
+    world.step(rt)?;
+    assert_eq!(rt; wire_of(rt, world, node).written(Line::Asker(0)), line);
+    Ok(())
+}
+
+/// A match goes on for so many turns.
+fn go_on(rt: &impl Abort, world: &mut World, turns: u64) -> Result<(), AllocError> {
+    for _ in 0..turns {
+        world.step(rt)?;
+    }
+    Ok(())
+}
+
+/// How many turns it takes until node 0 has begun a ballot.
+fn turns_to_a_ballot(rt: &impl Abort, alloc: Global) -> Result<u64, AllocError> {
+    let mut world = empty(rt, alloc, None)?;
+    for turn in 0..300u64 {
+        if world.campaigns(0) {
+            return Ok(turn);
+        }
+        world.step(rt)?;
+    }
+    panic!(rt; "no ballot is begun");
+}
+
+/// Who prepares a ballot that nobody has promised leads nobody, though others are told that it campaigns.
+#[test]
+fn who_was_promised_nothing_does_not_lead(rt: HostRuntime) -> Result<(), Fail> {
+    let turns = turns_to_a_ballot(&rt, rt.alloc())?;
+    let mut world = empty(&rt, rt.alloc(), None)?;
+    go_on(&rt, &mut world, turns.saturating_sub(1))?;
+    world.silence(0, true);
+    go_on(&rt, &mut world, 5)?;
+    assert_told(&rt, &mut world, 0, UNHEARD)?;
+    world.silence(0, false);
+    go_on(&rt, &mut world, 200)?;
+    assert_told(&rt, &mut world, 0, HEARD)?;
     Ok(())
 }

@@ -13,6 +13,13 @@ impl World {
         }
     }
 
+    /// Nothing of a node comes through to the others any more, or all does again.
+    pub(crate) fn silence(&mut self, node: u8, is_silent: bool) {
+        for other in 0..self.nodes {
+            self.cut(node, other, is_silent);
+        }
+    }
+
     /// Nothing comes through from one node to another any more, or all does again.
     fn cut(&mut self, from: u8, to: u8, is_cut: bool) {
         if let Some(row) = self.cuts.get_mut(from as usize) {

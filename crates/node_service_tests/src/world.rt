@@ -163,6 +163,17 @@ impl World {
             .all(|place| place.outcome == Outcome::Over)
     }
 
+    /// Whether a node prepares or leads a ballot.
+    pub(crate) fn campaigns(&self, node: u8) -> bool {
+        let Some(place) = self.places.get(node as usize) else {
+            return false;
+        };
+        match &place.server {
+            Some(server) => server.station().node().campaigns(),
+            None => false,
+        }
+    }
+
     /// The greatest front of all that run.
     pub(crate) fn front(&self) -> u32 {
         let mut most = 0;
