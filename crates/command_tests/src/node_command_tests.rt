@@ -214,20 +214,20 @@ fn server<D: Disk + Drop>(
 
 /// How a process ended, if it had a store to begin on, and whether a call of its disk failed.
 #[derive(Drop)]
-struct Ran {
+struct ProcessEnd {
     end: Option<NodeEnd>,
     has_failed: bool,
 }
 
 /// It had no store to begin on.
-const UNBEGUN: Ran = Ran {
+const UNBEGUN: ProcessEnd = ProcessEnd {
     end: None,
     has_failed: true,
 };
 
 /// How the process of node 0 ends whose log can't be written, and whose disk fails at the call of this number, counted from
 /// 1. What it told stands in `notes`.
-fn ran(alloc: Global, call: u64, notes: &mut Vec<u8>) -> Result<Ran, Fail> {
+fn ran(alloc: Global, call: u64, notes: &mut Vec<u8>) -> Result<ProcessEnd, Fail> {
     let Ok(store) = Store::create(alloc, OnceDisk::new(alloc, call), 0, 3) else {
         return Ok(UNBEGUN);
     };
@@ -240,7 +240,7 @@ fn ran(alloc: Global, call: u64, notes: &mut Vec<u8>) -> Result<Ran, Fail> {
         Some(disk) => disk.failures() > 0,
         None => true,
     };
-    Ok(Ran { end, has_failed })
+    Ok(ProcessEnd { end, has_failed })
 }
 
 /// Sees what a process told and how it ended, and says whether by its store.
@@ -271,7 +271,7 @@ fn a_start_that_fails_ends_the_process(rt: HostRuntime) -> Result<(), Fail> {
     let mut stores = 0u64;
     for call in 1..MOST_CALLS {
         let mut notes = Vec::new(rt.alloc());
-        let Ran { end, has_failed } = ran(rt.alloc(), call, &mut notes)?;
+        let ProcessEnd { end, has_failed } = ran(rt.alloc(), call, &mut notes)?;
         if let Some(end) = end {
             let is_by_store = ended_by_store(&rt, rt.alloc(), end, &notes)?;
             stores = stores.saturating_add(is_by_store as u64);

@@ -15,9 +15,6 @@ fn fails_in(rt: &impl Abort, alloc: Global, call: u64) -> Result<bool, AllocErro
     Ok(world.places.iter().any(|place| place.has_failed))
 }
 
-/// More calls than the wires of a node are given in a match.
-const MOST_CALLS: u64 = 1_000_000;
-
 #[test]
 fn a_call_fails_at_first(rt: HostRuntime) -> Result<(), Fail> {
     for call in 1..9 {
@@ -26,11 +23,12 @@ fn a_call_fails_at_first(rt: HostRuntime) -> Result<(), Fail> {
     Ok(())
 }
 
-/// The ninth call, and then each that is twice as far, until none fails.
+/// The ninth call, and then each that is twice as far, until none fails: the wires of a node are given far fewer calls in a
+/// match than twenty doublings make.
 #[test]
 fn a_call_fails_later(rt: HostRuntime) -> Result<(), Fail> {
     let mut call = 9u64;
-    while call < MOST_CALLS {
+    for _ in 0..20 {
         if !fails_in(&rt, rt.alloc(), call)? {
             assert!(rt; call > 100);
             return Ok(());
