@@ -7,6 +7,8 @@ TOP = Path(__file__).resolve().parent.parent
 PAGE = TOP / "docs/ARCHITECTURE.md"
 TIMES = TOP / "out/times.md"
 BESIDE = TOP / "wrong-bodies"
+# The pages that are written by hand.
+PAGES = ["README.md", "CONTRIBUTING.md", "docs/*.md", "bench/RESULTS.md", "crates/*/README.md"]
 TABLE = re.compile(r"^\| crate \|.*(?:\n\|.*)*\n?", re.M)
 # The columns of processor minutes, in both tables: what proving a crate and its tests took, and what its edits took.
 KINDS = ("minutes of proofs", "of edits")
