@@ -1,17 +1,17 @@
-"""What the scripts know of the crates: what they stand on, where their refused edits stand, and the minutes that they take."""
+"""What the scripts know of the crates: what they use, where their mutants are, and the minutes that they take."""
 import os
 import re
 from pathlib import Path
 
 TOP = Path(__file__).resolve().parent.parent
-PAGE = TOP / "docs/ARCHITECTURE.md"
+PAGE = TOP / "bench/RESULTS.md"
 TIMES = TOP / "out/times.md"
 BESIDE = TOP / "wrong-bodies"
 # The pages that are written by hand.
 PAGES = ["README.md", "CONTRIBUTING.md", "docs/*.md", "bench/RESULTS.md", "crates/*/README.md"]
 TABLE = re.compile(r"^\| crate \|.*(?:\n\|.*)*\n?", re.M)
-# The columns of processor minutes, in both tables: what proving a crate and its tests took, and what its edits took.
-KINDS = ("minutes of proofs", "of edits")
+# The columns of processor minutes, in both tables: what proving a crate and its tests took, and what its mutants took.
+KINDS = ("minutes of proofs", "of mutants")
 # What out/times.md says of a run that did not prove and try everything.
 PARTLY = ("kept from earlier runs", "it failed")
 # What a check of a crate is given of the memory, in bytes. Nearly all take at most 3 GB; the tests of the commands, which
@@ -85,7 +85,7 @@ def figures(text):
 
 
 def in_page():
-    """The minutes that docs/ARCHITECTURE.md tells."""
+    """The minutes that bench/RESULTS.md has."""
     return figures(PAGE.read_text())
 
 
