@@ -22,7 +22,7 @@ def in_code():
 
 
 def in_page():
-    """The faults that rows of the page have, as often as they stand there: `| 91 | `Store` |`, or `| 91 `Store` |`."""
+    """The faults that rows of the page have, one for each row: `| 91 | `Store` |`, or `| 91 `Store` |`."""
     found = []
     for first, second in ROW.findall(PAGE.read_text(encoding="utf-8")):
         pairs = re.findall(r"(\d{1,3}) `([A-Z]\w+)", first)

@@ -1,7 +1,7 @@
 """What tools/pages --style looks for on pages: long sentences, a high mean, fault numbers without a name, private words.
 
-A page is Markdown. Code blocks, comments and headings are no sentences. What stands in backquotes counts as one word and
-is not looked into. A paragraph, an item of a list and a cell of a table each end their last sentence.
+A page is Markdown. Code blocks, comments and headings are no sentences. What is in backquotes counts as one word and
+isn't looked into. A paragraph, an item of a list and a cell of a table each end their last sentence.
 """
 import re
 
@@ -38,15 +38,15 @@ PRIVATE = {
     r"comes? of": "is caused by",
 }
 WORD = re.compile(r"\b(?:" + "|".join(f"({text})" for text in PRIVATE) + r")\b", re.I)
-# Numbers of faults; the small ones are counts as often, so they are looked at behind the word fault alone.
+# Numbers of faults. Small ones are often counts, so they are looked at only after the word fault.
 LARGE = {*range(60, 65), 70, 71, *range(80, 86), *range(90, 97), *range(100, 111), *range(120, 130)}
 SMALL = {1, 2, *range(10, 27), 30, 31, *range(40, 55)}
-# What goes before a number that means a fault, and what goes behind one that counts nothing.
+# The word before a number that means a fault, and what follows a number that counts nothing.
 BEFORE = r"(?:by|with|see|under|faults?|numbers?|codes?|answers?|prints?|ends? (?:by|with)|statuses|says)"
-BEHIND = r"(?=\s*(?:$|[,.;:)\]]|(?:and|or|to|where|when|if|with|at|in|for|is|are|was|means?|comes?|ends?)\b))"
+AFTER = r"(?=\s*(?:$|[,.;:)\]]|(?:and|or|to|where|when|if|with|at|in|for|is|are|was|means?|comes?|ends?)\b))"
 NUMBER = r"(\d{1,3})(?![\d.,]*\d)(?!\s*(?:%|§[A-Z]|[A-Z][a-z]+[A-Z]))"
-BARE = re.compile(rf"\b({BEFORE})\s+(?:the\s+)?{NUMBER}{BEHIND}", re.I)
-FIRST = re.compile(rf"^\W*{NUMBER}{BEHIND}")
+BARE = re.compile(rf"\b({BEFORE})\s+(?:the\s+)?{NUMBER}{AFTER}", re.I)
+FIRST = re.compile(rf"^\W*{NUMBER}{AFTER}")
 LIST = re.compile(r"\((\d{1,3}(?:(?:,| and| or| to) \d{1,3})+)\)")
 SPAN = re.compile(r"(`+)(.+?)\1", re.S)
 END = re.compile(r"(?<=[.!?])[\"')*_]*\s+(?=[\"'(*_\[]*[A-Z§0-9])|(?<=[.!?]\*\*)\s+(?=[A-Z§0-9])")
@@ -74,7 +74,7 @@ class Unit:
 
 
 def blanked(text):
-    """A text with each code span as one word: the name that it begins with behind §, or § alone; as many line ends as before."""
+    """A text with each code span as one word: § and the name that it begins with, or § alone; line ends stay."""
 
     def word(span):
         name = re.match(r"\s*(?:\d+ )?([A-Z][a-z]\w*)\b", span[2])
