@@ -1,0 +1,91 @@
+// Draws the list of hands and the table of figures.
+
+const HANDS_ON_PAGE = 25;
+
+const COLUMNS = [
+  { id: "hands", title: "Hands", meaning: "Hands played." },
+  {
+    id: "vpip", title: "VPIP", part: "voluntary", whole: "turns", name: "Voluntarily put in pot",
+    meaning: "How often he put chips in before the flop that no blind made him: he called more than he had in, or raised. Of hands in which he had a turn before the flop.",
+  },
+  { id: "pfr", title: "PFR", part: "raised", whole: "turns", name: "Preflop raise", meaning: "How often he raised before the flop. Of the same hands as VPIP." },
+  { id: "aggression", title: "Aggression", part: "aggressive", whole: "actions", meaning: "Bets and raises, of all his actions after the flop except checks." },
+  {
+    id: "went", title: "Went to showdown", part: "showdowns", whole: "flops",
+    meaning: "How often he and another hadn't folded at the end. Of hands in which he hadn't folded when the flop came, also when all were all-in before.",
+  },
+  {
+    id: "won", title: "Won at showdown", part: "won", whole: "showdowns",
+    meaning: "How often he got chips of a pot at a showdown. Chips of his own that nobody called and that came back to him don't count.",
+  },
+  { id: "chips", title: "Chips", meaning: "Chips won or lost in all." },
+  {
+    id: "rate", title: "mbb/hand", name: "Thousandths of the greatest blind a hand",
+    meaning: "1000 × chips / greatest blind, a hand; ± 1.96 s / √hands, where s is the standard deviation of his chips in a hand. In 95 of 100 such matches the true rate is inside.",
+  },
+  { id: "worst", title: "Lost most", meaning: "The hand in which he lost most." },
+];
+
+/** Draws one page of the list of hands. `address` gives a hand's address. */
+function drawList(list, page, player, isMany, address, current) {
+  const heads = ["Hand", player || "Winner", player ? "Cards" : null, "Pot", "End"].filter(Boolean);
+  refill(byId("list-head"), heads.map((text) => element("th", { scope: "col" }, text)));
+  const shown = list.slice(page * HANDS_ON_PAGE, (page + 1) * HANDS_ON_PAGE);
+  refill(byId("list-body"), shown.map((hand) => listRow(hand, player, isMany, address(hand), hand === current)));
+  const pages = Math.max(1, Math.ceil(list.length / HANDS_ON_PAGE));
+  byId("page").textContent = `${page + 1} of ${pages}`;
+  byId("page-back").disabled = page === 0;
+  byId("page-forward").disabled = page + 1 >= pages;
+}
+
+function listRow(hand, player, isMany, address, isCurrent) {
+  const position = player ? hand.names.indexOf(player) : hand.payoffs.indexOf(Math.max(...hand.payoffs));
+  const chips = valueElement(hand.payoffs[position]);
+  const hole = hand.holes[position];
+  const cells = [
+    element("th", { scope: "row" }, element("a", { href: address, "aria-current": isCurrent && "true" }, isMany ? `${hand.match + 1}/${hand.number}` : String(hand.number))),
+    element("td", {}, player ? chips : [element("span", { class: "winner" }, hand.names[position]), " ", chips]),
+    player ? element("td", {}, hole ? cardsElement(hole) : element("span", { class: "quiet" }, "hidden")) : null,
+    element("td", {}, chipsText(hand.pot)),
+    element("td", {}, endText(hand), hand.allIn.some(Boolean) ? element("span", { class: "tag" }, "all-in") : null),
+  ];
+  return element("tr", { class: isCurrent && "is-current" }, cells);
+}
+
+/** Says how many hands the list has. */
+function countText(list, all) {
+  const of = list.length === all.length ? "" : ` of ${chipsText(all.length)}`;
+  return `${chipsText(list.length)}${of} ${all.length === 1 ? "hand" : "hands"}`;
+}
+
+/** Draws each player's figures, with a row for each position below where that is asked for. */
+function drawFigures(game, figures, isByPosition, handLink) {
+  refill(byId("figures-head"), element("th", { scope: "col" }, "Player"), COLUMNS.map(({ title, name }) => element("th", { scope: "col", title: name }, title)));
+  const rows = [...figures].flatMap(([name, { total, positions }]) => [
+    figuresRow(game, element("th", { scope: "row" }, name), total, handLink),
+    ...(isByPosition ? positions.map((some, position) => figuresRow(game, positionHead(game, position), some, handLink, "by-position")) : []),
+  ]);
+  refill(byId("figures-body"), rows);
+  refill(byId("meanings"), COLUMNS.map(({ title, name, meaning }) => [element("dt", {}, title, name ? element("span", {}, ` ${name}`) : null), element("dd", {}, meaning)]));
+}
+
+function positionHead(game, position) {
+  return element("th", { scope: "row" }, positionText(game, position));
+}
+
+function figuresRow(game, head, figures, handLink, kind = null) {
+  const cells = COLUMNS.map((column) => element("td", { "data-title": column.title, "data-figure": column.id }, figureCell(game, column, figures, handLink)));
+  return element("tr", { class: kind }, head, cells);
+}
+
+function figureCell(game, { id, part, whole }, figures, handLink) {
+  if (part) {
+    return [percentText(figures[part], figures[whole]), element("small", {}, `${chipsText(figures[part])} of ${chipsText(figures[whole])}`)];
+  }
+  if (id === "hands") return chipsText(figures.hands);
+  if (figures.hands === 0) return "–";
+  if (id === "chips") return valueElement(figures.chips);
+  if (id === "worst") return figures.worst.value < 0 ? [valueElement(figures.worst.value), element("small", {}, handLink(figures.worst.hand))] : "–";
+  const { rate, half } = figures.rate(Math.max(...game.blinds));
+  return [valueElement(Math.round(rate)), half === null ? null : element("small", {}, `± ${chipsText(Math.round(half))}`)];
+}

@@ -1,0 +1,296 @@
+// What is shown now, and what the reader's keys and buttons change about it.
+
+const PLAY_MILLISECONDS = 900;
+const ADDRESS = /^#(?:(\d+)\/)?(\d+)$/;
+
+const data = JSON.parse(byId("data").textContent);
+const game = readGame(data.game.text);
+const matches = data.matches.map(({ lines }, index) => readMatch(game, lines, index));
+const isMany = matches.length > 1;
+
+const view = { match: null, scope: isMany ? -1 : 0, hand: null, steps: [], at: 0, list: [], page: 0, band: null, timer: null, handAt: null };
+
+/** Returns the hands of the match that is chosen, or of all. */
+function scopeHands() {
+  return view.scope < 0 ? matches.flatMap((match) => match.hands) : matches[view.scope].hands;
+}
+
+function address(hand) {
+  return isMany ? `#${hand.match + 1}/${hand.number}` : `#${hand.number}`;
+}
+
+function handName(hand) {
+  return isMany ? `Hand ${hand.number} of match ${hand.match + 1}` : `Hand ${hand.number}`;
+}
+
+function handLink(hand) {
+  return element("a", { href: address(hand) }, handName(hand).toLowerCase());
+}
+
+/** Returns the hand that an address names: undefined where there is none, null where it names nothing. */
+function handOf(hash) {
+  const found = ADDRESS.exec(hash);
+  if (!found) return hash.length > 1 ? undefined : null;
+  const match = matches[found[1] === undefined ? Math.max(0, view.scope) : Number(found[1]) - 1];
+  return match && match.hands[Number(found[2])];
+}
+
+function openAddress() {
+  const hand = handOf(location.hash);
+  byId("lost-way").textContent = hand === undefined ? `There is no hand ${location.hash.slice(1)} here. ${rangeText()}` : "";
+  if (hand) openHand(hand);
+  else if (!view.hand) openHand(scopeHands()[0]);
+}
+
+function rangeText() {
+  const ranges = matches.map((match, index) => `${isMany ? `${index + 1}/` : ""}0 to ${match.hands.length - 1}`);
+  return `Hands are ${ranges.slice(0, 5).join(", ")}${ranges.length > 5 ? " and so on" : ""}.`;
+}
+
+function goTo(hand) {
+  if (hand && address(hand) !== location.hash) location.hash = address(hand);
+  else if (hand) openHand(hand);
+}
+
+/** Shows a hand from its deal on. */
+function openHand(hand) {
+  pause();
+  const match = matches[hand.match];
+  if (match !== view.match) {
+    view.match = match;
+    drawSeats(match, data.seat);
+  }
+  view.hand = hand;
+  view.at = 0;
+  drawHead(match, hand, handName(hand));
+  byId("number").value = address(hand).slice(1);
+  byId("table").classList.toggle("is-broken", hand.isBroken);
+  view.steps = hand.isBroken ? [] : stepsOf(game, hand);
+  refill(byId("told"));
+  refill(byId("story"), hand.isBroken ? `This hand can't be played: ${hand.difference}.` : "");
+  if (!hand.isBroken) drawStory(hand, view.steps, openStep);
+  showPageOf(hand);
+  openStep(0);
+  drawChart();
+}
+
+/** Shows a step of the hand. */
+function openStep(at) {
+  view.at = Math.min(Math.max(at, 0), view.steps.length - 1);
+  if (view.steps.length === 0) return;
+  drawStep(game, view.match, view.hand, view.steps, view.at);
+  markStory(view.at);
+  for (const id of ["back", "start"]) disable(id, view.at === 0);
+  for (const id of ["forward", "end"]) disable(id, view.at === view.steps.length - 1);
+  const place = view.list.indexOf(view.hand);
+  disable("previous", view.list.length === 0 || place === 0);
+  disable("next", view.list.length === 0 || place === view.list.length - 1);
+}
+
+/** Says that a button does nothing now, and leaves the focus on it. */
+function disable(id, isOff) {
+  byId(id).setAttribute("aria-disabled", String(isOff));
+}
+
+/** Goes to a hand of the list: by so many from the one shown; to the first where that one isn't in the list. */
+function turnHand(by) {
+  const place = view.list.indexOf(view.hand);
+  goTo(view.list[place < 0 ? 0 : place + by]);
+}
+
+function pause() {
+  clearInterval(view.timer);
+  view.timer = null;
+  showPlaying();
+}
+
+function showPlaying() {
+  const [icon, text] = view.timer === null ? ["play", "Play"] : ["pause", "Pause"];
+  byId("play").querySelector("use").setAttribute("href", `#icon-${icon}`);
+  byId("play").querySelector("span").textContent = text;
+}
+
+/** Plays the hand's steps one after the other, from its deal where its end is shown; or stops that. */
+function play() {
+  if (view.timer !== null) return pause();
+  if (view.at === view.steps.length - 1) openStep(0);
+  view.timer = setInterval(() => {
+    openStep(view.at + 1);
+    if (view.at >= view.steps.length - 1) pause();
+  }, PLAY_MILLISECONDS);
+  showPlaying();
+}
+
+function step(by) {
+  pause();
+  openStep(view.at + by);
+}
+
+/** Returns what the filter's fields ask for. An amount that is no number asks for nothing. */
+function filter() {
+  const lost = byId("lost").value.replace(/[, ]/g, "");
+  return {
+    player: byId("player").value,
+    order: byId("order").value,
+    isShowdown: byId("showdown").checked,
+    isAllIn: byId("all-in").checked,
+    lost: /^\d+$/.test(lost) ? Number(lost) : null,
+  };
+}
+
+function refilter() {
+  view.list = chosenHands(scopeHands(), filter());
+  view.page = 0;
+  const [field, isEmpty] = [byId("lost"), byId("lost").value.trim() === ""];
+  field.setAttribute("aria-invalid", String(!isEmpty && filter().lost === null));
+  showList();
+}
+
+/** Turns the list to the page that has a hand, where it has it. */
+function showPageOf(hand) {
+  const place = view.list.indexOf(hand);
+  if (place >= 0) view.page = Math.floor(place / HANDS_ON_PAGE);
+  showList();
+}
+
+function showList() {
+  drawList(view.list, view.page, byId("player").value, isMany, address, view.hand);
+  byId("count").textContent = countText(view.list, scopeHands());
+}
+
+function turnPage(by) {
+  const pages = Math.ceil(view.list.length / HANDS_ON_PAGE);
+  view.page = Math.min(Math.max(view.page + by, 0), Math.max(0, pages - 1));
+  showList();
+}
+
+function drawChart() {
+  const hands = scopeHands();
+  const figures = view.figures.get(view.band);
+  const marked = hands.indexOf(view.hand) + 1;
+  view.handAt = drawCourse(view.courses, figures ? figures.total.deviation() : null, marked);
+  byId("scrub").max = String(hands.length - 1);
+  byId("scrub").value = String(Math.max(0, marked - 1));
+  byId("scrub").setAttribute("aria-valuetext", view.hand ? handName(view.hand) : "");
+  const values = [...view.courses].map(([name, course]) => [`${name} `, valueElement(course[marked])]);
+  refill(byId("reading"), marked > 0 ? [`After ${handName(view.hand).toLowerCase()}: `, values.map((parts, at) => [at > 0 ? ", " : "", parts])] : []);
+  byId("band").textContent = bandText(figures);
+}
+
+function bandText(figures) {
+  if (!figures || figures.total.deviation() === null) return "";
+  const reach = chipsText(Math.round(bandAt(figures.total.deviation(), figures.total.hands)));
+  return `The band is ±1.96 s √k about 0 after k hands, where s is the standard deviation of ${view.band}'s chips in a hand: where two equal players would be in 95 of 100 such matches, looked at one hand alone. After the last hand it is ±${reach}.`;
+}
+
+function chooseBand(name) {
+  view.band = name;
+  const focused = [...byId("legend").children].indexOf(document.activeElement);
+  drawLegend(view.courses, view.band, chooseBand);
+  if (focused >= 0) byId("legend").children[focused].focus();
+  drawChart();
+}
+
+/** Shows another match, or all: its players, its list, its course, its figures. */
+function chooseScope(scope) {
+  view.scope = scope;
+  const hands = scopeHands();
+  view.courses = coursesOf(hands);
+  view.figures = figuresOf(hands, game.players);
+  const names = [...view.courses.keys()];
+  const player = byId("player").value;
+  refill(byId("player"), element("option", { value: "" }, "everybody"), names.map((name) => element("option", { value: name }, name)));
+  byId("player").value = names.includes(player) ? player : "";
+  view.band = names.includes(data.seat) ? data.seat : names[0];
+  drawLegend(view.courses, view.band, chooseBand);
+  showFigures();
+  refilter();
+}
+
+function showFigures() {
+  drawFigures(game, view.figures, byId("by-position").checked, handLink);
+}
+
+/** Says what the page has: matches, hands, the game, and whose cards are shown. */
+function showAbout() {
+  const hands = matches.reduce((sum, match) => sum + match.hands.length, 0);
+  const [first] = matches;
+  const name = isMany ? `${matches.length} matches` : first.name;
+  const going = matches.filter((match) => !match.isOver);
+  const kind = `${game.isLimit ? "limit" : "no-limit"} hold'em for ${game.players}, blinds ${game.blinds.filter((blind) => blind > 0).map(chipsText).join(" and ")}`;
+  const seen = data.isAll ? "all cards are shown" : data.seat ? `cards are shown as ${data.seat} saw them` : "cards are shown that everybody saw";
+  const isGoing = going.length > 0 && (isMany ? `${going.length} of the matches aren't over` : `the match isn't over: ${chipsText(hands)} of ${chipsText(first.count)} hands`);
+  document.title = `${name} · replay`;
+  byId("title").textContent = name;
+  byId("about").textContent = [`${chipsText(hands)} ${hands === 1 ? "hand" : "hands"} of ${data.game.file}`, kind, seen, isGoing].filter(Boolean).join(" · ");
+}
+
+/** Shows in red where payoffs or scores differ from the logs. */
+function showDifferences() {
+  const all = matches.flatMap((match) => match.differences.map(({ hand, text }) => ({ match, hand, text })));
+  byId("alarm").hidden = all.length === 0;
+  if (all.length === 0) return;
+  const items = all.slice(0, 20).map(({ match, hand, text }) => element("li", {}, hand ? handLink(hand) : `Score of ${match.name}`, `: ${text}`));
+  const head = `✕ ${chipsText(all.length)} ${all.length === 1 ? "difference" : "differences"} between the log and the rules`;
+  refill(byId("alarm"), element("strong", {}, head), element("ul", {}, items));
+}
+
+function showMatches() {
+  byId("matches").hidden = !isMany;
+  const options = matches.map((match, index) => element("option", { value: index }, `${index + 1}: ${match.name} (${data.matches[index].log}, ${chipsText(match.hands.length)} hands)`));
+  refill(byId("match"), element("option", { value: -1 }, `all ${matches.length}`), options);
+}
+
+const BUTTONS = {
+  previous: () => turnHand(-1),
+  next: () => turnHand(1),
+  start: () => step(-Infinity),
+  back: () => step(-1),
+  play,
+  forward: () => step(1),
+  end: () => step(Infinity),
+  "page-back": () => turnPage(-1),
+  "page-forward": () => turnPage(1),
+};
+
+/** Takes a key that belongs to no field: arrows and the space bar. */
+function takeKey(event) {
+  const isField = event.target.closest("input, select, textarea");
+  if (isField || event.ctrlKey || event.altKey || event.metaKey) return;
+  const by = { ArrowLeft: -1, ArrowRight: 1 }[event.key];
+  if (by && event.target.closest(".scroll")) return;
+  if (by) (event.shiftKey ? turnHand : step)(by);
+  else if (event.key === " " && !event.target.closest("button, a")) play();
+  else return;
+  event.preventDefault();
+}
+
+function listen() {
+  for (const [id, act] of Object.entries(BUTTONS)) {
+    byId(id).addEventListener("click", () => byId(id).getAttribute("aria-disabled") !== "true" && act());
+  }
+  for (const name of ["input", "change"]) byId("filter").addEventListener(name, () => (refilter(), openStep(view.at)));
+  byId("filter").addEventListener("reset", () => setTimeout(() => (refilter(), openStep(view.at))));
+  byId("filter").addEventListener("submit", (event) => event.preventDefault());
+  byId("go").addEventListener("submit", (event) => {
+    event.preventDefault();
+    location.hash = `#${byId("number").value.trim()}`;
+  });
+  byId("match").addEventListener("change", () => {
+    chooseScope(Number(byId("match").value));
+    openHand(scopeHands()[0]);
+  });
+  byId("by-position").addEventListener("change", showFigures);
+  byId("scrub").addEventListener("input", () => goTo(scopeHands()[Number(byId("scrub").value)]));
+  byId("chart").addEventListener("click", (event) => goTo(scopeHands()[view.handAt(event.offsetX) - 1]));
+  document.addEventListener("keydown", takeKey);
+  window.addEventListener("hashchange", openAddress);
+  new ResizeObserver(drawChart).observe(byId("chart"));
+}
+
+showAbout();
+showDifferences();
+showMatches();
+chooseScope(view.scope);
+openAddress();
+listen();

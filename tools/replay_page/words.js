@@ -1,0 +1,121 @@
+// What the page says of cards, amounts, actions and hands. No document is used here.
+
+const SUIT_NAMES = ["clubs", "diamonds", "hearts", "spades"];
+const RANK_NAMES = ["two", "three", "four", "five", "six", "seven", "eight", "nine", "ten", "jack", "queen", "king", "ace"];
+const ROUND_NAMES = ["Before the flop", "Flop", "Turn", "River"];
+
+function cardName(card) {
+  return `${RANK_NAMES[card >> 2]} of ${SUIT_NAMES[card % 4]}`;
+}
+
+/** Returns a card in text, as in A♠. The last letter asks for the sign as a letter and not as a picture. */
+function cardText(card) {
+  return RANKS[card >> 2] + "♣♦♥♠"[card % 4] + "\uFE0E";
+}
+
+function cardsText(cards) {
+  return cards.map(cardText).join(" ");
+}
+
+function plural(rank) {
+  return RANK_NAMES[rank] === "six" ? "sixes" : `${RANK_NAMES[rank]}s`;
+}
+
+function grouping(number) {
+  return String(Math.abs(number)).replace(/\B(?=(\d{3})+$)/g, ",");
+}
+
+/** Returns whole chips with commas. */
+function chipsText(chips) {
+  return (chips < 0 ? "−" : "") + grouping(chips);
+}
+
+/** Returns whole chips with their sign, as in +300, −300 and 0. */
+function signedText(chips) {
+  return (chips > 0 ? "+" : chips < 0 ? "−" : "") + grouping(chips);
+}
+
+function percentText(part, whole) {
+  return whole === 0 ? "–" : `${((100 * part) / whole).toFixed(1)} %`;
+}
+
+function ranksText(ranks) {
+  return ranks.map((rank) => RANKS[rank]).join(" ");
+}
+
+/** Returns a hand's value in words, with the ranks that decide between equal ones. */
+function valueText({ category, ranks }) {
+  const [first, second] = ranks;
+  const beside = (from) => `, with ${ranksText(ranks.slice(from))}`;
+  const words = [
+    () => `${RANK_NAMES[first]} high${beside(1)}`,
+    () => `a pair of ${plural(first)}${beside(1)}`,
+    () => `two pairs, ${plural(first)} and ${plural(second)}${beside(2)}`,
+    () => `three ${plural(first)}${beside(1)}`,
+    () => `a straight to the ${RANK_NAMES[first]}`,
+    () => `a flush, ${ranksText(ranks)}`,
+    () => `a full house, ${plural(first)} over ${plural(second)}`,
+    () => `four ${plural(first)}${beside(1)}`,
+    () => `a straight flush to the ${RANK_NAMES[first]}`,
+  ];
+  return words[category]();
+}
+
+/** Returns what a player does, without his name. */
+function actionText({ kind, to, added, isAllIn }) {
+  const words = { fold: "folds", check: "checks", call: `calls ${chipsText(added)}`, bet: `bets ${chipsText(added)}`, raise: `raises to ${chipsText(to)}` };
+  return words[kind] + (isAllIn ? ", all-in" : "");
+}
+
+/** Returns how a hand ended, in two or three words. */
+function endText(hand) {
+  if (hand.isBroken) return "can't be played";
+  const last = hand.actions[hand.actions.length - 1].round;
+  return hand.isShowdown ? "Showdown" : ["Folds before flop", "Folds on flop", "Folds on turn", "Folds on river"][last];
+}
+
+function potName(place, count) {
+  if (place === 0) return count > 1 ? "Main pot" : "Pot";
+  return count > 2 ? `Side pot ${place}` : "Side pot";
+}
+
+/** Returns names as in: alice, bob and carol. */
+function listed(names) {
+  return names.length < 2 ? names.join("") : `${names.slice(0, -1).join(", ")} and ${names[names.length - 1]}`;
+}
+
+/** Returns the sentence of a pot: who wins it, by what, and how it is shared. */
+function potText(hand, pot, place, count, values) {
+  const winners = pot.winners.map((position) => hand.names[position]);
+  const [verb, split] = winners.length > 1 ? ["share it", ` (${pot.shares.map(chipsText).join(" and ")})`] : ["wins it", ""];
+  const value = pot.eligible.length > 1 ? values[pot.winners[0]] : null;
+  const among = count > 1 && place > 0 && pot.eligible.length > 1 ? ` between ${listed(pot.eligible.map((position) => hand.names[position]))}` : "";
+  const how = value ? ` with ${valueText(value)}` : hand.isShowdown ? ": nobody else is in it" : ": everybody else folded";
+  return `${potName(place, count)} ${chipsText(pot.chips)}${among}: ${listed(winners)} ${verb}${split}${how}.`;
+}
+
+/** Returns the sentences of a hand's end: uncalled chips, the hands shown, each pot. */
+function outcomeTexts(hand, { uncalled, pots, values }) {
+  const texts = [];
+  if (uncalled) texts.push(`${chipsText(uncalled.chips)} that nobody called go back to ${hand.names[uncalled.position]}.`);
+  hand.unfolded.filter((position) => values[position]).forEach((position) => {
+    texts.push(`${hand.names[position]} shows ${cardsText(hand.holes[position])}: ${valueText(values[position])}.`);
+  });
+  pots.forEach((pot, place) => texts.push(potText(hand, pot, place, pots.length, values)));
+  return texts;
+}
+
+/** Returns what each winner gets of all pots, in words. */
+function gainsText(hand, { pots }) {
+  const gains = new Map();
+  for (const { winners, shares } of pots) {
+    winners.forEach((position, place) => gains.set(position, (gains.get(position) || 0) + shares[place]));
+  }
+  return listed([...gains].map(([position, chips]) => `${hand.names[position]} gets ${chipsText(chips)}`));
+}
+
+/** Returns what a position is called: its number, its blind, and the button. */
+function positionText(game, position) {
+  const blind = game.blinds[position] > 0 ? `blind ${chipsText(game.blinds[position])}` : "no blind";
+  return `${blind}${position === game.players - 1 ? ", button" : ""}`;
+}
