@@ -18,7 +18,7 @@ function shape(tag, attributes = {}, ...children) {
 
 function filled(made, attributes, children) {
   for (const [name, value] of Object.entries(attributes)) {
-    if (value !== null && value !== false) made.setAttribute(name, value === true ? "" : value);
+    if (value !== null) made.setAttribute(name, value);
   }
   made.append(...children.flat(Infinity).filter((child) => child !== null && child !== ""));
   return made;
@@ -32,7 +32,7 @@ function refill(parent, ...children) {
 function cardElement(card, mark = "") {
   if (card === null) return element("span", { class: "card is-back", role: "img", "aria-label": "hidden card" });
   const use = shape("svg", { "aria-hidden": "true" }, shape("use", { href: `#suit-${card % 4}` }));
-  const face = element("span", { class: "rank", "aria-hidden": "true" }, RANKS[card >> 2].replace("T", "10"), element("i", {}, SUITS[card % 4]));
+  const face = element("span", { class: "rank", "aria-hidden": "true" }, RANKS[card >> 2], element("i", {}, SUITS[card % 4]));
   return element("span", { class: `card suit-${card % 4} ${mark}`, role: "img", "aria-label": cardName(card) }, face, use);
 }
 

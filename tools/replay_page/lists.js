@@ -28,8 +28,8 @@ const COLUMNS = [
 
 /** Draws one page of the list of hands. `address` gives a hand's address. */
 function drawList(list, page, player, isMany, address, current) {
-  const heads = ["Hand", player || "Winner", player ? "Cards" : null, "Pot", "End"].filter(Boolean);
-  refill(byId("list-head"), heads.map((text) => element("th", { scope: "col" }, text)));
+  const heads = [["Hand"], player ? [player, "number"] : ["Winner"], player ? ["Cards"] : null, ["Pot", "number"], ["Ended"]].filter(Boolean);
+  refill(byId("list-head"), heads.map(([text, kind]) => element("th", { scope: "col", class: kind || null }, text)));
   const shown = list.slice(page * HANDS_ON_PAGE, (page + 1) * HANDS_ON_PAGE);
   refill(byId("list-body"), shown.map((hand) => listRow(hand, player, isMany, address(hand), hand === current)));
   const pages = Math.max(1, Math.ceil(list.length / HANDS_ON_PAGE));
@@ -43,13 +43,13 @@ function listRow(hand, player, isMany, address, isCurrent) {
   const chips = valueElement(hand.payoffs[position]);
   const hole = hand.holes[position];
   const cells = [
-    element("th", { scope: "row" }, element("a", { href: address, "aria-current": isCurrent && "true" }, isMany ? `${hand.match + 1}/${hand.number}` : String(hand.number))),
-    element("td", {}, player ? chips : [element("span", { class: "winner" }, hand.names[position]), " ", chips]),
+    element("th", { scope: "row" }, element("a", { href: address, "aria-current": isCurrent ? "true" : null }, isMany ? `${hand.match + 1}/${hand.number}` : String(hand.number))),
+    element("td", { class: player ? "number" : null }, player ? chips : [element("span", { class: "winner" }, hand.names[position]), " ", chips]),
     player ? element("td", {}, hole ? cardsElement(hole) : element("span", { class: "quiet" }, "hidden")) : null,
-    element("td", {}, chipsText(hand.pot)),
+    element("td", { class: "number" }, chipsText(hand.pot)),
     element("td", {}, endText(hand), hand.allIn.some(Boolean) ? element("span", { class: "tag" }, "all-in") : null),
   ];
-  return element("tr", { class: isCurrent && "is-current" }, cells);
+  return element("tr", { class: isCurrent ? "is-current" : null }, cells);
 }
 
 /** Says how many hands the list has. */

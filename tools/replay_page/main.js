@@ -48,8 +48,12 @@ function rangeText() {
 }
 
 function goTo(hand) {
-  if (hand && address(hand) !== location.hash) location.hash = address(hand);
-  else if (hand) openHand(hand);
+  if (hand) goToAddress(address(hand));
+}
+
+function goToAddress(hash) {
+  if (hash === location.hash) openAddress();
+  else location.hash = hash;
 }
 
 /** Shows a hand from its deal on. */
@@ -108,6 +112,7 @@ function showPlaying() {
   const [icon, text] = view.timer === null ? ["play", "Play"] : ["pause", "Pause"];
   byId("play").querySelector("use").setAttribute("href", `#icon-${icon}`);
   byId("play").querySelector("span").textContent = text;
+  byId("play").setAttribute("aria-label", text);
 }
 
 /** Plays the hand's steps one after the other, from its deal where its end is shown; or stops that. */
@@ -222,7 +227,7 @@ function showAbout() {
   const isGoing = going.length > 0 && (isMany ? `${going.length} of the matches aren't over` : `the match isn't over: ${chipsText(hands)} of ${chipsText(first.count)} hands`);
   document.title = `${name} · replay`;
   byId("title").textContent = name;
-  byId("about").textContent = [`${chipsText(hands)} ${hands === 1 ? "hand" : "hands"} of ${data.game.file}`, kind, seen, isGoing].filter(Boolean).join(" · ");
+  byId("about").textContent = [`${chipsText(hands)} ${hands === 1 ? "hand" : "hands"} of ${isMany ? data.game.file : first.gameName}`, kind, seen, isGoing].filter(Boolean).join(" · ");
 }
 
 /** Shows in red where payoffs or scores differ from the logs. */
@@ -274,7 +279,7 @@ function listen() {
   byId("filter").addEventListener("submit", (event) => event.preventDefault());
   byId("go").addEventListener("submit", (event) => {
     event.preventDefault();
-    location.hash = `#${byId("number").value.trim()}`;
+    goToAddress(`#${byId("number").value.trim()}`);
   });
   byId("match").addEventListener("change", () => {
     chooseScope(Number(byId("match").value));

@@ -2,7 +2,7 @@
 
 /** How far from the table's middle boxes and bets are, in percent of its width and height. */
 const BOX_AT = { across: 40.5, down: 37 };
-const BET_AT = { across: 24, down: 15.5 };
+const BET_AT = { across: 23, down: 19.5 };
 
 /** Draws the seats of a match once; what changes from step to step goes into them. */
 function drawSeats(match, seat) {
@@ -146,9 +146,9 @@ function markStory(at) {
   }
 }
 
-/** Draws the head of a hand: its number, and what each player won or lost, in seat order. */
+/** Draws the head of a hand: its number, and who won or lost how much, in seat order. */
 function drawHead(match, hand, title) {
   byId("hand-title").textContent = title;
-  const values = match.names.map((name) => [name, hand.payoffs[hand.names.indexOf(name)]]);
+  const values = match.names.map((name) => [name, hand.payoffs[hand.names.indexOf(name)]]).filter(([, chips]) => chips !== 0);
   refill(byId("results"), values.map(([name, chips]) => element("li", {}, `${name} `, valueElement(chips))));
 }

@@ -67,11 +67,11 @@ function actionText({ kind, to, added, isAllIn }) {
   return words[kind] + (isAllIn ? ", all-in" : "");
 }
 
-/** Returns how a hand ended, in two or three words. */
+/** Returns where a hand ended: at a showdown, or in which round all but one had folded. */
 function endText(hand) {
   if (hand.isBroken) return "can't be played";
   const last = hand.actions[hand.actions.length - 1].round;
-  return hand.isShowdown ? "Showdown" : ["Folds before flop", "Folds on flop", "Folds on turn", "Folds on river"][last];
+  return hand.isShowdown ? "Showdown" : ["Before flop", ...ROUND_NAMES.slice(1)][last];
 }
 
 function potName(place, count) {

@@ -1,0 +1,2 @@
+def controls(folder): return []
+def shots(folder, out): pass
