@@ -1,2 +1,426 @@
-def controls(folder): return []
-def shots(folder, out): pass
+"""The controls of a page of tools/replay in a Chromium: each by the name that it has for a reader, and what it changes."""
+import base64
+import time
+
+from replay_browser import Browser, Refused, program
+from replay_match import CHIPS, FIGURES, GAME, LISTS, LOG
+from replay_pages import WRONG_HEADER, run, written
+from serving import TOP, Wrong, loaded, want
+
+ORDERS = {"number": "number", "last": "number, last first", "lost": "lost most first", "won": "won most first", "pot": "largest pot first"}
+KEYS = {"ArrowLeft": 37, "ArrowRight": 39, " ": 32, "Tab": 9, "Enter": 13}
+SHIFT = 8
+WIDTHS, THEMES = (360, 900, 1920), ("light", "dark")
+LONGEST = 32
+# The least contrast of text and its ground that WCAG 2 asks for at level AA.
+CONTRAST = 4.5
+# The contrast of each text with the ground below it, as [contrast, tag, class, text], of those that are no picture or faint on purpose.
+CONTRASTS = """(() => {
+  const parts = (color) => color.match(/[\\d.]+/g).map(Number);
+  const light = (color) => [0.2126, 0.7152, 0.0722].reduce((sum, weight, at) => {
+    const part = color[at] / 255;
+    return sum + weight * (part <= 0.03928 ? part / 12.92 : ((part + 0.055) / 1.055) ** 2.4);
+  }, 0);
+  const ground = (one) => {
+    const layers = [];
+    for (let at = one; at; at = at.parentElement) layers.push(parts(getComputedStyle(at).backgroundColor));
+    return layers.reverse().reduce((below, [r, g, b, a = 1]) => [r, g, b].map((part, at) => part * a + below[at] * (1 - a)), [255, 255, 255]);
+  };
+  const isFaint = (one) => one.closest(".card, .is-folded, :disabled, [aria-disabled=true], svg, noscript, .centre, .bet");
+  return [...document.querySelectorAll("body *")].filter((one) => !isFaint(one) && one.offsetParent
+    && [...one.childNodes].some((node) => node.nodeType === 3 && node.data.trim())).map((one) => {
+    const [text, below] = [light(parts(getComputedStyle(one).color)), light(ground(one))];
+    return [(Math.max(text, below) + 0.05) / (Math.min(text, below) + 0.05), one.tagName, one.className, one.textContent.slice(0, 20)];
+  });
+})()"""
+
+
+class Screen:
+    """A page in a browser, whose controls are found by role and name as the browser tells them to a reader's aids."""
+
+    def __init__(self, browser, folder):
+        self.browser, self.folder = browser, folder
+        browser.call("Accessibility.enable")
+
+    def make(self, name, *words):
+        """Makes a page by the tool; its address."""
+        status, _, said = run([*words, "-o", self.folder / name])
+        want(status == 0, f"{words}: {said}")
+        return (self.folder / name).as_uri()
+
+    def open(self, url, width=1280, theme="light"):
+        self.size(width)
+        self.browser.call("Emulation.setEmulatedMedia", features=[{"name": "prefers-color-scheme", "value": theme}])
+        self.browser.open(url)
+        faults = [event for event in self.browser.events if event["method"] in ("Runtime.exceptionThrown", "Log.entryAdded")]
+        want(not faults, f"{url}: {faults}")
+
+    def size(self, width, height=900):
+        self.browser.call("Emulation.setDeviceMetricsOverride", width=width, height=height, deviceScaleFactor=1, mobile=False)
+
+    def named(self, role, name):
+        root = self.browser.call("DOM.getDocument", depth=0)["root"]["nodeId"]
+        found = self.browser.call("Accessibility.queryAXTree", nodeId=root, role=role, accessibleName=name)["nodes"]
+        want(len(found) == 1, f"{len(found)} controls are a {role} named {name!r}")
+        return self.browser.call("DOM.resolveNode", backendNodeId=found[0]["backendDOMNodeId"])["object"]["objectId"]
+
+    def on(self, role, name, function, *values):
+        """Calls a function of JavaScript on the control, whose `this` it is."""
+        arguments = [{"value": value} for value in values]
+        text = f"function (...values) {{ {function} }}"
+        found = self.named(role, name)
+        got = self.browser.call("Runtime.callFunctionOn", objectId=found, functionDeclaration=text, arguments=arguments, returnByValue=True)
+        want("exceptionDetails" not in got, f"{name}: {got}")
+        return got["result"].get("value")
+
+    def click(self, role, name):
+        self.on(role, name, "this.scrollIntoView(); this.click()")
+        self.value("new Promise(requestAnimationFrame)")
+
+    def choose(self, name, text):
+        self.on("combobox", name, "this.value = [...this.options].find((it) => it.text === values[0]).value; this.dispatchEvent(new Event('change', { bubbles: true }))", text)
+
+    def write(self, name, text):
+        self.on("textbox", name, "this.value = values[0]; this.dispatchEvent(new Event('input', { bubbles: true }))", text)
+
+    def key(self, key, modifiers=0):
+        text = {"Enter": "\r", " ": " "}.get(key, "")
+        for kind in ("keyDown", "keyUp"):
+            words = {"text": text} if text and kind == "keyDown" else {}
+            self.browser.call("Input.dispatchKeyEvent", type=kind, key=key, windowsVirtualKeyCode=KEYS[key], modifiers=modifiers, **words)
+        self.value("new Promise(requestAnimationFrame)")
+
+    def value(self, expression):
+        return self.browser.value(expression)
+
+    def text(self, id):
+        return self.value(f"document.getElementById('{id}').innerText.trim()")
+
+    def texts(self, selector):
+        return self.value(f"[...document.querySelectorAll('{selector}')].map((it) => it.innerText.replace(/\\s+/g, ' ').trim())")
+
+    def hand(self):
+        return self.text("hand-title")
+
+    def listed(self):
+        """The numbers of the hands on the list's page."""
+        return [int(text) for text in self.texts("#list-body th")]
+
+    def comes(self, expression):
+        try:
+            self.browser.wait(expression)
+        except Refused as why:
+            raise Wrong(str(why))
+
+
+def same(got, wanted, what):
+    want(got == wanted, f"{what}: {got!r}, not {wanted!r}")
+
+
+def steps(screen, url):
+    deal = "Cards are dealt; carol posts 50 and alice posts 100. bob is to act."
+    screen.open(url + "#2")
+    same((screen.hand(), screen.text("told")), ("Hand 2", deal), "hand 2")
+    same(screen.texts("#results li"), ["alice −100", "bob −1,000", "carol +1,100"], "results")
+    screen.click("button", "Forward")
+    same(screen.text("told"), "bob raises to 300. carol is to act.", "Forward")
+    same(screen.texts(".bet"), ["100", "300", "50"], "bets")
+    same(screen.texts(".stack"), ["50", "4,700", "950"], "stacks")
+    same(screen.texts(".did"), ["blind 100", "raises to 300", "to act"], "what they did")
+    for _ in range(3):
+        screen.click("button", "Forward")
+    same(screen.text("told"), "Flop: 2♣\ufe0e 3♣\ufe0e 7♥\ufe0e. carol is to act.", "the fourth Forward")
+    same(screen.texts("#pots li"), ["Pot 700"], "pots on the flop")
+    board = "document.getElementById('board').getAttribute('aria-label')"
+    same(screen.value(board), "Board: two of clubs, three of clubs, seven of hearts", "board")
+    screen.click("button", "To the end")
+    same(screen.text("told"), "The hand is over: carol gets 2,100.", "To the end")
+    same(screen.texts("#pots li"), ["Pot 2,100 → carol"], "pots at the end")
+    same(screen.texts(".is-winner .name"), ["carol"], "winner")
+    screen.click("button", "Back")
+    same(screen.text("told"), "bob calls 400.", "Back")
+    screen.click("button", "To the deal")
+    same(screen.text("told"), deal, "To the deal")
+    screen.click("button", "carol bets 400, all-in")
+    same(screen.text("told"), "carol bets 400, all-in. bob is to act.", "a step of the story")
+    same(screen.texts("#story [aria-current=step]"), ["carol bets 400, all-in"], "the step that is marked")
+    outcome = ["carol shows A♠\ufe0e A♦\ufe0e: a pair of aces, with J 8 7.", "bob shows Q♠\ufe0e Q♦\ufe0e: a pair of queens, with J 8 7.", "Pot 2,100: carol wins it with a pair of aces, with J 8 7."]
+    same(screen.texts(".outcome li"), outcome, "outcome")
+
+
+def side_pots(screen, url):
+    screen.open(url + "#9")
+    screen.click("button", "To the end")
+    same(screen.texts("#pots li"), ["Main pot 450 → bob", "Side pot 1,700 → carol"], "pots of hand 9")
+    screen.open(url + "#4")
+    screen.click("button", "To the end")
+    same(screen.texts("#pots li"), ["Pot 350 → carol"], "pots of hand 4")
+    same(screen.texts(".outcome li")[0], "350 that nobody called go back to alice.", "what goes back in hand 4")
+    screen.open(url + "#5")
+    last = "Pot 250: alice and bob share it (125 and 125) with ace high, with K J 8 7."
+    same(screen.texts(".outcome li")[-1], last, "the shared pot of hand 5")
+
+
+def playing(screen, url):
+    screen.open(url + "#0")
+    screen.click("button", "Play")
+    screen.comes("document.getElementById('told').innerText.startsWith('carol folds')")
+    screen.click("button", "Pause")
+    before = screen.text("told")
+    time.sleep(1.2)
+    same(screen.text("told"), before, "after Pause")
+    screen.click("button", "Play")
+    screen.comes("document.getElementById('told').innerText.startsWith('The hand is over: bob gets 100')")
+    screen.named("button", "Play")
+
+
+def hands(screen, url):
+    screen.open(url)
+    same(screen.hand(), "Hand 0", "the page without a number")
+    screen.click("button", "Next hand")
+    screen.click("button", "Next hand")
+    same((screen.hand(), screen.value("location.hash")), ("Hand 2", "#2"), "Next hand")
+    screen.click("button", "Previous hand")
+    same((screen.hand(), screen.value("location.hash")), ("Hand 1", "#1"), "Previous hand")
+    screen.write("Go to hand", "11")
+    screen.click("button", "Go")
+    same((screen.hand(), screen.value("location.hash")), ("Hand 11", "#11"), "Go")
+    screen.write("Go to hand", "12")
+    screen.click("button", "Go")
+    same((screen.hand(), screen.text("lost-way")), ("Hand 11", "There is no hand 12 here. Hands are 0 to 11."), "a hand that there isn't")
+    screen.value("location.hash = '#7'")
+    screen.comes("document.getElementById('hand-title').innerText === 'Hand 7'")
+    same(screen.text("lost-way"), "", "a hand that there is")
+    screen.click("link", "9")
+    same(screen.hand(), "Hand 9", "a link of the list")
+    same(screen.texts("#list-body .is-current th"), ["9"], "the row that is marked")
+
+
+def keys(screen, url):
+    screen.open(url + "#2")
+    screen.key("ArrowRight")
+    same(screen.text("told"), "bob raises to 300. carol is to act.", "the right arrow")
+    screen.key("ArrowLeft")
+    same(screen.text("told")[:5], "Cards", "the left arrow")
+    screen.key("ArrowRight", SHIFT)
+    same(screen.hand(), "Hand 3", "Shift and the right arrow")
+    screen.key("ArrowLeft", SHIFT)
+    same(screen.hand(), "Hand 2", "Shift and the left arrow")
+    screen.key(" ")
+    screen.named("button", "Pause")
+    screen.key(" ")
+    screen.named("button", "Play")
+    screen.on("textbox", "Go to hand", "this.focus()")
+    screen.key("ArrowRight")
+    same(screen.text("told")[:5], "Cards", "an arrow within a field")
+
+
+def filters(screen, url):
+    screen.open(url)
+    for asked, numbers in LISTS:
+        screen.click("button", "Clear filters")
+        screen.comes("document.getElementById('count').innerText === '12 hands'")
+        for name, box in (("showdown", "Showdown"), ("all-in", "All-in")):
+            if asked.get(name):
+                screen.click("checkbox", box)
+        screen.choose("Player", asked.get("player", "everybody"))
+        screen.choose("Sort by", ORDERS[asked.get("order", "number")])
+        screen.write("Lost more than", asked.get("lost", ""))
+        same(screen.listed(), numbers, f"the list of {asked}")
+        same(screen.text("count"), "12 hands" if len(numbers) == 12 else f"{len(numbers)} of 12 hands", f"the count of {asked}")
+    screen.click("button", "Clear filters")
+    screen.choose("Player", "bob")
+    screen.choose("Sort by", ORDERS["lost"])
+    same(screen.texts("#list-body tr:first-child > *"), ["2", "−1,000", "Q♠\ufe0e Q♦\ufe0e", "2,100", "Showdown all-in"], "bob's first row")
+    screen.click("link", "2")
+    screen.click("button", "Next hand")
+    screen.click("button", "Next hand")
+    same(screen.hand(), "Hand 6", "the third hand of bob's list")
+
+
+def list_pages(screen, url):
+    screen.open(url)
+    same(screen.listed(), list(range(25)), "the first page")
+    screen.click("button", "Next page")
+    same((screen.listed(), screen.text("page")), (list(range(25, 30)), "2 of 2"), "Next page")
+    screen.click("button", "Previous page")
+    same((screen.listed()[:1], screen.text("page")), ([0], "1 of 2"), "Previous page")
+    screen.value("location.hash = '#29'")
+    screen.comes("document.querySelector('#list-body .is-current')?.innerText.startsWith('29')")
+
+
+def course(screen, url):
+    screen.open(url + "#3")
+    sums = {name: sum(chips[:4]) for name, chips in CHIPS.items()}
+    same(screen.text("reading"), "After hand 3: alice +900, bob −1,150, carol +250", f"the chips after hand 3, {sums}")
+    screen.on("slider", "Hand on the course", "this.value = 9; this.dispatchEvent(new Event('input', { bubbles: true }))")
+    screen.comes("location.hash === '#9'")
+    same(screen.text("reading"), "After hand 9: alice +175, bob −825, carol +650", "the chips after hand 9")
+    same(screen.texts("#legend [aria-pressed=true] .who"), ["alice"], "whose band is shown")
+    screen.click("button", "bob −725")
+    same(screen.texts("#legend [aria-pressed=true] .who"), ["bob"], "whose band is shown")
+    want("standard deviation of bob's chips" in screen.text("band"), screen.text("band"))
+    same(screen.value("document.querySelectorAll('#chart .line').length"), 3, "lines")
+    # The chart's left edge is 76 pixels wide, its right one 14: the middle of the rest is hand 6.
+    place = "(() => { const { left, top, width } = chart.getBoundingClientRect(); return [left + 76 + (width - 90) / 2, top + 50] })()"
+    screen.value("document.getElementById('chart').scrollIntoView()")
+    x, y = screen.value(place.replace("chart.", "document.getElementById('chart')."))
+    for kind in ("mousePressed", "mouseReleased"):
+        screen.browser.call("Input.dispatchMouseEvent", type=kind, x=x, y=y, button="left", clickCount=1)
+    screen.comes("location.hash === '#5'")
+
+
+def figures(screen, url):
+    screen.open(url)
+    row = lambda at: dict(zip(screen.texts("#figures-head th"), screen.texts(f"#figures-body tr:nth-child({at}) > *")))
+    for at, (name, wanted) in enumerate(FIGURES.items()):
+        got, part = row(at + 1), lambda figure: "{:.1f} % {} of {}".format(100 * wanted[figure][0] / wanted[figure][1], *wanted[figure])
+        titles = {"VPIP": "vpip", "PFR": "pfr", "Aggression": "aggression", "Went to showdown": "went", "Won at showdown": "won"}
+        same({title: got[title] for title in titles}, {title: part(figure) for title, figure in titles.items()}, name)
+        same(got["Lost most"], f"−1,000 hand {wanted['worst'][1]}", f"{name}: lost most")
+    # Chips, and 1000 x 75 / 100 / 12 with the deviation that the standard library finds: see replay_match.py.
+    same((row(1)["Chips"], row(1)["mbb/hand"]), ("+75", "+63 ± 2,685"), "alice")
+    meanings = screen.texts("#meanings dt")
+    same([text.split(" ")[0] for text in meanings], ["Hands", "VPIP", "PFR", "Aggression", "Went", "Won", "Chips", "mbb/hand", "Lost"], "meanings")
+    screen.click("checkbox", "By position")
+    heads = ["alice", "blind 50", "blind 100", "no blind, button"]
+    same(screen.texts("#figures-body tr > th")[:4], heads, "By position")
+    same([row(at)["Chips"] for at in (2, 3, 4)], ["+400", "−75", "−250"], "alice's chips by position")
+    screen.click("checkbox", "By position")
+    same(len(screen.texts("#figures-body tr")), 3, "without By position")
+    screen.click("link", "hand 2")
+    same(screen.hand(), "Hand 2", "the hand in which bob lost most")
+
+
+def cards(screen, log):
+    """Whose cards are seen in hand 1, in which alice folded and carol won: nobody's, bob's, all."""
+    rows = [([], ["hidden card"] * 6), (["--seat", "bob"], ["hidden card"] * 2 + ["ace of spades", "ace of diamonds"] + ["hidden card"] * 2)]
+    rows.append((["--all"], ["queen of spades", "queen of diamonds", "ace of spades", "ace of diamonds", "king of spades", "king of diamonds"]))
+    for words, wanted in rows:
+        screen.open(screen.make("cards.html", GAME, log, *words) + "#1")
+        same(screen.value("[...document.querySelectorAll('#seats .card')].map((it) => it.ariaLabel)"), wanted, f"{words}")
+
+
+def matches(screen, log, other):
+    screen.open(screen.make("two.html", GAME, log, other) + "#2/3")
+    same((screen.hand(), screen.text("count")), ("Hand 3 of match 2", "24 hands"), "two matches")
+    screen.choose("Match", "1: twelve (twelve.log, 12 hands)")
+    same((screen.hand(), screen.text("count")), ("Hand 0 of match 1", "12 hands"), "the first match")
+    screen.choose("Match", "all 2")
+    same((screen.text("count"), screen.texts("#figures-body tr")[0].split(" ")[:2]), ("24 hands", ["alice", "24"]), "all matches")
+
+
+def strange_header(screen, log):
+    """What a header says is text, and is no element."""
+    screen.open(screen.make("strange.html", GAME, log))
+    want(screen.text("about").startswith(f"12 hands of {WRONG_HEADER.split(' ')[3]} · "), screen.text("about"))
+    same((screen.value("document.title"), screen.value("document.scripts.length")), ("twelve · replay", 2), "title and scripts")
+
+
+def differences(screen, url, folder):
+    """A payoff that is another in the page's data is told in red on top, with a link to its hand."""
+    screen.open(url)
+    same(screen.value("document.getElementById('alarm').hidden"), True, "the alarm of a right page")
+    page = (folder / "twelve.html").read_text(encoding="utf-8")
+    (folder / "wrong.html").write_text(page.replace("1150|-150|-1000", "1150|-1000|-150"), encoding="utf-8")
+    screen.open((folder / "wrong.html").as_uri() + "#0")
+    said = "✕ 1 difference between the log and the rules hand 3: the log pays 1150 | -1000 | -150, by the rules it is 1150 | -150 | -1000"
+    same(screen.texts("#alarm"), [said], "the alarm")
+    top, colour = screen.value("(() => { const it = document.getElementById('alarm'); return [it.getBoundingClientRect().top, getComputedStyle(it).backgroundColor] })()")
+    same((top, colour), (0, "rgb(179, 20, 10)"), "place and colour of the alarm")
+    screen.value("document.querySelector('#alarm a').click()")
+    screen.comes("document.getElementById('hand-title').innerText === 'Hand 3'")
+
+
+def policy(screen, url):
+    """The page runs no other script, takes no other style, and asks for nothing."""
+    screen.open(url)
+    asked = [event["params"]["request"]["url"] for event in screen.browser.events if event["method"] == "Network.requestWillBeSent"]
+    want(all(address.startswith(("about:", url)) for address in asked), f"asked for {asked}")
+    screen.value("(() => { const it = document.createElement('script'); it.textContent = 'window.broken = 1'; document.body.append(it) })()")
+    screen.value("(() => { const it = document.createElement('style'); it.textContent = 'body { margin: 99px }'; document.body.append(it) })()")
+    same(screen.value("[window.broken === undefined, getComputedStyle(document.body).margin]"), [True, "0px"], "a strange script and style")
+    same(screen.value("fetch('data:,x').then(() => 'loaded', () => 'refused')"), "refused", "a request")
+
+
+def keyboard(screen, url):
+    """The tabulator goes to each control that can be seen; Enter and the space bar work them."""
+    screen.open(url + "#2")
+    wanted = screen.value("""[...document.querySelectorAll('a, button, input, select, [tabindex]')].filter((it) => it.offsetParent && !it.disabled).length""")
+    reached = set()
+    for _ in range(wanted):
+        screen.key("Tab")
+        reached.add(screen.value("[...document.querySelectorAll('*')].indexOf(document.activeElement)"))
+        outline = screen.value("getComputedStyle(document.activeElement).outlineStyle")
+        want(outline != "none", f"no outline: {screen.value('document.activeElement.outerHTML')[:100]}")
+    same(len(reached), wanted, "controls that the tabulator reaches")
+    screen.on("button", "Forward", "this.focus()")
+    screen.key("Enter")
+    screen.key(" ")
+    same(screen.text("told"), "carol calls 250. alice is to act.", "Enter and the space bar on Forward")
+
+
+def widths(screen, url):
+    """From 360 to 1,920 pixels nothing is wider than the page, no seat lies on another, and each text can be read in both themes."""
+    for width in (360, 760, 761, 1180, 1181, 1440, 1920):
+        for theme in THEMES:
+            screen.open(url + "#0", width, theme)
+            screen.click("button", "To the end")
+            screen.click("checkbox", "By position")
+            same(screen.value("document.documentElement.scrollWidth"), width, f"the page's width at {width}")
+            boxes = screen.value("[...document.querySelectorAll('.box, #board')].map((it) => it.getBoundingClientRect().toJSON())")
+            apart = lambda one, two: one["right"] <= two["left"] or two["right"] <= one["left"] or one["bottom"] <= two["top"] or two["bottom"] <= one["top"]
+            over = [(one, two) for at, one in enumerate(boxes) for two in boxes[:at] if not apart(one, two)]
+            want(not over, f"at {width} {len(over)} seats lie on others: {over[:1]}")
+            low = [it for it in screen.value(CONTRASTS) if it[0] < CONTRAST]
+            want(not low, f"at {width}, {theme}: {len(low)} texts, say {low[:5]}")
+
+
+def largest_match(folder):
+    """The game and the log of ten players with the longest names and stacks, who are all all-in in the first of thirty hands."""
+    dealer = loaded("tests/dealer")
+    game, script = dealer.seeded_match(10, 30, 1)
+    stacks = next(line for line in game.splitlines() if line.startswith("stack"))
+    game = game.replace(stacks, "stack = " + " ".join(10 * ["2147483647"]))
+    deals = [line for line in script.splitlines() if line.startswith("deal")]
+    names = "|".join(chr(97 + seat) * LONGEST for seat in range(10))
+    played = [f"names {names}", deals[0], "r2147483647", *9 * ["c"], *(line for deal in deals[1:] for line in [deal, *9 * ["f"]])]
+    match = dealer.Match(dealer.Game(game.encode()), 30, "largest.game")
+    log = [text[2:] for line in played for text in match.answer(line) if text.startswith("L ")]
+    (folder / "largest.game").write_text(game)
+    return folder / "largest.game", written(folder, "largest.log", log)
+
+
+def controls(folder):
+    """The tests of controls, by their names. The browser is ended behind the last."""
+    log = written(folder, "twelve.log", LOG)
+    other = written(folder, "other.log", [LOG[0].replace("twelve", "other"), *LOG[1:]])
+    strange = written(folder, "strange.log", [WRONG_HEADER, *LOG[1:]])
+    with Browser(program()) as browser:
+        screen = Screen(browser, folder)
+        url, largest = screen.make("twelve.html", GAME, log), screen.make("largest.html", *largest_match(folder))
+        for test in (steps, side_pots, playing, hands, keys, filters, course, figures, policy, keyboard):
+            yield f"controls: {test.__name__}", lambda test=test: test(screen, url)
+        yield "controls: pages of the list", lambda: list_pages(screen, largest)
+        yield "controls: widths", lambda: widths(screen, largest)
+        yield "controls: cards", lambda: cards(screen, log)
+        yield "controls: matches", lambda: matches(screen, log, other)
+        yield "controls: strange header", lambda: strange_header(screen, strange)
+        yield "controls: differences", lambda: differences(screen, url, folder)
+
+
+def shots(folder, out):
+    """Writes screenshots of pages at three widths and in two themes into a folder, to be looked at."""
+    out.mkdir(parents=True, exist_ok=True)
+    game, log = largest_match(folder)
+    with Browser(program()) as browser:
+        screen = Screen(browser, folder)
+        urls = {"twelve": screen.make("twelve.html", GAME, written(folder, "twelve.log", LOG)) + "#9", "largest": screen.make("largest.html", game, log, "--all") + "#3"}
+        for name, width, theme in [(name, width, theme) for name in urls for width in WIDTHS for theme in THEMES]:
+            screen.open(urls[name], width, theme)
+            for _ in range(4):
+                screen.click("button", "Forward")
+            screen.size(width, screen.value("document.documentElement.scrollHeight"))
+            time.sleep(0.2)
+            shot = browser.call("Page.captureScreenshot", format="png", captureBeyondViewport=False)
+            (out / f"{name}-{width}-{theme}.png").write_bytes(base64.b64decode(shot["data"]))

@@ -2,7 +2,8 @@
 
 const STYLES = 10;
 const DASHES = ["", "7 4", "2 3", "9 3 2 3", "1 4"];
-const MARGIN = { left: 76, right: 14, top: 12, bottom: 30 };
+const MARGIN = { right: 14, top: 12, bottom: 30 };
+const LETTER = 7.2;
 const POINTS = 600;
 const MARKS = 5;
 
@@ -42,14 +43,22 @@ function drawCourse(courses, deviation, marked) {
   const most = [...courses.values()].map((course) => [Math.min(...extremes(course)), Math.max(...extremes(course))]).flat();
   const reach = deviation === null ? 0 : bandAt(deviation, hands);
   const [low, high] = [Math.min(-reach, ...most), Math.max(reach, 1, ...most)];
-  const across = (hand) => MARGIN.left + ((width - MARGIN.left - MARGIN.right) * hand) / Math.max(1, hands);
+  const left = 16 + LETTER * Math.max(...marksOf(low, high).map((mark) => chipsText(mark).length));
+  const across = (hand) => left + ((width - left - MARGIN.right) * hand) / Math.max(1, hands);
   const up = (chips) => height - MARGIN.bottom - ((height - MARGIN.top - MARGIN.bottom) * (chips - low)) / (high - low);
-  const scale = { across, up, low, high, hands, width, height };
+  const scale = { across, up, low, high, hands, width, height, left };
   chart.setAttribute("viewBox", `0 0 ${width} ${height}`);
   refill(chart, deviation === null ? null : bandShape(scale, deviation), axes(scale),
     [...courses.values()].map((course, place) => courseShape(scale, course, place)),
     marked > 0 ? shape("line", { class: "marker", x1: across(marked), x2: across(marked), y1: MARGIN.top, y2: height - MARGIN.bottom }) : null);
-  return (x) => Math.round(((x - MARGIN.left) * hands) / Math.max(1, width - MARGIN.left - MARGIN.right));
+  return (x) => Math.round(((x - left) * hands) / Math.max(1, width - left - MARGIN.right));
+}
+
+/** Returns the round amounts from a least to a greatest one that are marked. */
+function marksOf(low, high) {
+  const step = roundStep(high - low);
+  const first = Math.ceil(low / step);
+  return Array.from({ length: Math.floor(high / step) - first + 1 }, (_, place) => (first + place) * step);
 }
 
 function extremes(course) {
@@ -73,13 +82,11 @@ function courseShape({ across, up }, course, place) {
   return shape("polyline", { class: `line line-${place % STYLES}`, points: points.join(" "), "stroke-dasharray": DASHES[place % DASHES.length] || null });
 }
 
-function axes({ across, up, low, high, hands, width, height }) {
-  const parts = [];
-  const chips = roundStep(high - low);
-  for (let mark = Math.ceil(low / chips) * chips; mark <= high; mark += chips) {
-    parts.push(shape("line", { class: mark === 0 ? "grid is-zero" : "grid", x1: MARGIN.left, x2: width - MARGIN.right, y1: up(mark), y2: up(mark) }));
-    parts.push(shape("text", { x: MARGIN.left - 8, y: up(mark) + 4, "text-anchor": "end" }, chipsText(mark)));
-  }
+function axes({ across, up, low, high, hands, width, height, left }) {
+  const parts = marksOf(low, high).flatMap((mark) => [
+    shape("line", { class: mark === 0 ? "grid is-zero" : "grid", x1: left, x2: width - MARGIN.right, y1: up(mark), y2: up(mark) }),
+    shape("text", { x: left - 8, y: up(mark) + 4, "text-anchor": "end" }, chipsText(mark)),
+  ]);
   const count = roundStep(Math.max(1, hands) * (width < 480 ? 2 : 1));
   for (let mark = 0; mark <= hands; mark += count) {
     parts.push(shape("text", { x: across(mark), y: height - 10, "text-anchor": "middle" }, chipsText(mark)));

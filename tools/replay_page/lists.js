@@ -47,7 +47,7 @@ function listRow(hand, player, isMany, address, isCurrent) {
     element("td", { class: player ? "number" : null }, player ? chips : [element("span", { class: "winner" }, hand.names[position]), " ", chips]),
     player ? element("td", {}, hole ? cardsElement(hole) : element("span", { class: "quiet" }, "hidden")) : null,
     element("td", { class: "number" }, chipsText(hand.pot)),
-    element("td", {}, endText(hand), hand.allIn.some(Boolean) ? element("span", { class: "tag" }, "all-in") : null),
+    element("td", {}, endText(hand), hand.allIn.some(Boolean) ? [" ", element("span", { class: "tag" }, "all-in")] : null),
   ];
   return element("tr", { class: isCurrent ? "is-current" : null }, cells);
 }

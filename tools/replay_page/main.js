@@ -263,7 +263,7 @@ function takeKey(event) {
   const isField = event.target.closest("input, select, textarea");
   if (isField || event.ctrlKey || event.altKey || event.metaKey) return;
   const by = { ArrowLeft: -1, ArrowRight: 1 }[event.key];
-  if (by && event.target.closest(".scroll")) return;
+  if (by && event.target.matches(".scroll")) return;
   if (by) (event.shiftKey ? turnHand : step)(by);
   else if (event.key === " " && !event.target.closest("button, a")) play();
   else return;

@@ -70,9 +70,9 @@ function drawSeat(game, seat, hand, steps, at, position, best) {
   refill(seat.querySelector(".bet"), bet > 0 ? [element("i", { "aria-hidden": "true" }), chipsText(bet)] : []);
 }
 
-/** Returns a stack; a game without stacks has the most that there is, which nobody counts. */
+/** Returns a stack. A game file that names none gives each player the most chips that there are: these aren't counted. */
 function stackText(game, chips) {
-  return chips > MOST_CHIPS / 2 && Math.min(...game.stacks) === MOST_CHIPS ? "any stack" : chipsText(chips);
+  return chips > MOST_CHIPS / 2 && Math.min(...game.stacks) === MOST_CHIPS ? "∞" : chipsText(chips);
 }
 
 /** Returns what a player did last in this round, or that he folded before, or is all-in. */
