@@ -1,0 +1,123 @@
+"""A seat's way to its player: a port, and the one connection that it takes."""
+import re
+import socket
+import time
+
+from .faults import Failed, MatchFault
+
+VERSION = re.compile(r"VERSION:2\.0\.[0-9]{1,9}")
+# The most bytes of a player's line before its LF, and how many of a longer one are kept to be shown.
+LINE, SHOWN = 4096, 100
+# How long players are waited for at the match's end until they have read the last lines, in seconds, all together.
+PARTING = 0.5
+
+
+def left(until):
+    """Seconds until a moment of the monotonic clock, none where there is no end; a socket takes no 0."""
+    return None if until is None else max(0.001, until - time.monotonic())
+
+
+def printable(data):
+    """A player's bytes as text that does nothing to a terminal."""
+    return "".join(chr(byte) if 32 <= byte < 127 else f"\\x{byte:02x}" for byte in data)
+
+
+class Seat:
+    """A port, and the player who has come to it."""
+
+    def __init__(self, address, port):
+        """Listens at a port of an address; 0 is any free one."""
+        self.connection, self.buffer = None, b""
+        try:
+            family = socket.AF_INET6 if ":" in address else socket.AF_INET
+            self.listener = socket.socket(family, socket.SOCK_STREAM)
+            self.listener.setsockopt(socket.SOL_SOCKET, socket.SO_REUSEADDR, 1)
+            self.listener.bind((address, port))
+            self.listener.listen(8)
+        except (OSError, OverflowError) as why:
+            raise MatchFault(f"port {port} at {address} can't be had: {getattr(why, 'strerror', None) or why}") from why
+        self.port = self.listener.getsockname()[1]
+
+    def admit(self, until, is_last):
+        """Waits for the player's connection and version. Where it is the last, nobody can come to the port any more."""
+        try:
+            self.listener.settimeout(left(until))
+            self.connection, _ = self.listener.accept()
+        except OSError as why:
+            raise Failed("no player came within the time of --start_timeout") from why
+        self.connection.setsockopt(socket.IPPROTO_TCP, socket.TCP_NODELAY, 1)
+        self.buffer = b""
+        if is_last:
+            self.listener.close()
+        line = self.line(until, "named no version within the time of --start_timeout")
+        while line[:1] in ("#", ";"):
+            line = self.line(until, "named no version within the time of --start_timeout")
+        if not VERSION.fullmatch(line):
+            raise Failed(f"the first line isn't VERSION:2.0.0 but {line[:SHOWN]!r}")
+
+    def send(self, line, seconds):
+        """Sends a line, which a player who reads takes at once."""
+        try:
+            self.connection.settimeout(seconds)
+            self.connection.sendall(line.encode("ascii") + b"\r\n")
+        except OSError as why:
+            raise Failed(f"the player takes no line any more ({why.strerror or why})") from why
+
+    def line(self, until, late):
+        """The player's next line without its end, as printable text. Of one that is too long the beginning is told, behind
+        words that no line begins with. `late` says what it is where none comes in time."""
+        while b"\n" not in self.buffer:
+            self.buffer = self.buffer[: LINE + 1]
+            if until is not None and time.monotonic() >= until:
+                raise Failed(late)
+            self.connection.settimeout(left(until))
+            try:
+                piece = self.connection.recv(65536)
+            except socket.timeout:
+                continue
+            except OSError as why:
+                raise Failed(f"the connection failed ({why.strerror or why})") from why
+            if not piece:
+                raise Failed("the player ended the connection")
+            self.buffer += piece
+        line, _, self.buffer = self.buffer.partition(b"\n")
+        if len(line) > LINE:
+            return f"(a line of more than {LINE} bytes) {printable(line[:SHOWN])}"
+        return printable(line[:-1] if line.endswith(b"\r") else line)
+
+    def drop(self):
+        """Ends the connection, and those that wait at the port."""
+        if self.connection is not None:
+            self.connection.close()
+            self.connection = None
+        self.listener.settimeout(0)
+        try:
+            while True:
+                self.listener.accept()[0].close()
+        except OSError:
+            pass
+
+    def close(self):
+        self.listener.close()
+        if self.connection is not None:
+            self.connection.close()
+
+
+def take_leave(seats):
+    """Says to players that nothing more comes, and waits a moment until they have read what came: who closes a connection
+    in which something unread stands takes back what the other hasn't read."""
+    connections = [seat.connection for seat in seats if seat.connection is not None]
+    until = time.monotonic() + PARTING
+    for connection in connections:
+        try:
+            connection.shutdown(socket.SHUT_WR)
+        except OSError:
+            pass
+    for connection in connections:
+        try:
+            while True:
+                connection.settimeout(left(until))
+                if not connection.recv(65536) or time.monotonic() > until:
+                    break
+        except OSError:
+            pass
