@@ -165,7 +165,7 @@ class Match:
         is_told = settings.is_resumed and settings.transactions is not None and settings.transactions.exists()
         self.transactions = self.file(settings.transactions)
         self.log = self.file(settings.log)
-        self.dealer = self.kept(Dealer(settings.program, game, settings.hands, settings.names))
+        self.dealer = self.kept(Dealer(settings.program, settings.game, game, settings.hands, settings.names))
         self.deals = iter(settings.deals) if settings.deals is not None else self.kept(
             Draw(settings.program, game, settings.hands, self.players, settings.seed)
         )

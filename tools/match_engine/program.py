@@ -96,8 +96,9 @@ class Dealer:
     """The sequential dealer of a match. `turn` is the seat that is to act, none where no hand runs; `lines` is what each
     seat sees, `hand` the number of the newest hand, -1 before the first deal."""
 
-    def __init__(self, program, game, hands, names):
-        """`game` is the bytes of a game file. A refused one is a MatchFault with the refusal's number, name and line."""
+    def __init__(self, program, path, game, hands, names):
+        """`game` is the bytes of the game file at a path. Where it is refused, the MatchFault has the refusal's number, name
+        and line."""
         descriptor = file_in_memory("game", game)
         try:
             self.child = Child(program, ["hand", "--log", "--hands", str(hands), path_of(descriptor)], [descriptor])
@@ -106,12 +107,22 @@ class Dealer:
         self.hands, self.players = hands, len(names)
         self.hand, self.turn, self.lines = -1, None, []
         try:
-            self.child.say("names " + "|".join(names))
-            self.child.line()
-            self.game = Game(game.decode("latin-1"))
+            self.take_names(path, game, names)
         except MatchFault:
             self.close()
             raise
+
+    def take_names(self, path, game, names):
+        try:
+            self.child.say("names " + "|".join(names))
+            answer = self.child.line()
+        except MatchFault as why:
+            raise MatchFault(f"the game {path} is refused: {why}") from why
+        self.game = Game(game.decode("latin-1"))
+        if self.game.players != self.players:
+            raise MatchFault(f"{path} is for {self.game.players} players, and {self.players} are named")
+        if answer.startswith("E "):
+            raise MatchFault(f"the names {' '.join(names)} are refused: {answer[2:]}")
 
     def is_over(self):
         return self.turn is None and self.hand + 1 == self.hands

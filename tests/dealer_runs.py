@@ -1,0 +1,215 @@
+"""What tests/dealer_tool stands on: runs of tools/dealer in folders of their own, and bots that are threads here."""
+import os
+import re
+import shutil
+import socket
+import subprocess
+import sys
+import tempfile
+import threading
+import time
+from pathlib import Path
+
+sys.dont_write_bytecode = True
+
+from serving import FAST, NAMES, TOP, Game, turn_of, want
+
+PROGRAM = TOP / "crates/holdem_table/out/holdem_table"
+LIMIT_2P, NOLIMIT_2P = "holdem.limit.2p.reverse_blinds.game", "holdem.nolimit.2p.reverse_blinds.game"
+LIMIT_3P, NOLIMIT_3P, NOLIMIT_6P = "holdem.limit.3p.game", "holdem.nolimit.3p.game", "holdem.nolimit.6p.game"
+# The longest wait for anything that has to happen, in seconds.
+WAIT = 60
+HEAD = ["#--t_response 600000", "#--t_hand 600000", "#--t_per_hand 7000"]
+TIME = r"([0-9]+\.[0-9]{6})"
+
+
+def game_of(word):
+    return Game((TOP / "examples" / word).read_text())
+
+
+class Run:
+    """A run of the tool, in a folder that several runs of one match may share."""
+
+    folders = []
+
+    def __init__(self, *options, game=NOLIMIT_2P, hands=3, seed=7, names=None, folder=None, name="m", command=None, words=None):
+        if folder is None:
+            folder = Path(tempfile.mkdtemp(prefix="dealer.", dir=FAST))
+            self.folders.append(folder)
+            shutil.copy(TOP / "examples" / game, folder)
+        self.folder, self.name, self.word, self.game = folder, name, game, game_of(game)
+        self.players = self.game.players
+        names = NAMES[: self.players] if names is None else names
+        words = [name, game, str(hands), str(seed), *names, *options] if words is None else words
+        self.notes = open(folder / f"{name}.notes", "w+b")
+        self.process = subprocess.Popen(
+            [command or TOP / "tools/dealer", *words], cwd=folder, stdin=subprocess.DEVNULL, stdout=subprocess.PIPE, stderr=self.notes,
+        )
+        self.first, self.printed = None, None
+
+    @property
+    def ports(self):
+        """The ports that it prints in its first line, once it has."""
+        if self.first is None:
+            self.first = self.process.stdout.readline().decode()
+            want(re.fullmatch(rf"[0-9]+( [0-9]+){{{self.players - 1}}}\n", self.first), f"no line of ports: {self.first!r}, {self.said()}")
+        return [int(word) for word in self.first.split()]
+
+    def said(self):
+        """The lines of standard error so far."""
+        return (self.folder / f"{self.name}.notes").read_text().splitlines()
+
+    def play(self, *acts, address="127.0.0.1"):
+        """Bots that do so, seat by seat; those that are missing call."""
+        acts = [*acts, *[calls(self.game)] * self.players]
+        return [Bot(port, act, address) for port, act in zip(self.ports, acts)]
+
+    def ends(self, status):
+        """It ends with a status; the rest of what it printed behind the ports."""
+        try:
+            rest = self.process.communicate(timeout=WAIT)[0].decode()
+        except subprocess.TimeoutExpired:
+            self.kill()
+            raise
+        want(self.process.returncode == status, f"status {self.process.returncode}: {self.said()[-3:]}")
+        self.printed = rest
+        want((re.fullmatch(r"SCORE:[-0-9|]+:[\w.|-]+\n", rest) is not None) == (status == 0), f"printed {rest!r}")
+        return rest
+
+    def fails(self, text):
+        """It ends with status 1, no score, and this behind ERROR: as its last line."""
+        self.ends(1)
+        last = self.said()[-1]
+        want(re.fullmatch(f"ERROR: {text}", last), f"the last line is {last!r}, not {text!r}")
+
+    def warnings(self):
+        return [line[len("WARNING: ") :] for line in self.said() if line.startswith("WARNING: ")]
+
+    def log(self):
+        return (self.folder / f"{self.name}.log").read_text()
+
+    def transactions(self):
+        return (self.folder / f"{self.name}.tlog").read_text()
+
+    def is_right(self):
+        """`check` accepts the log, and the score is its last line; the log."""
+        words = [PROGRAM, "check", self.word, f"{self.name}.log"]
+        ran = subprocess.run(words, cwd=self.folder, capture_output=True, timeout=WAIT)
+        want(ran.stdout == b"yes\n", f"check says {ran.stdout!r}")
+        want(self.log().endswith("\n" + self.printed), "the score isn't the log's last line")
+        return self.log()
+
+    def betting(self, hand=0):
+        """The betting of a finished hand."""
+        return self.log().splitlines()[hand + 1].split(":")[2]
+
+    def kill(self):
+        self.process.kill()
+        self.process.stdout.close()
+        self.process.wait()
+
+
+class Gone(Exception):
+    """A bot goes home."""
+
+
+class Bot(threading.Thread):
+    """A bot that dials once. `act` is given each line that comes and says what is sent: an action, bytes, or nothing."""
+
+    def __init__(self, port, act, address="127.0.0.1", version=b"VERSION:2.0.0\r\n"):
+        super().__init__(daemon=True)
+        self.lines, self.said, self.act, self.version, self.is_closed = [], [], act, version, False
+        self.connection = socket.create_connection((address, port), timeout=WAIT)
+        self.start()
+
+    def run(self):
+        try:
+            self.connection.sendall(self.version)
+            for line in self.connection.makefile("rb"):
+                line = line.decode("ascii").rstrip("\r\n")
+                self.lines.append(line)
+                said = self.act(line)
+                if said is not None:
+                    data = said if isinstance(said, bytes) else f"{line}:{said}\r\n".encode()
+                    self.said += data.decode("latin-1").splitlines()
+                    self.connection.sendall(data)
+            self.is_closed = True
+        except (Gone, OSError):
+            pass
+        finally:
+            self.connection.close()
+
+    def ends(self):
+        """It is told nothing more: its connection was closed in order. What it got."""
+        self.join(WAIT)
+        want(self.is_closed, "a bot's connection didn't end in order")
+        return self.lines
+
+
+def calls(game):
+    """A bot that calls."""
+    return lambda line: "c" if turn_of(game, line) else None
+
+
+def at_turn(game, number, does, otherwise="c"):
+    """A bot that does something at its turn of this number, from 0 on, and calls at the others. What it does is an action or
+    bytes, or is called with the line."""
+    turns = iter(range(1 << 30))
+
+    def act(line):
+        if turn_of(game, line) is None:
+            return None
+        if next(turns) != number:
+            return otherwise
+        return does(line) if callable(does) else does
+
+    return act
+
+
+def goes(line):
+    raise Gone
+
+
+def hangs(line):
+    time.sleep(WAIT)
+    raise Gone
+
+
+def waits(seconds, action="c"):
+    """What a bot does that takes its time."""
+    def does(line):
+        time.sleep(seconds)
+        return action
+
+    return does
+
+
+def compiled(folder):
+    """The bot in C as a program."""
+    path = folder / "dealer_bot"
+    words = [os.environ.get("CC", "cc"), "-O1", "-Wall", "-Werror", "-o", path, TOP / "tests/dealer_bot.c"]
+    subprocess.run(words, check=True, timeout=WAIT)
+    return path
+
+
+def children(process):
+    """The processes that a process has started, by number and start."""
+    found = []
+    for number in filter(str.isdigit, os.listdir("/proc")):
+        fields = fields_of(number)
+        if fields and int(fields[1]) == process:
+            found.append((number, fields[19]))
+    return found
+
+
+def fields_of(number):
+    """What /proc tells of a process behind its name; nothing where it has ended."""
+    try:
+        fields = Path(f"/proc/{number}/stat").read_text().rpartition(")")[2].split()
+    except OSError:
+        return None
+    return None if fields[0] in "ZX" else fields
+
+
+def are_ended(processes):
+    return all((fields_of(number) or [""] * 20)[19] != start for number, start in processes)
