@@ -14,6 +14,8 @@ sys.dont_write_bytecode = True
 
 from serving import FAST, NAMES, TOP, Game, turn_of, want
 
+sys.path.insert(0, str(TOP / "tools"))
+
 PROGRAM = TOP / "crates/holdem_table/out/holdem_table"
 LIMIT_2P, NOLIMIT_2P = "holdem.limit.2p.reverse_blinds.game", "holdem.nolimit.2p.reverse_blinds.game"
 LIMIT_3P, NOLIMIT_3P, NOLIMIT_6P = "holdem.limit.3p.game", "holdem.nolimit.3p.game", "holdem.nolimit.6p.game"
@@ -21,6 +23,28 @@ LIMIT_3P, NOLIMIT_3P, NOLIMIT_6P = "holdem.limit.3p.game", "holdem.nolimit.3p.ga
 WAIT = 60
 HEAD = ["#--t_response 600000", "#--t_hand 600000", "#--t_per_hand 7000"]
 TIME = r"([0-9]+\.[0-9]{6})"
+# All tests by their titles, and what the command line asks for.
+TESTS = []
+OPTIONS = {"--kills": 20, "--title": ""}
+
+
+def test(function):
+    TESTS.append((function.__name__.replace("_", " "), function))
+    return function
+
+
+def rows(title, table):
+    """A test for each row: its title, and what is called."""
+    def add(function):
+        for row in table:
+            TESTS.append((f"{title}: {row[0]}", lambda row=row: function(*row[1:])))
+        return function
+
+    return add
+
+
+def here():
+    return "--listen", "127.0.0.1"
 
 
 def game_of(word):
@@ -41,7 +65,7 @@ class Run:
         self.players = self.game.players
         names = NAMES[: self.players] if names is None else names
         words = [name, game, str(hands), str(seed), *names, *options] if words is None else words
-        self.notes = open(folder / f"{name}.notes", "w+b")
+        self.notes = open(folder / f"{name}.notes", "wb")
         self.process = subprocess.Popen(
             [command or TOP / "tools/dealer", *words], cwd=folder, stdin=subprocess.DEVNULL, stdout=subprocess.PIPE, stderr=self.notes,
         )

@@ -105,13 +105,15 @@ def transaction(line):
     return Restart(int(restarted[1])) if restarted else None
 
 
-def transactions(file):
-    """What a transaction file tells, line by line. What a kill left of its last line is dropped from the file."""
-    content = file.content()
-    whole = content[: content.rfind(b"\n") + 1]
-    file.cut(len(whole))
-    for number, line in enumerate(whole.decode("latin-1").split("\n")[:-1], start=1):
+def whole_lines(content):
+    """What a file has without what a kill left of its last line."""
+    return content[: content.rfind(b"\n") + 1]
+
+
+def transactions(path, content):
+    """What whole lines of a transaction file tell, each with its number from 1 on."""
+    for number, line in enumerate(content.decode("latin-1").split("\n")[:-1], start=1):
         told = transaction(line)
         if told is None:
-            raise MatchFault(f"{file.path}: line {number} is no transaction: {line[:80]!r}")
+            raise MatchFault(f"{path}: line {number} is no transaction: {line[:80]!r}")
         yield number, told

@@ -2,10 +2,10 @@
 import re
 import time
 from pathlib import Path
-from typing import List, NamedTuple, Optional, Sequence
+from typing import Iterable, List, NamedTuple, Optional, Sequence
 
 from .faults import Failed, MatchFault, SeatFault
-from .files import File, Restart, Transaction, transactions
+from .files import File, Restart, Transaction, transactions, whole_lines
 from .program import PROGRAM, Dealer, Draw
 from .seats import Seat, take_leave
 
@@ -35,7 +35,7 @@ class Settings(NamedTuple):
     hands: int
     names: Sequence[str]
     seed: int = 0
-    deals: Optional[Sequence[str]] = None
+    deals: Optional[Iterable[str]] = None
     limits: Limits = Limits()
     listen: str = "127.0.0.1"
     ports: Sequence[int] = ()
@@ -129,8 +129,8 @@ class Times:
                 raise Failed(f"out of time: {what} took {taken / 1e6:.3f} s, and the limit is {limit / 1e3:.3f} s")
 
 
-def words_of(settings):
-    """A log's header has a name and a word for the game: what may not stand there becomes _, and what is too long is cut."""
+def header(settings):
+    """A log's first line. What may not stand in its name, or in its word for the game, becomes _, and is cut where it is long."""
     name = re.sub(r"[^A-Za-z0-9_.-]", "_", Path(settings.name).name)[:32] or "_"
     return f"# name/game/hands {name} {re.sub('[^!-~]', '_', settings.game)[-200:]} {settings.hands}"
 
@@ -139,7 +139,7 @@ class Match:
     """A match on its way."""
 
     def __init__(self, settings, watcher=None):
-        """Takes the files, starts the program, plays the transaction file's actions again, and listens. InUse where another
+        """Starts the program, listens, takes the files, and plays the transaction file's actions again. InUse where another
         dealer has the files, MatchFault where anything else is wrong."""
         self.settings, self.watcher = settings, watcher or Watcher()
         self.players = len(settings.names)
@@ -157,29 +157,37 @@ class Match:
             raise
 
     def prepare(self):
+        """Files come last: where anything else is wrong, what an earlier match left is as it was."""
         settings = self.settings
         try:
             game = Path(settings.game).read_bytes()
         except OSError as why:
             raise MatchFault(f"the game file {settings.game} can't be read: {why.strerror}") from why
-        is_told = settings.is_resumed and settings.transactions is not None and settings.transactions.exists()
-        self.transactions = self.file(settings.transactions)
-        self.log = self.file(settings.log)
         self.dealer = self.kept(Dealer(settings.program, settings.game, game, settings.hands, settings.names))
         self.deals = iter(settings.deals) if settings.deals is not None else self.kept(
             Draw(settings.program, game, settings.hands, self.players, settings.seed)
         )
-        logged = [words_of(settings)]
-        if is_told:
-            logged += self.replayed()
-        elif not settings.is_resumed:
-            for file in filter(None, (self.transactions, self.log)):
-                file.cut(0)
-        if self.log is not None:
-            self.begin_log("".join(line + "\n" for line in logged), is_told)
-        ports = [*settings.ports, *[0] * self.players]
-        for port in ports[: self.players]:
+        for port in [*settings.ports, *[0] * self.players][: self.players]:
             self.seats.append(self.kept(Seat(settings.listen, port)))
+        is_told = settings.is_resumed and settings.transactions is not None and settings.transactions.exists()
+        self.transactions = self.file(settings.transactions)
+        self.log = self.file(settings.log)
+        self.begin_files(is_told)
+
+    def begin_files(self, is_told):
+        """The log's beginning is its header, with what the transaction file tells. What is there of a match that goes on must
+        be the beginning of that; where nothing goes on but files are kept, it stands behind what is there."""
+        told = whole_lines(self.transactions.content()) if is_told else b""
+        logged = [header(self.settings), *self.replayed(told)]
+        text = "".join(line + "\n" for line in logged)
+        old = self.log.content().decode("latin-1") if is_told and self.log is not None else ""
+        if not text.startswith(old):
+            raise MatchFault(f"{self.log.path}: what is in it isn't what {self.transactions.path} plays: it is of another match")
+        for file, size in ((self.transactions, len(told)), (self.log, len(old))):
+            if file is not None and (is_told or not self.settings.is_resumed):
+                file.cut(size)
+        if self.log is not None:
+            self.log.append(text[len(old) :])
 
     def kept(self, part):
         """A part that is closed with the match."""
@@ -193,22 +201,14 @@ class Match:
     def ports(self):
         return [seat.port for seat in self.seats]
 
-    def begin_log(self, text, is_told):
-        """The log's beginning: its header, with what was played again. What is there of a match that goes on must be the
-        beginning of it; where nothing goes on, it stands behind what is there."""
-        old = self.log.content().decode("latin-1") if is_told else ""
-        if not text.startswith(old):
-            raise MatchFault(f"{self.log.path}: what is in it isn't what {self.transactions.path} plays: it is of another match")
-        self.log.append(text[len(old) :])
-
-    def replayed(self):
-        """Plays what the transaction file tells; the log's lines of it."""
+    def replayed(self, content):
+        """Plays what whole lines of the transaction file tell; the log's lines of it."""
         logged = []
-        for number, told in transactions(self.transactions):
+        for number, told in transactions(self.settings.transactions, content):
             try:
                 logged += self.replay(told)
             except (LookupError, MatchFault) as why:
-                raise MatchFault(f"{self.transactions.path}: line {number} is of another match: {why}") from why
+                raise MatchFault(f"{self.settings.transactions}: line {number} is of another match: {why}") from why
         return logged
 
     def replay(self, told):
@@ -287,7 +287,7 @@ class Match:
 
     def send(self, seat):
         line = self.dealer.lines[seat]
-        self.seats[seat].send(line, self.settings.limits.response / THOUSAND)
+        self.seats[seat].send(line)
         self.sent[seat] = self.clock.now()
         self.watcher.sent(seat, self.sent[seat], line)
 

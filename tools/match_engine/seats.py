@@ -8,6 +8,8 @@ from .faults import Failed, MatchFault
 VERSION = re.compile(r"VERSION:2\.0\.[0-9]{1,9}")
 # The most bytes of a player's line before its LF, and how many of a longer one are kept to be shown.
 LINE, SHOWN = 4096, 100
+# How long a line may take to be taken, in seconds.
+SENDING = 5
 # How long players are waited for at the match's end until they have read the last lines, in seconds, all together.
 PARTING = 0.5
 
@@ -55,10 +57,10 @@ class Seat:
         if not VERSION.fullmatch(line):
             raise Failed(f"the first line isn't VERSION:2.0.0 but {line[:SHOWN]!r}")
 
-    def send(self, line, seconds):
-        """Sends a line, which a player who reads takes at once."""
+    def send(self, line):
+        """Sends a line. A connection that takes none for some seconds has hundreds of lines that its player hasn't read."""
         try:
-            self.connection.settimeout(seconds)
+            self.connection.settimeout(SENDING)
             self.connection.sendall(line.encode("ascii") + b"\r\n")
         except OSError as why:
             raise Failed(f"the player takes no line any more ({why.strerror or why})") from why
