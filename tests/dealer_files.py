@@ -1,5 +1,6 @@
 """Tests of tests/dealer_tool: what a match leaves on the disk, kills and resumptions, several tools at once, and what
 tools/league asks of the engine."""
+import os
 import random
 import signal
 import subprocess
@@ -8,7 +9,7 @@ import time
 
 sys.dont_write_bytecode = True
 
-from dealer_runs import OPTIONS, WAIT, Bot, Run, are_ended, at_turn, calls, children, compiled, goes, hangs, here, rows, test, waits
+from dealer_runs import OPTIONS, WAIT, Bot, Run, are_ended, at_turn, calls, children, compiled, goes, hangs, here, rows, slow, test, waits
 from serving import want
 
 from match_engine import AGAIN, DEFAULT, Limits, Match, Settings, Watcher
@@ -154,13 +155,26 @@ def sixteen_play_at_once():
 
 @rows("children end with the tool", [(name, getattr(signal, name)) for name in ("SIGTERM", "SIGINT", "SIGKILL")])
 def children_end_with_the_tool(number):
+    """Stopped ones too: they don't end by themselves where their input ends."""
     run = Run(*here())
     run.ports
     started = children(run.process.pid)
+    for child, _ in started:
+        os.kill(int(child), signal.SIGSTOP)
     run.process.send_signal(number)
     want(run.process.wait(WAIT) in (1, -number), f"status {run.process.returncode}")
     time.sleep(0.5)
     want(len(started) == 2 and are_ended(started), f"children: {started}")
+
+
+@test
+def a_match_ends_with_the_program():
+    run = Run(*here(), hands=1000)
+    run.play(calls(run.game), slow(run.game, 0.01))
+    time.sleep(0.3)
+    for child, _ in children(run.process.pid):
+        os.kill(int(child), signal.SIGKILL)
+    run.fails(r"holdem_table (hand|play) ended in the middle of the match \(status -9\)")
 
 
 # What tools/league asks of the engine

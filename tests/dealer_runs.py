@@ -54,7 +54,7 @@ def game_of(word):
 class Run:
     """A run of the tool, in a folder that several runs of one match may share."""
 
-    folders = []
+    folders, made = [], []
 
     def __init__(self, *options, game=NOLIMIT_2P, hands=3, seed=7, names=None, folder=None, name="m", command=None, words=None):
         if folder is None:
@@ -70,6 +70,7 @@ class Run:
             [command or TOP / "tools/dealer", *words], cwd=folder, stdin=subprocess.DEVNULL, stdout=subprocess.PIPE, stderr=self.notes,
         )
         self.first, self.printed = None, None
+        self.made.append(self)
 
     @property
     def ports(self):
@@ -129,8 +130,15 @@ class Run:
 
     def kill(self):
         self.process.kill()
-        self.process.stdout.close()
         self.process.wait()
+
+    @classmethod
+    def remove_all(cls):
+        """Ends what a test that failed has left, and removes the folders."""
+        for run in cls.made:
+            run.kill()
+        for folder in cls.folders:
+            shutil.rmtree(folder, ignore_errors=True)
 
 
 class Gone(Exception):
@@ -203,6 +211,19 @@ def waits(seconds, action="c"):
     """What a bot does that takes its time."""
     def does(line):
         time.sleep(seconds)
+        return action
+
+    return does
+
+
+def slow(game, seconds):
+    """A bot that calls, and takes its time for each response."""
+    act = calls(game)
+
+    def does(line):
+        action = act(line)
+        if action:
+            time.sleep(seconds)
         return action
 
     return does
