@@ -99,8 +99,7 @@ def not_resumed(words, change, text):
     before = run.log(), run.transactions()
     seed = int(words[words.index("--seed") + 1]) if "--seed" in words else 7
     again = Run(words[0], *here(), hands=int(words[2]), seed=seed, folder=run.folder)
-    want(again.process.stdout.read() == b"" and again.process.wait(WAIT) == 1, "it was resumed")
-    want(again.said()[-1].startswith(f"ERROR: {text}"), f"it says {again.said()}")
+    again.refuses(text)
     want((run.log(), run.transactions()) == before, "a file has changed")
 
 
@@ -133,10 +132,8 @@ def two_tools_have_no_match_together():
     one = Run("-T", *here(), hands=2)
     one.ports
     for options in (["-T"], ["-aT"], ["-q"], ["-lT"]):
-        other = Run(*options, *here(), folder=one.folder, hands=2, words=None)
-        want(other.process.wait(WAIT) == 1 and other.process.stdout.read() == b"", "two tools have one match")
-        file = "m.tlog" if "T" in options[0] else "m.log"
-        want(other.said()[-1] == f"ERROR: {file}: another dealer is writing this file", f"it says {other.said()}")
+        other = Run(*options, *here(), folder=one.folder, hands=2)
+        other.refuses(f"{'m.tlog' if 'T' in options[0] else 'm.log'}: another dealer is writing this file")
     one.play()
     one.ends(0)
     one.is_right()
@@ -221,7 +218,7 @@ def a_bot_may_return_and_then_its_seat_has_default_actions():
         result = match.play()
     whys = [(seat, restarts, why) for seat, why, restarts in watcher.failures]
     want([row[:2] for row in whys] == [(1, 0), (1, 1), (1, 2)], f"failures {whys}")
-    want("came" in whys[1][2] and "no response came within 0.600 s" in whys[2][2], f"failures {whys}")
+    want("connect" in whys[1][2] and "no response came within 0.600 s" in whys[2][2], f"failures {whys}")
     log = (run.folder / "e.log").read_text()
     want(log == "# name/game/hands m " + str(run.folder / run.word) + " 5\n" + "".join(line + "\n" for line in watcher.lines), "another log")
     marks = [line.split()[-1] for line in (run.folder / "e.tlog").read_text().splitlines()]

@@ -12,15 +12,15 @@ from pathlib import Path
 
 sys.dont_write_bytecode = True
 
-from serving import FAST, NAMES, TOP, Game, turn_of, want
+from serving import FAST, NAMES, TOP, Game, Wrong, turn_of, want
 
 sys.path.insert(0, str(TOP / "tools"))
 
 PROGRAM = TOP / "crates/holdem_table/out/holdem_table"
 LIMIT_2P, NOLIMIT_2P = "holdem.limit.2p.reverse_blinds.game", "holdem.nolimit.2p.reverse_blinds.game"
 LIMIT_3P, NOLIMIT_3P, NOLIMIT_6P = "holdem.limit.3p.game", "holdem.nolimit.3p.game", "holdem.nolimit.6p.game"
-# The longest wait for anything that has to happen, in seconds.
-WAIT = 60
+# The longest wait for anything that has to happen, and for what needs no bot, in seconds.
+WAIT, SOON = 60, 20
 HEAD = ["#--t_response 600000", "#--t_hand 600000", "#--t_per_hand 7000"]
 TIME = r"([0-9]+\.[0-9]{6})"
 # All tests by their titles, and what the command line asks for.
@@ -89,13 +89,12 @@ class Run:
         acts = [*acts, *[calls(self.game)] * self.players]
         return [Bot(port, act, address) for port, act in zip(self.ports, acts)]
 
-    def ends(self, status):
+    def ends(self, status, seconds=WAIT):
         """It ends with a status; the rest of what it printed behind the ports."""
         try:
-            rest = self.process.communicate(timeout=WAIT)[0].decode()
+            rest = self.process.communicate(timeout=seconds)[0].decode()
         except subprocess.TimeoutExpired:
-            self.kill()
-            raise
+            raise Wrong(f"it goes on: {self.said()[-3:]}") from None
         want(self.process.returncode == status, f"status {self.process.returncode}: {self.said()[-3:]}")
         self.printed = rest
         want((re.fullmatch(r"SCORE:[-0-9|]+:[\w.|-]+\n", rest) is not None) == (status == 0), f"printed {rest!r}")
@@ -106,6 +105,12 @@ class Run:
         self.ends(1)
         last = self.said()[-1]
         want(re.fullmatch(f"ERROR: {text}", last), f"the last line is {last!r}, not {text!r}")
+
+    def refuses(self, text):
+        """It ends at once with status 1 and a line that begins so behind ERROR: as its last; it prints nothing."""
+        self.ends(1, SOON)
+        want(self.first is None and self.printed == "", "it prints something")
+        want(self.said()[-1].startswith(f"ERROR: {text}"), f"it says {self.said()}")
 
     def warnings(self):
         return [line[len("WARNING: ") :] for line in self.said() if line.startswith("WARNING: ")]

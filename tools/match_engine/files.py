@@ -46,7 +46,7 @@ class File:
         """Opens it as it is, or makes it. InUse where another process has it."""
         self.path = path
         try:
-            self.descriptor = os.open(path, os.O_RDWR | os.O_CREAT | os.O_CLOEXEC, 0o666)
+            self.descriptor = os.open(path, os.O_RDWR | os.O_APPEND | os.O_CREAT | os.O_CLOEXEC, 0o666)
         except OSError as why:
             raise self.fault(why) from why
         try:
@@ -80,7 +80,6 @@ class File:
         """Writes a text behind what is there."""
         data = text.encode("ascii")
         try:
-            os.lseek(self.descriptor, 0, os.SEEK_END)
             while data:
                 data = data[os.write(self.descriptor, data) :]
         except OSError as why:

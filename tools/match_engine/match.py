@@ -269,12 +269,12 @@ class Match:
         self.seats[seat].admit(until, is_last=not self.settings.may_return)
 
     def attempt(self, seat, call, *words):
-        """The value of a call that may fail by the seat's player; none where it failed and he may return. Why it did is kept
-        for the seat's next turn."""
+        """The value of a call that may fail by the seat's player; none where it failed and he may return, or the match is
+        over. Why it did is kept for the seat's next turn."""
         try:
             return call(*words)
         except Failed as why:
-            if not self.settings.may_return:
+            if not self.settings.may_return and not self.dealer.is_over():
                 raise SeatFault(seat, str(why)) from why
             self.lost[seat] = str(why)
             return None

@@ -45,15 +45,17 @@ class Seat:
         try:
             self.listener.settimeout(left(until))
             self.connection, _ = self.listener.accept()
+        except socket.timeout as why:
+            raise Failed("the player didn't connect in time") from why
         except OSError as why:
-            raise Failed("no player came within the time of --start_timeout") from why
+            raise MatchFault(f"port {self.port}: {why.strerror}") from why
         self.connection.setsockopt(socket.IPPROTO_TCP, socket.TCP_NODELAY, 1)
         self.buffer = b""
         if is_last:
             self.listener.close()
-        line = self.line(until, "named no version within the time of --start_timeout")
+        line = "#"
         while line[:1] in ("#", ";"):
-            line = self.line(until, "named no version within the time of --start_timeout")
+            line = self.line(until, "the player named no version in time")
         if not VERSION.fullmatch(line):
             raise Failed(f"the first line isn't VERSION:2.0.0 but {line[:SHOWN]!r}")
 
