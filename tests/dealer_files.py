@@ -178,17 +178,22 @@ def a_match_ends_with_the_program():
 
 
 class League(Watcher):
-    """Starts a bot again so often, and then lets its seat go."""
+    """Starts a bot again so often, and then lets its seat go. It isn't coming where None was started."""
 
     def __init__(self, starts):
         self.starts, self.match, self.failures, self.lines = starts, None, [], []
+        self.is_started = True
+
+    def is_coming(self, seat):
+        return self.is_started
 
     def failed(self, seat, why, restarts):
         self.failures.append((seat, why, restarts))
         if not self.starts[seat]:
             return DEFAULT
         act = self.starts[seat].pop(0)
-        if act is not None:
+        self.is_started = act is not None
+        if self.is_started:
             Bot(self.match.ports[seat], act)
         return AGAIN
 
@@ -197,7 +202,7 @@ class League(Watcher):
 
 
 def league_match(run, watcher, hands=5, **more):
-    limits = Limits(600, 60000, 7000, 300)
+    limits = Limits(600, 60000, 7000, 3000)
     settings = Settings(
         "m", str(run.folder / run.word), hands, ["alice", "bob"], seed=7, limits=limits, log=run.folder / "e.log",
         transactions=run.folder / "e.tlog", may_return=True, **more,
@@ -208,7 +213,7 @@ def league_match(run, watcher, hands=5, **more):
 
 @test
 def a_bot_may_return_and_then_its_seat_has_default_actions():
-    """Bob ends in hand 1, doesn't come at first, hangs in hand 2, and never comes again: he folds where he faces a bet."""
+    """Bob ends in hand 1, can't be started at first, hangs in hand 2, and never comes again: he folds where he faces a bet."""
     run = Run(command="true")
     game = run.game
     watcher = League({0: [], 1: [None, at_turn(game, 3, hangs)]})
@@ -218,7 +223,7 @@ def a_bot_may_return_and_then_its_seat_has_default_actions():
         result = match.play()
     whys = [(seat, restarts, why) for seat, why, restarts in watcher.failures]
     want([row[:2] for row in whys] == [(1, 0), (1, 1), (1, 2)], f"failures {whys}")
-    want("connect" in whys[1][2] and "no response came within 0.600 s" in whys[2][2], f"failures {whys}")
+    want(whys[1][2] == "the player's program ended" and "no response came within 0.600 s" in whys[2][2], f"failures {whys}")
     log = (run.folder / "e.log").read_text()
     want(log == "# name/game/hands m " + str(run.folder / run.word) + " 5\n" + "".join(line + "\n" for line in watcher.lines), "another log")
     marks = [line.split()[-1] for line in (run.folder / "e.tlog").read_text().splitlines()]

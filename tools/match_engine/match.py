@@ -83,6 +83,10 @@ class Watcher:
     def finished(self, at):
         """The last hand is over, and all lines are sent."""
 
+    def is_coming(self, seat):
+        """Asked now and then while a player's connection is waited for: False where it won't come."""
+        return True
+
     def failed(self, seat, why, restarts):
         """Asked only where players may return: AGAIN where the player was started once more, who is then waited for; DEFAULT
         where the seat folds where it faces a bet and else calls, to the match's end."""
@@ -266,7 +270,7 @@ class Match:
         return Result(self.score, self.times.used, self.times.worst, self.mended, self.restarts, self.defaults)
 
     def admit(self, seat, until):
-        self.seats[seat].admit(until, is_last=not self.settings.may_return)
+        self.seats[seat].admit(until, not self.settings.may_return, lambda: self.watcher.is_coming(seat))
 
     def attempt(self, seat, call, *words):
         """The value of a call that may fail by the seat's player; none where it failed and he may return, or the match is
@@ -376,10 +380,14 @@ class Match:
         if seat not in self.lost:
             self.attempt(seat, self.send, seat)
 
+    def take_leave(self):
+        """Says to the players that nothing more comes, and waits a moment until they have read what came. Ports stay open."""
+        take_leave(self.seats)
+
     def close(self):
         """Takes leave of the players where the match is over, and ends all that belongs to it."""
         if self.score is not None:
-            take_leave(self.seats)
+            self.take_leave()
         for part in reversed(self.open):
             part.close()
         self.open = []

@@ -8,8 +8,8 @@ from .faults import Failed, MatchFault
 VERSION = re.compile(r"VERSION:2\.0\.[0-9]{1,9}")
 # The most bytes of a player's line before its LF, and how many of a longer one are kept to be shown.
 LINE, SHOWN = 4096, 100
-# How long a line may take to be taken, in seconds.
-SENDING = 5
+# How long a line may take to be taken, and how often it is asked whether a player is coming, in seconds.
+SENDING, LOOK = 5, 0.1
 # How long players are waited for at the match's end until they have read the last lines, in seconds, all together.
 PARTING = 0.5
 
@@ -40,15 +40,21 @@ class Seat:
             raise MatchFault(f"port {port} at {address} can't be had: {getattr(why, 'strerror', None) or why}") from why
         self.port = self.listener.getsockname()[1]
 
-    def admit(self, until, is_last):
-        """Waits for the player's connection and version. Where it is the last, nobody can come to the port any more."""
-        try:
-            self.listener.settimeout(left(until))
-            self.connection, _ = self.listener.accept()
-        except socket.timeout as why:
-            raise Failed("the player didn't connect in time") from why
-        except OSError as why:
-            raise MatchFault(f"port {self.port}: {why.strerror}") from why
+    def admit(self, until, is_last, is_coming):
+        """Waits for the player's connection and version. Where it is the last, nobody can come to the port any more. Who
+        isn't coming, as is asked now and then, isn't waited for."""
+        self.connection = None
+        while self.connection is None:
+            try:
+                self.listener.settimeout(LOOK if until is None else min(LOOK, left(until)))
+                self.connection, _ = self.listener.accept()
+            except socket.timeout as why:
+                if until is not None and time.monotonic() >= until:
+                    raise Failed("the player didn't connect in time") from why
+                if not is_coming():
+                    raise Failed("the player's program ended") from why
+            except OSError as why:
+                raise MatchFault(f"port {self.port}: {why.strerror}") from why
         self.connection.setsockopt(socket.IPPROTO_TCP, socket.TCP_NODELAY, 1)
         self.buffer = b""
         if is_last:
