@@ -23,6 +23,8 @@ NOTHING, SAID_NOTHING = "x", "E 110 BadScript"
 # The first node's Accept of a deal, as `play` prints it: behind the frame's length come version and kind, ballot and
 # slot, one command, its kind (a deal), the hand's number, and the cards behind their count (docs/FORMATS.md).
 DEAL_FRAME = re.compile(r"frame \d+ 0>1 [0-9a-f]{8}0204[0-9a-f]{18}0101([0-9a-f]{8})[0-9a-f]{2}([0-9a-f]*)")
+# So many rounds of absent players end any hand: they check in four rounds where nobody faces a bet.
+ROUNDS = 10
 # Of prctl: the signal that a process gets when the thread ends that started it.
 PR_SET_PDEATHSIG = 1
 LIBRARY = ctypes.CDLL(None)
@@ -161,7 +163,7 @@ class Dealer:
 class Draw:
     """The deals that nodes draw from a seed, hand after hand, as texts of a script.
 
-    `play` shows them: its nodes have no seats here, and everybody is away, so that each hand ends at once."""
+    `play` shows them: its nodes have no bots here, and all players are away, so that each hand ends soon."""
 
     def __init__(self, program, game, hands, players, seed):
         text = "".join(f"{key} = {value}\n" for key, value in (
@@ -175,24 +177,28 @@ class Draw:
         finally:
             os.close(cards)
             os.close(match)
-        self.players, self.hand = players, 0
-        self.steps = []
+        self.players, self.hand, self.found = players, 0, {}
 
     def __iter__(self):
         return self
 
     def __next__(self):
-        """The next hand's deal. A ballot is begun for each hand, since one is good for 64 commands alone."""
-        self.child.say(*self.steps, "tick 0", "flush 999", NOTHING)
-        self.steps = (self.players - 1) * ["away 0", "flush 999"]
-        found = None
-        for line in iter(self.child.line, SAID_NOTHING):
-            frame = DEAL_FRAME.fullmatch(line)
-            found = frame if frame and int(frame[1], 16) == self.hand else found
-        if found is None:
-            raise MatchFault(f"holdem_table play shows no deal of hand {self.hand}")
-        self.hand += 1
-        return self.text([CARDS[number] for number in bytes.fromhex(found[2])])
+        """The next hand's deal."""
+        for _ in range(ROUNDS):
+            if self.hand in self.found:
+                self.hand += 1
+                return self.found.pop(self.hand - 1)
+            self.go_on()
+        raise MatchFault(f"holdem_table play shows no deal of hand {self.hand}")
+
+    def go_on(self):
+        """Has so many players be away as end a hand in most games, and begins a ballot, since one is good for 64 commands
+        alone. Keeps the deals that this shows."""
+        absent = (self.players - 1) * ["away 0", "flush 999"] if self.hand else []
+        self.child.say(*absent, "tick 0", "flush 999", NOTHING)
+        for frame in map(DEAL_FRAME.fullmatch, iter(self.child.line, SAID_NOTHING)):
+            if frame:
+                self.found[int(frame[1], 16)] = self.text([CARDS[number] for number in bytes.fromhex(frame[2])])
 
     def text(self, cards):
         holes = "|".join(cards[2 * p] + cards[2 * p + 1] for p in range(self.players))
