@@ -85,20 +85,18 @@ def a_match_goes_on_where_it_was():
 
 
 @rows("not resumed", [
-    ("with a log of another seed", ["-aT", "--hands", "6", "--seed", "8"], None, "m.log: what is in it isn't what m.tlog plays: it is of another match"),
-    ("with fewer hands", ["-aT", "--hands", "2"], None, "m.tlog: line 17 is of another match: the match is over before it"),
-    ("with a line that is none", ["-aT", "--hands", "6"], ("c ", "call "), "m.tlog: line 1 is no transaction: 'call "),
-    ("with an action that isn't legal", ["-aT", "--hands", "6"], ("c ", "r100 "), "m.tlog: line 1 is of another match: r100 is refused by 24 RaiseTooSmall 200"),
+    ("with a log of another seed", {"seed": 8}, None, "m.log: what is in it isn't what m.tlog plays: it is of another match"),
+    ("with fewer hands", {"hands": 2}, None, "m.tlog: line 17 is of another match: the match is over before it"),
+    ("with a line that is none", {}, "call ", "m.tlog: line 1 is no transaction: 'call "),
+    ("with an action that isn't legal", {}, "r100 ", "m.tlog: line 1 is of another match: r100 is refused by 24 RaiseTooSmall 200"),
 ])
-def not_resumed(words, change, text):
-    """Nothing is asked of a bot then, and both files stay as they are."""
+def not_resumed(other, first, text):
+    """Nothing is asked of a bot then, and both files stay as they are. The first action may be another one."""
     run = stopped_in_hand(4)
-    if change:
-        (run.folder / "m.tlog").write_text(run.transactions().replace(*change, 1))
-    (run.folder / "m.tlog").write_text(run.transactions() + "c 17")
+    changed = run.transactions().replace("c ", first, 1) if first else run.transactions()
+    (run.folder / "m.tlog").write_text(changed + "c 17")
     before = run.log(), run.transactions()
-    seed = int(words[words.index("--seed") + 1]) if "--seed" in words else 7
-    again = Run(words[0], *here(), hands=int(words[2]), seed=seed, folder=run.folder)
+    again = Run("-aT", *here(), folder=run.folder, **{"hands": 6, **other})
     again.refuses(text)
     want((run.log(), run.transactions()) == before, "a file has changed")
 
@@ -169,8 +167,7 @@ def a_match_ends_with_the_program():
     run = Run(*here(), hands=1000)
     run.play(calls(run.game), slow(run.game, 0.01))
     time.sleep(0.3)
-    for child, _ in children(run.process.pid):
-        os.kill(int(child), signal.SIGKILL)
+    os.kill(int(children(run.process.pid)[0][0]), signal.SIGKILL)
     run.fails(r"holdem_table (hand|play) ended in the middle of the match \(status -9\)")
 
 
@@ -232,6 +229,18 @@ def a_bot_may_return_and_then_its_seat_has_default_actions():
     want(result.mended == [marks.count("mended"), 0], f"mended {result.mended}")
     want(0 < result.worst[1] <= result.used[1], f"times {result}")
     return run
+
+
+@rows("a transaction file is synced", [("at each hand's end", False), ("at each action", True)])
+def a_transaction_file_is_synced(sync_actions):
+    """Before the hand's line comes to the log."""
+    run, seen = Run(command="true"), []
+    with league_match(run, League({0: [], 1: []}), sync_actions=sync_actions) as match:
+        match.transactions.sync = lambda: seen.append([len((run.folder / name).read_text().splitlines()) for name in ("e.tlog", "e.log")])
+        [Bot(port, calls(run.game)) for port in match.ports]
+        match.play()
+    wanted = [[actions, 1 + (actions - 1) // 8] for actions in range(1, 41)]
+    want(seen == (wanted if sync_actions else wanted[7::8]), f"synced where files have so many lines: {seen}")
 
 
 @test

@@ -76,7 +76,10 @@ class Run:
     def ports(self):
         """The ports that it prints in its first line, once it has."""
         if self.first is None:
+            late = threading.Timer(WAIT, self.process.kill)
+            late.start()
             self.first = self.process.stdout.readline().decode()
+            late.cancel()
             want(re.fullmatch(rf"[0-9]+( [0-9]+){{{self.players - 1}}}\n", self.first), f"no line of ports: {self.first!r}, {self.said()}")
         return [int(word) for word in self.first.split()]
 

@@ -5,7 +5,10 @@ transaction file tells, and listens. `play` then waits for the players and plays
 told to the watcher, whose methods do nothing by themselves.
 """
 from .faults import InUse, MatchFault, SeatFault
+from .files import stamp
 from .match import AGAIN, DEFAULT, Limits, Match, Result, Settings, Watcher
 from .program import PROGRAM
 
-__all__ = ["AGAIN", "DEFAULT", "PROGRAM", "InUse", "Limits", "Match", "MatchFault", "Result", "SeatFault", "Settings", "Watcher"]
+__all__ = [
+    "AGAIN", "DEFAULT", "PROGRAM", "InUse", "Limits", "Match", "MatchFault", "Result", "SeatFault", "Settings", "Watcher", "stamp",
+]

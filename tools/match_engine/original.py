@@ -6,7 +6,8 @@ whose place the last of them takes. Players get their cards by position, two at 
 """
 import random
 
-RANKS, SUITS = "23456789TJQKA", "cdhs"
+from .program import RANKS, SUITS, deal_text
+
 PACK = [rank + suit for suit in SUITS for rank in RANKS]
 # How many words the generator's state has, and the greatest seed that begins it.
 WORDS, SEED = 624, 2**32 - 1
@@ -32,5 +33,4 @@ def deals(seed, players):
             cards.append(pack[place])
             pack[place] = pack[-1]
             pack.pop()
-        holes = "|".join(cards[2 * p] + cards[2 * p + 1] for p in range(players))
-        yield f"{holes}/{''.join(cards[-5:-2])}/{cards[-2]}/{cards[-1]}"
+        yield deal_text(cards)

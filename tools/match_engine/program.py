@@ -45,6 +45,12 @@ def file_in_memory(name, text):
     return descriptor
 
 
+def deal_text(cards):
+    """A deal as a script has it: two cards for each position, and the board."""
+    holes = ["".join(cards[place : place + 2]) for place in range(0, len(cards) - 5, 2)]
+    return f"{'|'.join(holes)}/{''.join(cards[-5:-2])}/{cards[-2]}/{cards[-1]}"
+
+
 def path_of(descriptor):
     return f"/proc/self/fd/{descriptor}"
 
@@ -198,12 +204,7 @@ class Draw:
         self.child.say(*absent, "tick 0", "flush 999", NOTHING)
         for frame in map(DEAL_FRAME.fullmatch, iter(self.child.line, SAID_NOTHING)):
             if frame:
-                self.found[int(frame[1], 16)] = self.text([CARDS[number] for number in bytes.fromhex(frame[2])])
-
-    def text(self, cards):
-        holes = "|".join(cards[2 * p] + cards[2 * p + 1] for p in range(self.players))
-        board = cards[2 * self.players :]
-        return f"{holes}/{''.join(board[:3])}/{board[3]}/{board[4]}"
+                self.found[int(frame[1], 16)] = deal_text([CARDS[number] for number in bytes.fromhex(frame[2])])
 
     def close(self):
         self.child.close()
