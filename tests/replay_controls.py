@@ -289,7 +289,8 @@ def figures(screen, url):
     screen.click("checkbox", "By position")
     same(len(screen.texts("#figures-body tr")), 3, "without By position")
     screen.click("link", "hand 2")
-    same(screen.hand(), "Hand 2", "the hand in which bob lost most")
+    screen.comes("document.getElementById('hand-title').innerText === 'Hand 2'")
+    want(0 <= screen.value("document.getElementById('hand-title').getBoundingClientRect().top") < 900, "hand 2 isn't in sight")
 
 
 def cards(screen, log):
@@ -304,8 +305,12 @@ def cards(screen, log):
 def matches(screen, log, other):
     screen.open(screen.make("two.html", GAME, log, other) + "#2/3")
     same((screen.hand(), screen.text("count")), ("Hand 3 of match 2", "24 hands"), "two matches")
+    same(screen.texts("#list-body th")[11:14], ["1/11", "2/0", "2/1"], "the list of two matches")
     screen.choose("Match", "1: twelve (twelve.log, 12 hands)")
     same((screen.hand(), screen.text("count")), ("Hand 0 of match 1", "12 hands"), "the first match")
+    screen.value("location.hash = '#2/5'")
+    screen.comes("document.getElementById('hand-title').innerText === 'Hand 5 of match 2'")
+    same((screen.texts("#list-body .is-current th"), screen.text("count")), (["2/5"], "12 hands"), "a hand of the other match")
     screen.choose("Match", "all 2")
     same((screen.text("count"), screen.texts("#figures-body tr")[0].split(" ")[:2]), ("24 hands", ["alice", "24"]), "all matches")
 

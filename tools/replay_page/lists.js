@@ -34,6 +34,7 @@ function drawList(list, page, player, isMany, address, current) {
   refill(byId("list-body"), shown.map((hand) => listRow(hand, player, isMany, address(hand), hand === current)));
   const pages = Math.max(1, Math.ceil(list.length / HANDS_ON_PAGE));
   byId("page").textContent = `${page + 1} of ${pages}`;
+  byId("pager").hidden = pages === 1;
   byId("page-back").disabled = page === 0;
   byId("page-forward").disabled = page + 1 >= pages;
 }

@@ -1,6 +1,8 @@
 // What is shown now, and what the reader's keys and buttons change about it.
 
 const PLAY_MILLISECONDS = 900;
+/** So many differences from the logs are listed. */
+const DIFFERENCES = 20;
 const ADDRESS = /^#(?:(\d+)\/)?(\d+)$/;
 
 const data = JSON.parse(byId("data").textContent);
@@ -59,6 +61,7 @@ function goToAddress(hash) {
 /** Shows a hand from its deal on. */
 function openHand(hand) {
   pause();
+  if (view.scope >= 0 && view.scope !== hand.match) chooseScope(hand.match);
   const match = matches[hand.match];
   if (match !== view.match) {
     view.match = match;
@@ -199,6 +202,7 @@ function chooseBand(name) {
 /** Shows another match, or all: its players, its list, its course, its figures. */
 function chooseScope(scope) {
   view.scope = scope;
+  byId("match").value = String(scope);
   const hands = scopeHands();
   view.courses = coursesOf(hands);
   view.figures = figuresOf(hands, game.players);
@@ -235,7 +239,8 @@ function showDifferences() {
   const all = matches.flatMap((match) => match.differences.map(({ hand, text }) => ({ match, hand, text })));
   byId("alarm").hidden = all.length === 0;
   if (all.length === 0) return;
-  const items = all.slice(0, 20).map(({ match, hand, text }) => element("li", {}, hand ? handLink(hand) : `Score of ${match.name}`, `: ${text}`));
+  const items = all.slice(0, DIFFERENCES).map(({ match, hand, text }) => element("li", {}, hand ? handLink(hand) : `Score of ${match.name}`, `: ${text}`));
+  if (all.length > DIFFERENCES) items.push(element("li", {}, `and ${chipsText(all.length - DIFFERENCES)} more`));
   const head = `✕ ${chipsText(all.length)} ${all.length === 1 ? "difference" : "differences"} between the log and the rules`;
   refill(byId("alarm"), element("strong", {}, head), element("ul", {}, items));
 }
@@ -270,6 +275,16 @@ function takeKey(event) {
   event.preventDefault();
 }
 
+/** Opens the hand that a link names, and brings it into sight where it isn't, as on a narrow screen. */
+function followLink(event) {
+  const link = event.target.closest("a[href^='#']");
+  if (!link || event.ctrlKey || event.metaKey || event.shiftKey) return;
+  event.preventDefault();
+  goToAddress(link.getAttribute("href"));
+  const { top, bottom } = byId("hand-title").getBoundingClientRect();
+  if (top < 0 || bottom > window.innerHeight) byId("replay").scrollIntoView();
+}
+
 function listen() {
   for (const [id, act] of Object.entries(BUTTONS)) {
     byId(id).addEventListener("click", () => byId(id).getAttribute("aria-disabled") !== "true" && act());
@@ -288,6 +303,7 @@ function listen() {
   byId("by-position").addEventListener("change", showFigures);
   byId("scrub").addEventListener("input", () => goTo(scopeHands()[Number(byId("scrub").value)]));
   byId("chart").addEventListener("click", (event) => goTo(scopeHands()[view.handAt(event.offsetX) - 1]));
+  document.addEventListener("click", followLink);
   document.addEventListener("keydown", takeKey);
   window.addEventListener("hashchange", openAddress);
   new ResizeObserver(drawChart).observe(byId("chart"));
