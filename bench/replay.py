@@ -64,7 +64,8 @@ def main(words):
             game, log = match(Path(name), players, hands)
             page = Path(name) / f"{players}.html"
             took = seconds([game, log, "-o", page])
-            line = f"{players} players, {hands} hands: made in {took:.2f} s, {page.stat().st_size / 1000:.0f} kB of a log of {log.stat().st_size / 1000:.0f}"
+            sizes = [path.stat().st_size / 1000 for path in (page, log)]
+            line = f"{players} players, {hands} hands: made in {took:.2f} s, {sizes[0]:.0f} kB of a log of {sizes[1]:.0f}"
             print(line + (f", shown in {shown(page):.0f} ms" if program() else "; no Chromium is here to show it"), flush=True)
     return 0
 

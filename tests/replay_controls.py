@@ -14,7 +14,7 @@ WIDTHS, THEMES = (360, 900, 1920), ("light", "dark")
 LONGEST = 32
 # The least contrast of text and its ground that WCAG 2 asks for at level AA.
 CONTRAST = 4.5
-# The contrast of each text with the ground below it, as [contrast, tag, class, text], of those that are no picture or faint on purpose.
+# The contrast of each text with the ground below it, as [contrast, tag, class, text]; without pictures and what is faint on purpose.
 CONTRASTS = """(() => {
   const parts = (color) => color.match(/[\\d.]+/g).map(Number);
   const light = (color) => [0.2126, 0.7152, 0.0722].reduce((sum, weight, at) => {
@@ -33,6 +33,11 @@ CONTRASTS = """(() => {
     return [(Math.max(text, below) + 0.05) / (Math.min(text, below) + 0.05), one.tagName, one.className, one.textContent.slice(0, 20)];
   });
 })()"""
+
+
+def told(kind):
+    """The script by which a field tells that a reader has changed it."""
+    return f"this.dispatchEvent(new Event('{kind}', {{ bubbles: true }}))"
 
 
 class Screen:
@@ -78,10 +83,10 @@ class Screen:
         self.value("new Promise(requestAnimationFrame)")
 
     def choose(self, name, text):
-        self.on("combobox", name, "this.value = [...this.options].find((it) => it.text === values[0]).value; this.dispatchEvent(new Event('change', { bubbles: true }))", text)
+        self.on("combobox", name, f"this.value = [...this.options].find((it) => it.text === values[0]).value; {told('change')}", text)
 
     def write(self, name, text):
-        self.on("textbox", name, "this.value = values[0]; this.dispatchEvent(new Event('input', { bubbles: true }))", text)
+        self.on("textbox", name, f"this.value = values[0]; {told('input')}", text)
 
     def key(self, key, modifiers=0):
         text = {"Enter": "\r", " ": " "}.get(key, "")
@@ -144,7 +149,11 @@ def steps(screen, url):
     screen.click("button", "carol bets 400, all-in")
     same(screen.text("told"), "carol bets 400, all-in. bob is to act.", "a step of the story")
     same(screen.texts("#story [aria-current=step]"), ["carol bets 400, all-in"], "the step that is marked")
-    outcome = ["carol shows A♠\ufe0e A♦\ufe0e: a pair of aces, with J 8 7.", "bob shows Q♠\ufe0e Q♦\ufe0e: a pair of queens, with J 8 7.", "Pot 2,100: carol wins it with a pair of aces, with J 8 7."]
+    outcome = [
+        "carol shows A♠\ufe0e A♦\ufe0e: a pair of aces, with J 8 7.",
+        "bob shows Q♠\ufe0e Q♦\ufe0e: a pair of queens, with J 8 7.",
+        "Pot 2,100: carol wins it with a pair of aces, with J 8 7.",
+    ]
     same(screen.texts(".outcome li"), outcome, "outcome")
 
 
@@ -162,15 +171,17 @@ def side_pots(screen, url):
 
 
 def playing(screen, url):
-    screen.open(url + "#0")
+    screen.open(url + "#2")
     screen.click("button", "Play")
-    screen.comes("document.getElementById('told').innerText.startsWith('carol folds')")
+    screen.comes("!document.getElementById('told').innerText.startsWith('Cards are dealt')")
     screen.click("button", "Pause")
     before = screen.text("told")
     time.sleep(1.2)
     same(screen.text("told"), before, "after Pause")
+    screen.click("button", "To the end")
+    screen.click("button", "Back")
     screen.click("button", "Play")
-    screen.comes("document.getElementById('told').innerText.startsWith('The hand is over: bob gets 100')")
+    screen.comes("document.getElementById('told').innerText.startsWith('The hand is over: carol gets 2,100')")
     screen.named("button", "Play")
 
 
@@ -231,7 +242,8 @@ def filters(screen, url):
     screen.click("button", "Clear filters")
     screen.choose("Player", "bob")
     screen.choose("Sort by", ORDERS["lost"])
-    same(screen.texts("#list-body tr:first-child > *"), ["2", "−1,000", "Q♠\ufe0e Q♦\ufe0e", "2,100", "Showdown all-in"], "bob's first row")
+    row = ["2", "−1,000", "Q♠\ufe0e Q♦\ufe0e", "2,100", "Showdown all-in"]
+    same(screen.texts("#list-body tr:first-child > *"), row, "bob's first row")
     screen.click("link", "2")
     screen.click("button", "Next hand")
     screen.click("button", "Next hand")
@@ -253,7 +265,7 @@ def course(screen, url):
     screen.open(url + "#3")
     sums = {name: sum(chips[:4]) for name, chips in CHIPS.items()}
     same(screen.text("reading"), "After hand 3: alice +900, bob −1,150, carol +250", f"the chips after hand 3, {sums}")
-    screen.on("slider", "Hand on the course", "this.value = 9; this.dispatchEvent(new Event('input', { bubbles: true }))")
+    screen.on("slider", "Hand on the course", f"this.value = 9; {told('input')}")
     screen.comes("location.hash === '#9'")
     same(screen.text("reading"), "After hand 9: alice +175, bob −825, carol +650", "the chips after hand 9")
     same(screen.texts("#legend [aria-pressed=true] .who"), ["alice"], "whose band is shown")
@@ -274,14 +286,16 @@ def figures(screen, url):
     screen.open(url)
     row = lambda at: dict(zip(screen.texts("#figures-head th"), screen.texts(f"#figures-body tr:nth-child({at}) > *")))
     for at, (name, wanted) in enumerate(FIGURES.items()):
-        got, part = row(at + 1), lambda figure: "{:.1f} % {} of {}".format(100 * wanted[figure][0] / wanted[figure][1], *wanted[figure])
+        got = row(at + 1)
+        part = lambda figure: "{:.1f} % {} of {}".format(100 * wanted[figure][0] / wanted[figure][1], *wanted[figure])
         titles = {"VPIP": "vpip", "PFR": "pfr", "Aggression": "aggression", "Went to showdown": "went", "Won at showdown": "won"}
         same({title: got[title] for title in titles}, {title: part(figure) for title, figure in titles.items()}, name)
         same(got["Lost most"], f"−1,000 hand {wanted['worst'][1]}", f"{name}: lost most")
     # Chips, and 1000 x 75 / 100 / 12 with the deviation that the standard library finds: see replay_match.py.
     same((row(1)["Chips"], row(1)["mbb/hand"]), ("+75", "+63 ± 2,685"), "alice")
-    meanings = screen.texts("#meanings dt")
-    same([text.split(" ")[0] for text in meanings], ["Hands", "VPIP", "PFR", "Aggression", "Went", "Won", "Chips", "mbb/hand", "Lost"], "meanings")
+    titles = screen.texts("#figures-head th")[1:]
+    meanings = screen.value("[...document.querySelectorAll('#meanings dt')].map((it) => it.firstChild.data)")
+    same((len(titles), meanings), (9, titles), "the figures that are explained")
     screen.click("checkbox", "By position")
     heads = ["alice", "blind 50", "blind 100", "no blind, button"]
     same(screen.texts("#figures-body tr > th")[:4], heads, "By position")
@@ -295,8 +309,12 @@ def figures(screen, url):
 
 def cards(screen, log):
     """Whose cards are seen in hand 1, in which alice folded and carol won: nobody's, bob's, all."""
-    rows = [([], ["hidden card"] * 6), (["--seat", "bob"], ["hidden card"] * 2 + ["ace of spades", "ace of diamonds"] + ["hidden card"] * 2)]
-    rows.append((["--all"], ["queen of spades", "queen of diamonds", "ace of spades", "ace of diamonds", "king of spades", "king of diamonds"]))
+    hidden, aces = ["hidden card"] * 2, ["ace of spades", "ace of diamonds"]
+    rows = [
+        ([], hidden * 3),
+        (["--seat", "bob"], hidden + aces + hidden),
+        (["--all"], ["queen of spades", "queen of diamonds", *aces, "king of spades", "king of diamonds"]),
+    ]
     for words, wanted in rows:
         screen.open(screen.make("cards.html", GAME, log, *words) + "#1")
         same(screen.value("[...document.querySelectorAll('#seats .card')].map((it) => it.ariaLabel)"), wanted, f"{words}")
@@ -329,10 +347,11 @@ def differences(screen, url, folder):
     page = (folder / "twelve.html").read_text(encoding="utf-8")
     (folder / "wrong.html").write_text(page.replace("1150|-150|-1000", "1150|-1000|-150"), encoding="utf-8")
     screen.open((folder / "wrong.html").as_uri() + "#0")
-    said = "✕ 1 difference between the log and the rules hand 3: the log pays 1150 | -1000 | -150, by the rules it is 1150 | -150 | -1000"
-    same(screen.texts("#alarm"), [said], "the alarm")
-    top, colour = screen.value("(() => { const it = document.getElementById('alarm'); return [it.getBoundingClientRect().top, getComputedStyle(it).backgroundColor] })()")
-    same((top, colour), (0, "rgb(179, 20, 10)"), "place and colour of the alarm")
+    head, said = "✕ 1 difference between the log and the rules", "the log pays 1150 | -1000 | -150, by the rules it is 1150 | -150 | -1000"
+    same(screen.texts("#alarm"), [f"{head} hand 3: {said}"], "the alarm")
+    alarm = "document.getElementById('alarm')"
+    same(screen.value(f"{alarm}.getBoundingClientRect().top"), 0, "the alarm's place")
+    same(screen.value(f"getComputedStyle({alarm}).backgroundColor"), "rgb(179, 20, 10)", "the alarm's colour")
     screen.value("document.querySelector('#alarm a').click()")
     screen.comes("document.getElementById('hand-title').innerText === 'Hand 3'")
 
@@ -342,8 +361,8 @@ def policy(screen, url):
     screen.open(url)
     asked = [event["params"]["request"]["url"] for event in screen.browser.events if event["method"] == "Network.requestWillBeSent"]
     want(all(address.startswith(("about:", url)) for address in asked), f"asked for {asked}")
-    screen.value("(() => { const it = document.createElement('script'); it.textContent = 'window.broken = 1'; document.body.append(it) })()")
-    screen.value("(() => { const it = document.createElement('style'); it.textContent = 'body { margin: 99px }'; document.body.append(it) })()")
+    for tag, text in (("script", "window.broken = 1"), ("style", "body { margin: 99px }")):
+        screen.value(f"document.body.append(Object.assign(document.createElement('{tag}'), {{ textContent: '{text}' }}))")
     same(screen.value("[window.broken === undefined, getComputedStyle(document.body).margin]"), [True, "0px"], "a strange script and style")
     same(screen.value("fetch('data:,x').then(() => 'loaded', () => 'refused')"), "refused", "a request")
 
@@ -351,7 +370,8 @@ def policy(screen, url):
 def keyboard(screen, url):
     """The tabulator goes to each control that can be seen; Enter and the space bar work them."""
     screen.open(url + "#2")
-    wanted = screen.value("""[...document.querySelectorAll('a, button, input, select, [tabindex]')].filter((it) => it.offsetParent && !it.disabled).length""")
+    controls = "[...document.querySelectorAll('a, button, input, select, [tabindex]')]"
+    wanted = screen.value(f"{controls}.filter((it) => it.offsetParent && !it.disabled).length")
     reached = set()
     for _ in range(wanted):
         screen.key("Tab")
@@ -366,19 +386,25 @@ def keyboard(screen, url):
 
 
 def widths(screen, url):
-    """From 360 to 1,920 pixels nothing is wider than the page, no seat lies on another, and each text can be read in both themes."""
-    for width in (360, 760, 761, 1180, 1181, 1440, 1920):
-        for theme in THEMES:
-            screen.open(url + "#0", width, theme)
-            screen.click("button", "To the end")
-            screen.click("checkbox", "By position")
+    """From 360 to 1,920 pixels nothing is wider than the page, and no seat lies on another; each text can be read in both themes."""
+    for theme in THEMES:
+        screen.open(url + "#0", WIDTHS[0], theme)
+        screen.click("button", "To the end")
+        screen.click("checkbox", "By position")
+        for width in (360, 760, 761, 1180, 1181, 1440, 1920):
+            screen.size(width)
+            screen.comes(f"innerWidth === {width}")
             same(screen.value("document.documentElement.scrollWidth"), width, f"the page's width at {width}")
-            boxes = screen.value("[...document.querySelectorAll('.box, #board')].map((it) => it.getBoundingClientRect().toJSON())")
-            apart = lambda one, two: one["right"] <= two["left"] or two["right"] <= one["left"] or one["bottom"] <= two["top"] or two["bottom"] <= one["top"]
-            over = [(one, two) for at, one in enumerate(boxes) for two in boxes[:at] if not apart(one, two)]
+            over = overlaps(screen.value("[...document.querySelectorAll('.box, #board')].map((it) => it.getBoundingClientRect().toJSON())"))
             want(not over, f"at {width} {len(over)} seats lie on others: {over[:1]}")
-            low = [it for it in screen.value(CONTRASTS) if it[0] < CONTRAST]
-            want(not low, f"at {width}, {theme}: {len(low)} texts, say {low[:5]}")
+        low = [it for it in screen.value(CONTRASTS) if it[0] < CONTRAST]
+        want(not low, f"{theme}: {len(low)} texts have too little contrast, say {low[:5]}")
+
+
+def overlaps(boxes):
+    """The pairs of boxes that have a place in common."""
+    lies = lambda one, two: one["left"] < two["right"] and two["left"] < one["right"] and one["top"] < two["bottom"] and two["top"] < one["bottom"]
+    return [(one, two) for at, one in enumerate(boxes) for two in boxes[:at] if lies(one, two)]
 
 
 def largest_match(folder):
@@ -389,7 +415,8 @@ def largest_match(folder):
     game = game.replace(stacks, "stack = " + " ".join(10 * ["2147483647"]))
     deals = [line for line in script.splitlines() if line.startswith("deal")]
     names = "|".join(chr(97 + seat) * LONGEST for seat in range(10))
-    played = [f"names {names}", deals[0], "r2147483647", *9 * ["c"], *(line for deal in deals[1:] for line in [deal, *9 * ["f"]])]
+    folds = [line for deal in deals[1:] for line in [deal, *9 * ["f"]]]
+    played = [f"names {names}", deals[0], "r2147483647", *9 * ["c"], *folds]
     match = dealer.Match(dealer.Game(game.encode()), 30, "largest.game")
     log = [text[2:] for line in played for text in match.answer(line) if text.startswith("L ")]
     (folder / "largest.game").write_text(game)
@@ -420,7 +447,8 @@ def shots(folder, out):
     game, log = largest_match(folder)
     with Browser(program()) as browser:
         screen = Screen(browser, folder)
-        urls = {"twelve": screen.make("twelve.html", GAME, written(folder, "twelve.log", LOG)) + "#9", "largest": screen.make("largest.html", game, log, "--all") + "#3"}
+        twelve = screen.make("twelve.html", GAME, written(folder, "twelve.log", LOG))
+        urls = {"twelve": f"{twelve}#9", "largest": screen.make("largest.html", game, log, "--all") + "#3"}
         for name, width, theme in [(name, width, theme) for name in urls for width in WIDTHS for theme in THEMES]:
             screen.open(urls[name], width, theme)
             for _ in range(4):

@@ -6,7 +6,7 @@ const vm = require("vm");
 const readline = require("readline");
 
 const script = process.argv.slice(2).map((path) => fs.readFileSync(path, "utf8")).join("\n");
-const page = vm.runInThisContext(`(() => { "use strict"; ${script}; return { readGame, readMatch, figuresOf, coursesOf, stepsOf, bestOf, compareValues }; })()`);
+const page = vm.runInThisContext(`(() => { "use strict"; ${script}; return { readGame, readMatch, figuresOf, coursesOf, stepsOf }; })()`);
 
 function figure({ total }) {
   const { voluntary, turns, raised, aggressive, actions, showdowns, flops, won, chips, hands, worst } = total;

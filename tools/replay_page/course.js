@@ -40,7 +40,7 @@ function drawCourse(courses, deviation, marked) {
   const chart = byId("chart");
   const [width, height] = [chart.clientWidth || 600, chart.clientHeight || 300];
   const hands = [...courses.values()][0].length - 1;
-  const most = [...courses.values()].map((course) => [Math.min(...extremes(course)), Math.max(...extremes(course))]).flat();
+  const most = [...courses.values()].flatMap(extremes);
   const reach = deviation === null ? 0 : bandAt(deviation, hands);
   const [low, high] = [Math.min(-reach, ...most), Math.max(reach, 1, ...most)];
   const left = 16 + LETTER * Math.max(...marksOf(low, high).map((mark) => chipsText(mark).length));
@@ -48,9 +48,9 @@ function drawCourse(courses, deviation, marked) {
   const up = (chips) => height - MARGIN.bottom - ((height - MARGIN.top - MARGIN.bottom) * (chips - low)) / (high - low);
   const scale = { across, up, low, high, hands, width, height, left };
   chart.setAttribute("viewBox", `0 0 ${width} ${height}`);
-  refill(chart, deviation === null ? null : bandShape(scale, deviation), axes(scale),
-    [...courses.values()].map((course, place) => courseShape(scale, course, place)),
-    marked > 0 ? shape("line", { class: "marker", x1: across(marked), x2: across(marked), y1: MARGIN.top, y2: height - MARGIN.bottom }) : null);
+  const band = deviation === null ? null : bandShape(scale, deviation);
+  const lines = [...courses.values()].map((course, place) => courseShape(scale, course, place));
+  refill(chart, band, axes(scale), lines, marked > 0 ? markerShape(scale, marked) : null);
   return (x) => Math.round(((x - left) * hands) / Math.max(1, width - left - MARGIN.right));
 }
 
@@ -61,6 +61,7 @@ function marksOf(low, high) {
   return Array.from({ length: Math.floor(high / step) - first + 1 }, (_, place) => (first + place) * step);
 }
 
+/** Returns the least and the greatest amount of a course, which begins with 0. */
 function extremes(course) {
   let [low, high] = [0, 0];
   for (const chips of course) {
@@ -77,14 +78,24 @@ function bandShape({ across, up, hands }, deviation) {
   return shape("polygon", { class: "band", points: [...upper, ...lower].join(" ") });
 }
 
+function markerShape({ across, height }, hand) {
+  const x = across(hand);
+  return shape("line", { class: "marker", x1: x, x2: x, y1: MARGIN.top, y2: height - MARGIN.bottom });
+}
+
+/** Returns how the line of a player at a place of the legend looks. */
+function lineStyle(place) {
+  return { class: `line line-${place % STYLES}`, "stroke-dasharray": DASHES[place % DASHES.length] || null };
+}
+
 function courseShape({ across, up }, course, place) {
   const points = drawnPlaces(course).map((hand) => `${across(hand).toFixed(1)},${up(course[hand]).toFixed(1)}`);
-  return shape("polyline", { class: `line line-${place % STYLES}`, points: points.join(" "), "stroke-dasharray": DASHES[place % DASHES.length] || null });
+  return shape("polyline", { ...lineStyle(place), points: points.join(" ") });
 }
 
 function axes({ across, up, low, high, hands, width, height, left }) {
   const parts = marksOf(low, high).flatMap((mark) => [
-    shape("line", { class: mark === 0 ? "grid is-zero" : "grid", x1: left, x2: width - MARGIN.right, y1: up(mark), y2: up(mark) }),
+    shape("line", { class: `grid ${mark === 0 ? "is-zero" : ""}`, x1: left, x2: width - MARGIN.right, y1: up(mark), y2: up(mark) }),
     shape("text", { x: left - 8, y: up(mark) + 4, "text-anchor": "end" }, chipsText(mark)),
   ]);
   const count = roundStep(Math.max(1, hands) * (width < 480 ? 2 : 1));
@@ -97,9 +108,11 @@ function axes({ across, up, low, high, hands, width, height, left }) {
 /** Draws the legend: a button for each player, with his line and his chips; the one whose band is shown is pressed. */
 function drawLegend(courses, chosen, choose) {
   const items = [...courses].map(([name, course], place) => {
-    const line = shape("svg", { viewBox: "0 0 28 8", "aria-hidden": "true" },
-      shape("line", { class: `line line-${place % STYLES}`, x1: 0, x2: 28, y1: 4, y2: 4, "stroke-dasharray": DASHES[place % DASHES.length] || null }));
-    const button = element("button", { type: "button", "aria-pressed": String(name === chosen) }, line, element("span", { class: "who" }, name), valueElement(course[course.length - 1]));
+    const line = shape("line", { ...lineStyle(place), x1: 0, x2: 28, y1: 4, y2: 4 });
+    const button = element("button", { type: "button", "aria-pressed": String(name === chosen) },
+      shape("svg", { viewBox: "0 0 28 8", "aria-hidden": "true" }, line),
+      element("span", { class: "who" }, name),
+      valueElement(course[course.length - 1]));
     button.addEventListener("click", () => choose(name));
     return button;
   });

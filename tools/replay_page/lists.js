@@ -6,29 +6,39 @@ const COLUMNS = [
   { id: "hands", title: "Hands", meaning: "Hands played." },
   {
     id: "vpip", title: "VPIP", part: "voluntary", whole: "turns", name: "Voluntarily put in pot",
-    meaning: "How often he put chips in before the flop that no blind made him: he called more than he had in, or raised. Of hands in which he had a turn before the flop.",
+    meaning: "How often he put chips in before the flop that no blind made him: he called more than he had in, or raised. "
+      + "Of hands in which he had a turn before the flop.",
   },
-  { id: "pfr", title: "PFR", part: "raised", whole: "turns", name: "Preflop raise", meaning: "How often he raised before the flop. Of the same hands as VPIP." },
-  { id: "aggression", title: "Aggression", part: "aggressive", whole: "actions", meaning: "Bets and raises, of all his actions after the flop except checks." },
+  {
+    id: "pfr", title: "PFR", part: "raised", whole: "turns", name: "Preflop raise",
+    meaning: "How often he raised before the flop. Of the same hands as VPIP.",
+  },
+  {
+    id: "aggression", title: "Aggression", part: "aggressive", whole: "actions",
+    meaning: "Bets and raises, of all his actions after the flop except checks.",
+  },
   {
     id: "went", title: "Went to showdown", part: "showdowns", whole: "flops",
-    meaning: "How often he and another hadn't folded at the end. Of hands in which he hadn't folded when the flop came, also when all were all-in before.",
+    meaning: "How often he and another hadn't folded at the end. "
+      + "Of hands in which he hadn't folded when the flop came, also when all were all-in before.",
   },
   {
     id: "won", title: "Won at showdown", part: "won", whole: "showdowns",
-    meaning: "How often he got chips of a pot at a showdown. Chips of his own that nobody called and that came back to him don't count.",
+    meaning: "How often he got chips of a pot at those showdowns. His own chips that nobody called, and that came back, don't count.",
   },
   { id: "chips", title: "Chips", meaning: "Chips won or lost in all." },
   {
     id: "rate", title: "mbb/hand", name: "Thousandths of the greatest blind a hand",
-    meaning: "1000 × chips / greatest blind, a hand; ± 1.96 s / √hands, where s is the standard deviation of his chips in a hand. In 95 of 100 such matches the true rate is inside.",
+    meaning: "1000 × chips / greatest blind, on average over his hands. ± 1.96 s / √hands: s is the standard deviation over his hands. "
+      + "In 95 of 100 such matches the true rate is within.",
   },
   { id: "worst", title: "Lost most", meaning: "The hand in which he lost most." },
 ];
 
 /** Draws one page of the list of hands. `address` gives a hand's address. */
 function drawList(list, page, player, isMany, address, current) {
-  const heads = [["Hand"], player ? [player, "number"] : ["Winner"], player ? ["Cards"] : null, ["Pot", "number"], ["Ended"]].filter(Boolean);
+  const heads = player ? [["Hand"], [player, "number"], ["Cards"]] : [["Hand"], ["Winner"]];
+  heads.push(["Pot", "number"], ["Ended"]);
   refill(byId("list-head"), heads.map(([text, kind]) => element("th", { scope: "col", class: kind || null }, text)));
   const shown = list.slice(page * HANDS_ON_PAGE, (page + 1) * HANDS_ON_PAGE);
   refill(byId("list-body"), shown.map((hand) => listRow(hand, player, isMany, address(hand), hand === current)));
@@ -42,15 +52,17 @@ function drawList(list, page, player, isMany, address, current) {
 function listRow(hand, player, isMany, address, isCurrent) {
   const position = player ? hand.names.indexOf(player) : hand.payoffs.indexOf(Math.max(...hand.payoffs));
   const chips = valueElement(hand.payoffs[position]);
+  const winner = element("span", { class: "winner" }, hand.names[position]);
+  const link = { href: address, "aria-current": isCurrent ? "true" : null };
   const hole = hand.holes[position];
-  const cells = [
-    element("th", { scope: "row" }, element("a", { href: address, "aria-current": isCurrent ? "true" : null }, isMany ? `${hand.match + 1}/${hand.number}` : String(hand.number))),
-    element("td", { class: player ? "number" : null }, player ? chips : [element("span", { class: "winner" }, hand.names[position]), " ", chips]),
-    player ? element("td", {}, hole ? cardsElement(hole) : element("span", { class: "quiet" }, "hidden")) : null,
+  const cards = hole ? cardsElement(hole) : element("span", { class: "quiet" }, "hidden");
+  const tag = hand.allIn.some(Boolean) ? [" ", element("span", { class: "tag" }, "all-in")] : null;
+  return element("tr", { class: isCurrent ? "is-current" : null },
+    element("th", { scope: "row" }, element("a", link, isMany ? `${hand.match + 1}/${hand.number}` : String(hand.number))),
+    player ? element("td", { class: "number" }, chips) : element("td", {}, winner, " ", chips),
+    player ? element("td", {}, cards) : null,
     element("td", { class: "number" }, chipsText(hand.pot)),
-    element("td", {}, endText(hand), hand.allIn.some(Boolean) ? [" ", element("span", { class: "tag" }, "all-in")] : null),
-  ];
-  return element("tr", { class: isCurrent ? "is-current" : null }, cells);
+    element("td", {}, endText(hand), tag));
 }
 
 /** Says how many hands the list has. */
@@ -61,13 +73,17 @@ function countText(list, all) {
 
 /** Draws each player's figures, with a row for each position below where that is asked for. */
 function drawFigures(game, figures, isByPosition, handLink) {
-  refill(byId("figures-head"), element("th", { scope: "col" }, "Player"), COLUMNS.map(({ title, name }) => element("th", { scope: "col", title: name }, title)));
+  const heads = COLUMNS.map(({ title, name = null }) => element("th", { scope: "col", title: name }, title));
+  refill(byId("figures-head"), element("th", { scope: "col" }, "Player"), heads);
   const rows = [...figures].flatMap(([name, { total, positions }]) => [
     figuresRow(game, element("th", { scope: "row" }, name), total, handLink),
-    ...(isByPosition ? positions.map((some, position) => figuresRow(game, positionHead(game, position), some, handLink, "by-position")) : []),
+    isByPosition ? positions.map((some, position) => figuresRow(game, positionHead(game, position), some, handLink, "by-position")) : [],
   ]);
   refill(byId("figures-body"), rows);
-  refill(byId("meanings"), COLUMNS.map(({ title, name, meaning }) => [element("dt", {}, title, name ? element("span", {}, ` ${name}`) : null), element("dd", {}, meaning)]));
+  refill(byId("meanings"), COLUMNS.map(({ title, name, meaning }) => [
+    element("dt", {}, title, name ? element("span", {}, ` ${name}`) : null),
+    element("dd", {}, meaning),
+  ]));
 }
 
 function positionHead(game, position) {
@@ -75,18 +91,18 @@ function positionHead(game, position) {
 }
 
 function figuresRow(game, head, figures, handLink, kind = null) {
-  const cells = COLUMNS.map((column) => element("td", { "data-title": column.title, "data-figure": column.id }, figureCell(game, column, figures, handLink)));
+  const cells = COLUMNS.map((column) => element("td", { "data-title": column.title }, figureCell(game, column, figures, handLink)));
   return element("tr", { class: kind }, head, cells);
 }
 
+/** Returns what a cell shows: a figure, and in small letters what it is of, how far it may be off, or where it was. */
 function figureCell(game, { id, part, whole }, figures, handLink) {
-  if (part) {
-    return [percentText(figures[part], figures[whole]), element("small", {}, `${chipsText(figures[part])} of ${chipsText(figures[whole])}`)];
-  }
+  const small = (...parts) => element("small", {}, parts);
+  if (part) return [percentText(figures[part], figures[whole]), small(`${chipsText(figures[part])} of ${chipsText(figures[whole])}`)];
   if (id === "hands") return chipsText(figures.hands);
   if (figures.hands === 0) return "–";
   if (id === "chips") return valueElement(figures.chips);
-  if (id === "worst") return figures.worst.value < 0 ? [valueElement(figures.worst.value), element("small", {}, handLink(figures.worst.hand))] : "–";
+  if (id === "worst") return figures.worst.value < 0 ? [valueElement(figures.worst.value), small(handLink(figures.worst.hand))] : "–";
   const { rate, half } = figures.rate(Math.max(...game.blinds));
-  return [valueElement(Math.round(rate)), half === null ? null : element("small", {}, `± ${chipsText(Math.round(half))}`)];
+  return [valueElement(Math.round(rate)), half === null ? null : small(`± ${chipsText(Math.round(half))}`)];
 }

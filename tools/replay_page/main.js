@@ -10,7 +10,11 @@ const game = readGame(data.game.text);
 const matches = data.matches.map(({ lines }, index) => readMatch(game, lines, index));
 const isMany = matches.length > 1;
 
-const view = { match: null, scope: isMany ? -1 : 0, hand: null, steps: [], at: 0, list: [], page: 0, band: null, timer: null, handAt: null };
+// What is chosen (a scope of -1 is all matches), what follows from it, and the timer of a hand that plays.
+const view = {
+  scope: isMany ? -1 : 0, match: null, hand: null, steps: [], at: 0, list: [], page: 0, band: null,
+  courses: null, figures: null, handAt: null, timer: null,
+};
 
 /** Returns the hands of the match that is chosen, or of all. */
 function scopeHands() {
@@ -180,15 +184,17 @@ function drawChart() {
   byId("scrub").max = String(hands.length - 1);
   byId("scrub").value = String(Math.max(0, marked - 1));
   byId("scrub").setAttribute("aria-valuetext", view.hand ? handName(view.hand) : "");
-  const values = [...view.courses].map(([name, course]) => [`${name} `, valueElement(course[marked])]);
-  refill(byId("reading"), marked > 0 ? [`After ${handName(view.hand).toLowerCase()}: `, values.map((parts, at) => [at > 0 ? ", " : "", parts])] : []);
+  const values = [...view.courses].map(([name, course], place) => [`${place > 0 ? ", " : ""}${name} `, valueElement(course[marked])]);
+  refill(byId("reading"), marked > 0 ? [`After ${handName(view.hand).toLowerCase()}: `, values] : []);
   byId("band").textContent = bandText(figures);
 }
 
 function bandText(figures) {
   if (!figures || figures.total.deviation() === null) return "";
   const reach = chipsText(Math.round(bandAt(figures.total.deviation(), figures.total.hands)));
-  return `The band is ±1.96 s √k about 0 after k hands, where s is the standard deviation of ${view.band}'s chips in a hand: where two equal players would be in 95 of 100 such matches, looked at one hand alone. After the last hand it is ±${reach}.`;
+  return `The band is ±1.96 s √k about 0 after k hands, where s is the standard deviation of ${view.band}'s chips in a hand: `
+    + "where two equal players would be in 95 of 100 such matches, looked at one hand alone. "
+    + `After the last hand it is ±${reach}.`;
 }
 
 function chooseBand(name) {
@@ -203,12 +209,13 @@ function chooseBand(name) {
 function chooseScope(scope) {
   view.scope = scope;
   byId("match").value = String(scope);
+  const player = view.courses ? byId("player").value : data.seat;
   const hands = scopeHands();
   view.courses = coursesOf(hands);
   view.figures = figuresOf(hands, game.players);
   const names = [...view.courses.keys()];
-  const player = byId("player").value;
-  refill(byId("player"), element("option", { value: "" }, "everybody"), names.map((name) => element("option", { value: name }, name)));
+  const options = names.map((name) => element("option", { value: name }, name));
+  refill(byId("player"), element("option", { value: "" }, "everybody"), options);
   byId("player").value = names.includes(player) ? player : "";
   view.band = names.includes(data.seat) ? data.seat : names[0];
   drawLegend(view.courses, view.band, chooseBand);
@@ -225,13 +232,23 @@ function showAbout() {
   const hands = matches.reduce((sum, match) => sum + match.hands.length, 0);
   const [first] = matches;
   const name = isMany ? `${matches.length} matches` : first.name;
-  const going = matches.filter((match) => !match.isOver);
-  const kind = `${game.isLimit ? "limit" : "no-limit"} hold'em for ${game.players}, blinds ${game.blinds.filter((blind) => blind > 0).map(chipsText).join(" and ")}`;
-  const seen = data.isAll ? "all cards are shown" : data.seat ? `cards are shown as ${data.seat} saw them` : "cards are shown that everybody saw";
-  const isGoing = going.length > 0 && (isMany ? `${going.length} of the matches aren't over` : `the match isn't over: ${chipsText(hands)} of ${chipsText(first.count)} hands`);
+  const blinds = game.blinds.filter((blind) => blind > 0).map(chipsText).join(" and ");
   document.title = `${name} · replay`;
   byId("title").textContent = name;
-  byId("about").textContent = [`${chipsText(hands)} ${hands === 1 ? "hand" : "hands"} of ${isMany ? data.game.file : first.gameName}`, kind, seen, isGoing].filter(Boolean).join(" · ");
+  byId("about").textContent = [
+    `${chipsText(hands)} ${hands === 1 ? "hand" : "hands"} of ${isMany ? data.game.file : first.gameName}`,
+    `${game.isLimit ? "limit" : "no-limit"} hold'em for ${game.players}, blinds ${blinds}`,
+    data.isAll ? "all cards are shown" : data.seat ? `cards are shown as ${data.seat} saw them` : "cards are shown that everybody saw",
+    goingText(matches.filter((match) => !match.isOver)),
+  ].filter(Boolean).join(" · ");
+}
+
+/** Says how many matches aren't over, and how far one alone is; nothing where all are. */
+function goingText(going) {
+  if (going.length === 0) return "";
+  const [{ hands, count }] = going;
+  const far = `the match isn't over: ${chipsText(hands.length)} of ${chipsText(count)} hands`;
+  return isMany ? `${going.length} of the matches aren't over` : far;
 }
 
 /** Shows in red where payoffs or scores differ from the logs. */
@@ -239,7 +256,9 @@ function showDifferences() {
   const all = matches.flatMap((match) => match.differences.map(({ hand, text }) => ({ match, hand, text })));
   byId("alarm").hidden = all.length === 0;
   if (all.length === 0) return;
-  const items = all.slice(0, DIFFERENCES).map(({ match, hand, text }) => element("li", {}, hand ? handLink(hand) : `Score of ${match.name}`, `: ${text}`));
+  const items = all.slice(0, DIFFERENCES).map(({ match, hand, text }) => (
+    element("li", {}, hand ? handLink(hand) : `score of ${match.name}`, `: ${text}`)
+  ));
   if (all.length > DIFFERENCES) items.push(element("li", {}, `and ${chipsText(all.length - DIFFERENCES)} more`));
   const head = `✕ ${chipsText(all.length)} ${all.length === 1 ? "difference" : "differences"} between the log and the rules`;
   refill(byId("alarm"), element("strong", {}, head), element("ul", {}, items));
@@ -247,7 +266,8 @@ function showDifferences() {
 
 function showMatches() {
   byId("matches").hidden = !isMany;
-  const options = matches.map((match, index) => element("option", { value: index }, `${index + 1}: ${match.name} (${data.matches[index].log}, ${chipsText(match.hands.length)} hands)`));
+  const text = ({ index, name, hands }) => `${index + 1}: ${name} (${data.matches[index].log}, ${chipsText(hands.length)} hands)`;
+  const options = matches.map((match) => element("option", { value: match.index }, text(match)));
   refill(byId("match"), element("option", { value: -1 }, `all ${matches.length}`), options);
 }
 

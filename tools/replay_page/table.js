@@ -34,8 +34,7 @@ function place(seat, what, { across, down }, angle) {
 /** Draws what is to be seen at a step of a hand. */
 function drawStep(game, match, hand, steps, at) {
   const step = steps[at];
-  const { outcome } = step;
-  const best = new Set(outcome && outcome.isShowdown ? step.pots.flatMap(({ winners }) => winners.flatMap((position) => outcome.values[position].cards)) : []);
+  const best = bestCards(step);
   match.names.forEach((name, seat) => drawSeat(game, byId("seats").children[seat], hand, steps, at, hand.names.indexOf(name), best));
   const board = hand.board.slice(0, step.shown);
   const empty = Array.from({ length: 5 - board.length }, () => element("span", { class: "card is-empty" }));
@@ -43,6 +42,12 @@ function drawStep(game, match, hand, steps, at) {
   byId("board").setAttribute("aria-label", board.length > 0 ? `Board: ${board.map(cardName).join(", ")}` : "No board yet");
   refill(byId("pots"), step.pots.map((pot, place) => potElement(hand, pot, place, step.pots.length)));
   refill(byId("told"), stepText(game, hand, steps, at));
+}
+
+/** Returns the cards of the hands that win a pot, at a showdown's end; none at any other step. */
+function bestCards({ outcome, pots }) {
+  const winners = outcome && outcome.isShowdown ? pots.flatMap((pot) => pot.winners) : [];
+  return new Set(winners.flatMap((position) => outcome.values[position].cards));
 }
 
 function markOf(card, best) {
@@ -101,8 +106,8 @@ function stepText(game, hand, steps, at) {
   if (kind === "act") return `${hand.names[action.position]} ${actionText(action)}.${next}`;
   if (kind === "round") return `${ROUND_NAMES[round]}: ${cardsText(roundCards(hand, round))}.${next}`;
   if (kind === "end") return `The hand is over: ${gainsText(hand, outcome)}.`;
-  const blinds = hand.names.filter((_, position) => game.blinds[position] > 0).map((name) => `${name} posts ${chipsText(game.blinds[hand.names.indexOf(name)])}`);
-  return `Cards are dealt; ${listed(blinds)}.${next}`;
+  const posts = hand.names.map((name, position) => (game.blinds[position] > 0 ? `${name} posts ${chipsText(game.blinds[position])}` : ""));
+  return `Cards are dealt; ${listed(posts.filter(Boolean))}.${next}`;
 }
 
 function roundCards(hand, round) {
@@ -122,14 +127,20 @@ function drawStory(hand, steps, open) {
     return made;
   };
   const parts = rounds.map(({ step, at, acts }) => {
-    const title = element("h3", {}, button(at, ROUND_NAMES[step.round]), step.round > 0 ? cardsElement(roundCards(hand, step.round)) : null,
-      step.round > 0 ? element("span", { class: "quiet" }, `pot ${chipsText(step.pots.reduce((sum, { chips }) => sum + chips, 0))}`) : null);
+    const title = element("h3", {}, button(at, ROUND_NAMES[step.round]), step.round > 0 ? roundElements(hand, step) : null);
     const items = acts.map((act) => element("li", {}, button(act, actElement(hand, steps[act].action))));
     return element("section", {}, title, element("ol", { class: "acts" }, items));
   });
-  const texts = outcomeTexts(hand, steps[steps.length - 1].outcome).map((text) => element("li", {}, text));
-  const end = element("section", { class: "outcome" }, element("h3", {}, button(steps.length - 1, hand.isShowdown ? "Showdown" : "End")), element("ul", {}, texts));
-  refill(byId("story"), parts, end);
+  const last = steps.length - 1;
+  const texts = outcomeTexts(hand, steps[last].outcome).map((text) => element("li", {}, text));
+  const title = element("h3", {}, button(last, hand.isShowdown ? "Showdown" : "End"));
+  refill(byId("story"), parts, element("section", { class: "outcome" }, title, element("ul", {}, texts)));
+}
+
+/** Makes the cards of a round, and what is in the pots when it begins. */
+function roundElements(hand, step) {
+  const chips = step.pots.reduce((sum, pot) => sum + pot.chips, 0);
+  return [cardsElement(roundCards(hand, step.round)), element("span", { class: "quiet" }, `pot ${chipsText(chips)}`)];
 }
 
 function actElement(hand, action) {

@@ -63,7 +63,13 @@ function valueText({ category, ranks }) {
 
 /** Returns what a player does, without his name. */
 function actionText({ kind, to, added, isAllIn }) {
-  const words = { fold: "folds", check: "checks", call: `calls ${chipsText(added)}`, bet: `bets ${chipsText(added)}`, raise: `raises to ${chipsText(to)}` };
+  const words = {
+    fold: "folds",
+    check: "checks",
+    call: `calls ${chipsText(added)}`,
+    bet: `bets ${chipsText(added)}`,
+    raise: `raises to ${chipsText(to)}`,
+  };
   return words[kind] + (isAllIn ? ", all-in" : "");
 }
 
@@ -86,12 +92,14 @@ function listed(names) {
 
 /** Returns the sentence of a pot: who wins it, by what, and how it is shared. */
 function potText(hand, pot, place, count, values) {
-  const winners = pot.winners.map((position) => hand.names[position]);
-  const [verb, split] = winners.length > 1 ? ["share it", ` (${pot.shares.map(chipsText).join(" and ")})`] : ["wins it", ""];
-  const value = pot.eligible.length > 1 ? values[pot.winners[0]] : null;
-  const among = count > 1 && place > 0 && pot.eligible.length > 1 ? ` between ${listed(pot.eligible.map((position) => hand.names[position]))}` : "";
-  const how = value ? ` with ${valueText(value)}` : hand.isShowdown ? ": nobody else is in it" : ": everybody else folded";
-  return `${potName(place, count)} ${chipsText(pot.chips)}${among}: ${listed(winners)} ${verb}${split}${how}.`;
+  const names = (positions) => listed(positions.map((position) => hand.names[position]));
+  const isShared = pot.winners.length > 1;
+  const isContested = pot.eligible.length > 1;
+  const among = place > 0 && isContested ? ` between ${names(pot.eligible)}` : "";
+  const won = isShared ? `share it (${pot.shares.map(chipsText).join(" and ")})` : "wins it";
+  const alone = hand.isShowdown ? ": nobody else is in it" : ": everybody else folded";
+  const how = isContested ? ` with ${valueText(values[pot.winners[0]])}` : alone;
+  return `${potName(place, count)} ${chipsText(pot.chips)}${among}: ${names(pot.winners)} ${won}${how}.`;
 }
 
 /** Returns the sentences of a hand's end: uncalled chips, the hands shown, each pot. */
