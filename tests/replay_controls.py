@@ -1,5 +1,6 @@
 """The controls of a page of tools/replay in a Chromium: each by the name that it has for a reader, and what it changes."""
 import base64
+import statistics
 import time
 
 from replay_browser import Browser, Refused, program
@@ -263,11 +264,12 @@ def list_pages(screen, url):
 
 def course(screen, url):
     screen.open(url + "#3")
-    sums = {name: sum(chips[:4]) for name, chips in CHIPS.items()}
-    same(screen.text("reading"), "After hand 3: alice +900, bob −1,150, carol +250", f"the chips after hand 3, {sums}")
-    screen.on("slider", "Hand on the course", f"this.value = 9; {told('input')}")
+    same(screen.text("reading"), "After hand 3: alice +900, bob −1,150, carol +250", "the chips after hand 3")
+    screen.on("slider", "Hand on the course", f"this.value = 8; {told('input')}; this.value = 9; {told('input')}")
+    same((screen.hand(), screen.value("location.hash")), ("Hand 9", "#3"), "a slider that is held")
+    screen.on("slider", "Hand on the course", told("change"))
     screen.comes("location.hash === '#9'")
-    same(screen.text("reading"), "After hand 9: alice +175, bob −825, carol +650", "the chips after hand 9")
+    same(screen.text("reading"), "After hand 9: alice +375, bob −825, carol +450", "the chips after hand 9")
     same(screen.texts("#legend [aria-pressed=true] .who"), ["alice"], "whose band is shown")
     screen.click("button", "bob −725")
     same(screen.texts("#legend [aria-pressed=true] .who"), ["bob"], "whose band is shown")
@@ -291,15 +293,16 @@ def figures(screen, url):
         titles = {"VPIP": "vpip", "PFR": "pfr", "Aggression": "aggression", "Went to showdown": "went", "Won at showdown": "won"}
         same({title: got[title] for title in titles}, {title: part(figure) for title, figure in titles.items()}, name)
         same(got["Lost most"], f"−1,000 hand {wanted['worst'][1]}", f"{name}: lost most")
-    # Chips, and 1000 x 75 / 100 / 12 with the deviation that the standard library finds: see replay_match.py.
-    same((row(1)["Chips"], row(1)["mbb/hand"]), ("+75", "+63 ± 2,685"), "alice")
+    half = 1.96 * 10 * statistics.stdev(CHIPS["alice"]) / 12**0.5
+    # 1000 x 275 / 100 / 12 thousandths of the greatest blind a hand.
+    same((row(1)["Chips"], row(1)["mbb/hand"]), ("+275", f"+229 ± {half:,.0f}"), "alice")
     titles = screen.texts("#figures-head th")[1:]
     meanings = screen.value("[...document.querySelectorAll('#meanings dt')].map((it) => it.firstChild.data)")
     same((len(titles), meanings), (9, titles), "the figures that are explained")
     screen.click("checkbox", "By position")
-    heads = ["alice", "blind 50", "blind 100", "no blind, button"]
+    heads = ["alice", "position 0: blind 50", "position 1: blind 100", "position 2: no blind, button"]
     same(screen.texts("#figures-body tr > th")[:4], heads, "By position")
-    same([row(at)["Chips"] for at in (2, 3, 4)], ["+400", "−75", "−250"], "alice's chips by position")
+    same([row(at)["Chips"] for at in (2, 3, 4)], ["+600", "−75", "−250"], "alice's chips by position")
     screen.click("checkbox", "By position")
     same(len(screen.texts("#figures-body tr")), 3, "without By position")
     screen.click("link", "hand 2")

@@ -98,7 +98,7 @@ def refused(folder):
         # words, status, what is said
         ([GAME, unpaid], 1, f"{unpaid}: line 5 is refused, 48 WrongValues: STATE:3:r1000cc"),
         ([GAME, log, unpaid], 1, f"{unpaid}: line 5 is refused, 48 WrongValues: STATE:3:"),
-        ([GAME, folder / "cut.log"], 1, "line 14 is refused, 49 WrongScore: SCORE:75"),
+        ([GAME, folder / "cut.log"], 1, "line 14 is refused, 49 WrongScore: SCORE:275"),
         ([GAME, lines("long.log", [*LOG, "more"])], 1, "line 15 is refused, 49 WrongScore: more"),
         ([GAME, lines("gap.log", [*LOG[:5], *LOG[6:]])], 1, "line 6 is refused, 47 WrongNumber: STATE:5"),
         ([GAME, lines("empty.log", [])], 1, "no hand is in the logs"),

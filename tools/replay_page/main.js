@@ -238,7 +238,7 @@ function showAbout() {
   byId("about").textContent = [
     `${chipsText(hands)} ${hands === 1 ? "hand" : "hands"} of ${isMany ? data.game.file : first.gameName}`,
     `${game.isLimit ? "limit" : "no-limit"} hold'em for ${game.players}, blinds ${blinds}`,
-    data.isAll ? "all cards are shown" : data.seat ? `cards are shown as ${data.seat} saw them` : "cards are shown that everybody saw",
+    `hole cards: ${data.isAll ? "all" : `those shown to ${data.seat || "everybody"}`}`,
     goingText(matches.filter((match) => !match.isOver)),
   ].filter(Boolean).join(" · ");
 }
@@ -266,6 +266,7 @@ function showDifferences() {
 
 function showMatches() {
   byId("matches").hidden = !isMany;
+  byId("number").inputMode = isMany ? "text" : "numeric";
   const text = ({ index, name, hands }) => `${index + 1}: ${name} (${data.matches[index].log}, ${chipsText(hands.length)} hands)`;
   const options = matches.map((match) => element("option", { value: match.index }, text(match)));
   refill(byId("match"), element("option", { value: -1 }, `all ${matches.length}`), options);
@@ -321,7 +322,9 @@ function listen() {
     openHand(scopeHands()[0]);
   });
   byId("by-position").addEventListener("change", showFigures);
-  byId("scrub").addEventListener("input", () => goTo(scopeHands()[Number(byId("scrub").value)]));
+  // The address changes when the slider is let go of: browsers bear few changes of it in a second.
+  byId("scrub").addEventListener("input", () => openHand(scopeHands()[Number(byId("scrub").value)]));
+  byId("scrub").addEventListener("change", () => goTo(view.hand));
   byId("chart").addEventListener("click", (event) => goTo(scopeHands()[view.handAt(event.offsetX) - 1]));
   document.addEventListener("click", followLink);
   document.addEventListener("keydown", takeKey);

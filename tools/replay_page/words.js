@@ -125,5 +125,5 @@ function gainsText(hand, { pots }) {
 /** Returns what a position is called: its number, its blind, and the button. */
 function positionText(game, position) {
   const blind = game.blinds[position] > 0 ? `blind ${chipsText(game.blinds[position])}` : "no blind";
-  return `${blind}${position === game.players - 1 ? ", button" : ""}`;
+  return `position ${position}: ${blind}${position === game.players - 1 ? ", button" : ""}`;
 }
