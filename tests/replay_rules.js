@@ -1,12 +1,14 @@
 // Runs the page's script without a page: node tests/replay_rules.js FILE.. reads the files, which are the parts of the script
-// that use no document, and answers each line of standard input, {"game": TEXT, "lines": [LINE, ..]}, by a line of JSON.
+// that use no document, and answers each line of standard input, {"game": TEXT, "lines": [LINE, ..]}, by a line of JSON: payoffs
+// and differences, and with "filters" also figures, courses, steps, and the hands that each filter chooses.
 "use strict";
 const fs = require("fs");
 const vm = require("vm");
 const readline = require("readline");
 
 const script = process.argv.slice(2).map((path) => fs.readFileSync(path, "utf8")).join("\n");
-const page = vm.runInThisContext(`(() => { "use strict"; ${script}; return { readGame, readMatch, figuresOf, coursesOf, stepsOf }; })()`);
+const names = "readGame, readMatch, figuresOf, coursesOf, stepsOf, chosenHands";
+const page = vm.runInThisContext(`(() => { "use strict"; ${script}; return { ${names} }; })()`);
 
 function figure({ total }) {
   const { voluntary, turns, raised, aggressive, actions, showdowns, flops, won, chips, hands, worst } = total;
@@ -16,14 +18,14 @@ function figure({ total }) {
   };
 }
 
-function answer({ game: text, lines, isWhole }) {
+function answer({ game: text, lines, filters }) {
   const game = page.readGame(text);
   const match = page.readMatch(game, lines, 0);
   const answered = {
     payoffs: match.hands.map(({ payoffs }) => payoffs),
     differences: match.differences.map(({ hand, text: why }) => `${hand ? hand.number : "score"}: ${why}`),
   };
-  if (!isWhole) return answered;
+  if (!filters) return answered;
   const figures = page.figuresOf(match.hands, game.players);
   return {
     ...answered,
@@ -31,6 +33,7 @@ function answer({ game: text, lines, isWhole }) {
     positions: Object.fromEntries([...figures].map(([name, { positions }]) => [name, positions.map((total) => figure({ total }))])),
     courses: Object.fromEntries(page.coursesOf(match.hands)),
     steps: match.hands.map((hand) => page.stepsOf(game, hand)),
+    lists: filters.map((filter) => page.chosenHands(match.hands, filter).map(({ number }) => number)),
   };
 }
 
