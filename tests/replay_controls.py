@@ -275,12 +275,13 @@ def course(screen, url):
     same(screen.texts("#legend [aria-pressed=true] .who"), ["bob"], "whose band is shown")
     want("standard deviation of bob's chips" in screen.text("band"), screen.text("band"))
     same(screen.value("document.querySelectorAll('#chart .line').length"), 3, "lines")
-    # The chart's left edge is 76 pixels wide, its right one 14: the middle of the rest is hand 6.
-    place = "(() => { const { left, top, width } = chart.getBoundingClientRect(); return [left + 76 + (width - 90) / 2, top + 50] })()"
-    screen.value("document.getElementById('chart').scrollIntoView()")
-    x, y = screen.value(place.replace("chart.", "document.getElementById('chart')."))
+    # The seventh point of a line is where it is after hand 5.
+    chart = "document.getElementById('chart')"
+    screen.value(f"{chart}.scrollIntoView()")
+    point = screen.value(f"{chart}.querySelector('polyline').points[6].x")
+    x, y = screen.value(f"(({{ left, top }}) => [left, top + 50])({chart}.getBoundingClientRect())")
     for kind in ("mousePressed", "mouseReleased"):
-        screen.browser.call("Input.dispatchMouseEvent", type=kind, x=x, y=y, button="left", clickCount=1)
+        screen.browser.call("Input.dispatchMouseEvent", type=kind, x=x + point, y=y, button="left", clickCount=1)
     screen.comes("location.hash === '#5'")
 
 

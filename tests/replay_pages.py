@@ -116,6 +116,8 @@ def refused(folder):
         got = run([*words, "-o", page])
         want(got[0] == status and text in got[2] and got[1] == "", f"{words}: {got}, not {status} and {text!r}")
         want(not page.exists(), f"{words} makes a page")
+    got = run([GAME, log, "-o", log])
+    want(got[0] == 2 and "take the place of" in got[2] and log.read_text().startswith(LOG[0]), f"{got}")
     got = run([GAME, log, "-o", folder / "nowhere/page.html"])
     want(got[0] == 2 and "can't be written" in got[2], f"{got}")
 

@@ -2,8 +2,10 @@
 
 const STYLES = 10;
 const DASHES = ["", "7 4", "2 3", "9 3 2 3", "1 4"];
-const MARGIN = { right: 14, top: 12, bottom: 30 };
+const MARGIN = { right: 26, top: 12, bottom: 30 };
+/** About how wide a digit of a mark is, in pixels. */
 const LETTER = 7.2;
+/** A longer course than of twice so many hands is drawn by so many stretches. */
 const POINTS = 600;
 const MARKS = 5;
 
