@@ -1,0 +1,236 @@
+"""One match of a league: played in a local folder, and put in place among the finished ones by one rename."""
+import errno
+import fcntl
+import hashlib
+import json
+import os
+import platform
+import shutil
+import signal
+import socket
+import time
+from pathlib import Path
+
+from match_engine import AGAIN, DEFAULT, PROGRAM, InUse, Match, MatchFault, Settings, Watcher
+from match_engine.seats import take_leave
+
+from . import deals
+from .bots import Bot, Keeper, digest, end_all
+from .faults import Busy, Interrupted, Unfinished
+from .logs import hand_chips
+from .plan import is_finished
+
+HOST = "127.0.0.1"
+# The most bytes of a match's notes.
+MOST_NOTES = 16 * 2**20
+
+
+def lock(league, name):
+    """Takes a lock of the league until this process and those that it forked have ended. Busy where another one has it."""
+    descriptor = os.open(league.folder / "locks" / name, os.O_RDWR | os.O_CREAT, 0o600)
+    try:
+        fcntl.flock(descriptor, fcntl.LOCK_EX | fcntl.LOCK_NB)
+    except BlockingIOError as why:
+        os.close(descriptor)
+        raise Busy(f"another process plays {name}" if name != "run" else "another process runs this league") from why
+    return descriptor
+
+
+def is_locked(league, name):
+    """Whether another process has a lock of the league."""
+    try:
+        os.close(lock(league, name))
+    except Busy:
+        return True
+    return False
+
+
+def end_by_signals():
+    """Has the first SIGINT, SIGTERM or SIGHUP raise Interrupted here; those behind it do nothing."""
+    numbers = (signal.SIGINT, signal.SIGTERM, signal.SIGHUP)
+
+    def interrupted(number, frame):
+        for it in numbers:
+            signal.signal(it, signal.SIG_IGN)
+        raise Interrupted()
+
+    for number in numbers:
+        signal.signal(number, interrupted)
+
+
+class Table(Watcher):
+    """The players of a match, and the notes of what they do."""
+
+    def __init__(self, players, restarts, folder, keeper, since=0):
+        """`restarts` is how often a player may be started again."""
+        self.players, self.restarts, self.folder, self.keeper = players, restarts, folder, keeper
+        self.bots, self.ports = [None] * len(players), []
+        self.notes = open(folder / "notes", "a", encoding="utf-8", buffering=1)
+        self.begun = self.all_there = None
+
+    def note(self, text):
+        if self.notes.tell() < MOST_NOTES:
+            self.notes.write(f"{time.strftime('%Y-%m-%d %H:%M:%S')} {text}\n")
+
+    def start_all(self, ports):
+        self.ports, self.begun = ports, time.monotonic()
+        for seat in range(len(self.players)):
+            self.start(seat)
+
+    def start(self, seat):
+        """Starts a seat's player. That his program can't be started is told by the notes; nobody comes then."""
+        player = self.players[seat]
+        try:
+            self.bots[seat] = Bot(player, HOST, self.ports[seat], self.folder / f"{player.name}.out", self.keeper)
+        except OSError as why:
+            self.note(f"{player.name}: his program can't be started: {why}")
+
+    def started(self, at):
+        self.all_there = time.monotonic()
+
+    def is_coming(self, seat):
+        """Whether the player may still come: his program, or one that it started, is there."""
+        return self.bots[seat] is not None and self.bots[seat].is_running()
+
+    def warned(self, seat, text):
+        self.note(f"{self.players[seat].name}: {text}")
+
+    def failed(self, seat, why, restarts):
+        self.end([seat])
+        is_again = restarts < self.restarts
+        then = f"started again ({restarts + 1} of {self.restarts})" if is_again else "folds or calls from now on"
+        self.note(f"{self.players[seat].name}: {why}: {then}")
+        if is_again:
+            self.start(seat)
+        return AGAIN if is_again else DEFAULT
+
+    def end(self, seats):
+        """Ends the programs of some seats."""
+        end_all([self.bots[seat] for seat in seats if self.bots[seat] is not None])
+        for seat in seats:
+            self.bots[seat] = None
+
+    def close(self):
+        self.end(range(len(self.players)))
+        self.notes.close()
+
+
+def play(settings, table):
+    """Plays a match with the players of a table; its Result. Their programs are ended before its ports are closed, since
+    one that dials again could come to a port that is another match's by then."""
+    try:
+        with Match(settings, table) as match:
+            try:
+                table.start_all(match.ports)
+                result = match.play()
+                take_leave(match.seats)
+            finally:
+                table.close()
+    except InUse as why:
+        raise Busy(str(why)) from why
+    except (MatchFault, OSError) as why:
+        raise Unfinished(str(why)) from why
+    return result
+
+
+def settings_of(league, name, names, hands, seed, folder):
+    return Settings(
+        name=name, game=str(league.game_path), hands=hands, names=names, seed=seed, limits=league.limits, listen=HOST,
+        log=folder / "match.log", transactions=folder / "match.tlog", is_resumed=True, may_return=True,
+    )
+
+
+def play_planned(league, planned, local, is_again):
+    """Plays a match of the plan, or goes on with it, in a local folder, and puts its result in place. It says what was
+    done."""
+    held = lock(league, planned.name)
+    if is_again:
+        put_away(league, planned, local)
+    if is_finished(league, planned):
+        os.close(held)
+        return "finished before"
+    folder = local / "running" / planned.name
+    try:
+        folder.mkdir(mode=0o700, parents=True, exist_ok=True)
+        if not (folder / "result.json").exists():
+            to_the_end(league, planned, folder)
+        score = json.loads((folder / "result.json").read_text())["score"]
+        put_in_place(folder, league.result_of(planned.name))
+    except OSError as why:
+        raise Unfinished(f"{planned.name}: {why.filename or folder}: {why.strerror}") from why
+    return f"finished, {score}"
+
+
+def to_the_end(league, planned, folder):
+    """Plays a match and writes down how it ended."""
+    keeper = Keeper()
+    try:
+        players = [league.players[name] for name in planned.seats]
+        files = {player.name: digest(player.folder) for player in players}
+        seed = deals.seed(deals.secret(league), planned.players, planned.meeting)
+        table = Table(players, league.restarts, folder, keeper)
+        begun = time.time()
+        result = play(settings_of(league, planned.name, list(planned.seats), league.hands, seed, folder), table)
+    finally:
+        keeper.close()
+    write_whole(folder / "result.json", result_text(league, planned, result, files, begun, folder))
+
+
+def result_text(league, planned, result, files, begun, folder):
+    """What a result says; lists are by seat, times in microseconds."""
+    chips = hand_chips(folder / "match.log", planned.seats)
+    return json.dumps({
+        "match": planned.name, "number": planned.number, "seats": planned.seats, "hands": league.hands,
+        "score": result.score, "chips": [sum(hands) for hands in chips], "squares": [sum(it * it for it in hands) for hands in chips],
+        "used": result.used, "worst": result.worst, "restarts": result.restarts, "defaults": result.defaults, "mended": result.mended,
+        "limits": league.limits._asdict(), "restarts_allowed": league.restarts,
+        "host": socket.gethostname(), "processors": os.cpu_count(), "load": [round(it, 2) for it in os.getloadavg()],
+        "began": round(begun, 3), "ended": round(time.time(), 3),
+        "versions": {"program": sha256(PROGRAM), "python": platform.python_version(), "system": platform.platform()},
+        "files": files,
+    }, indent=1) + "\n"
+
+
+def sha256(path):
+    with open(path, "rb") as file:
+        return hashlib.file_digest(file, "sha256").hexdigest()
+
+
+def write_whole(path, text):
+    """Writes a file in one step."""
+    made = path.with_name(f".{path.name}.{os.getpid()}")
+    with open(made, "w", encoding="utf-8") as file:
+        file.write(text)
+        file.flush()
+        os.fsync(file.fileno())
+    os.replace(made, path)
+
+
+def put_in_place(folder, place):
+    """Has a finished match's folder appear whole at its place. Where one is there already, that one stays."""
+    try:
+        os.rename(folder, place)
+        return
+    except OSError as why:
+        if why.errno in (errno.ENOTEMPTY, errno.EEXIST):
+            shutil.rmtree(folder)
+            return
+        if why.errno != errno.EXDEV:
+            raise
+    copy = place.with_name(f".{place.name}.{socket.gethostname()}.{os.getpid()}")
+    shutil.copytree(folder, copy)
+    os.chmod(copy, 0o700)
+    os.sync()
+    put_in_place(copy, place)
+    shutil.rmtree(folder)
+
+
+def put_away(league, planned, local):
+    """Moves what there is of a match to the league's folder `replaced`, and forgets what isn't finished of it."""
+    shutil.rmtree(local / "running" / planned.name, ignore_errors=True)
+    place, away = league.result_of(planned.name), league.folder / "replaced"
+    if not place.exists():
+        return
+    away.mkdir(mode=0o700, exist_ok=True)
+    number = 1 + sum(path.name.rpartition(".")[0] == planned.name for path in away.iterdir())
+    os.rename(place, away / f"{planned.name}.{number}")

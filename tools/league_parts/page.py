@@ -1,0 +1,2 @@
+def write(standings, is_revealed):
+    raise NotImplementedError

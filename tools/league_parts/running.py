@@ -1,0 +1,194 @@
+"""Plays all matches of a league, some at a time, each by a process of its own: `match K`."""
+import ctypes
+import os
+import signal
+import subprocess
+import sys
+import time
+from collections import Counter
+
+from .faults import Interrupted, Unfinished
+from .one_match import end_by_signals, is_locked, lock
+from .plan import in_words, is_finished
+
+# How often the matches are looked at, and those that other processes play, in seconds.
+LOOK, LOOK_AT_OTHERS = 0.02, 0.5
+# How often progress is told on a terminal and elsewhere, in seconds.
+ON_TERMINAL, ELSEWHERE = 1, 60
+# How often a match is tried in one run where the machine fails.
+ATTEMPTS = 2
+LIBRARY, PR_SET_PDEATHSIG = ctypes.CDLL(None), 1
+
+
+def default_jobs(league):
+    """How many matches at a time: a processor for each player and the dealer."""
+    return max(1, len(os.sched_getaffinity(0)) // (league.seats + 1))
+
+
+def end_with(parent):
+    """Has a match end in order where `run` ends, however that one does."""
+    os.setpgid(0, 0)
+    LIBRARY.prctl(PR_SET_PDEATHSIG, signal.SIGTERM)
+    if os.getppid() != parent:
+        os._exit(1)
+
+
+class Progress:
+    """The line that tells how far a run is."""
+
+    def __init__(self, whole, finished):
+        self.whole, self.before, self.begun = whole, finished, time.monotonic()
+        self.is_terminal = sys.stderr.isatty()
+        self.next, self.width = 0.0, 0
+
+    def line(self, finished, running, others):
+        seconds, new = time.monotonic() - self.begun, finished - self.before
+        text = f"{finished} of {self.whole} matches finished, {running} running"
+        text += f", {others} played by others" if others else ""
+        if new:
+            text += f", {3600 * new / seconds:.0f} an hour, {in_words(seconds / new * (self.whole - finished))} left"
+        return text
+
+    def tell(self, *counts):
+        if time.monotonic() < self.next:
+            return
+        self.next = time.monotonic() + (ON_TERMINAL if self.is_terminal else ELSEWHERE)
+        self.show(self.line(*counts))
+
+    def show(self, text):
+        if self.is_terminal:
+            print(f"\r{text:{self.width}}", end="", file=sys.stderr, flush=True)
+            self.width = len(text)
+        else:
+            print(f"league: {text}", file=sys.stderr, flush=True)
+
+    def note(self, text):
+        """Tells something beside the progress."""
+        if self.is_terminal and self.width:
+            print(f"\r{'':{self.width}}\r", end="", file=sys.stderr)
+        print(f"league: {text}", file=sys.stderr, flush=True)
+
+    def close(self, *counts):
+        self.show(self.line(*counts))
+        if self.is_terminal:
+            print(file=sys.stderr)
+
+
+class Run:
+    """A run of a league's matches."""
+
+    def __init__(self, league, plan, jobs, command):
+        """`command` gives the words that play a match of the plan."""
+        self.league, self.jobs, self.command = league, jobs, command
+        self.waiting = [it for it in plan if not is_finished(league, it)]
+        self.finished = len(plan) - len(self.waiting)
+        self.running, self.others, self.attempts, self.failed = {}, [], Counter(), []
+        self.progress, self.looked = Progress(len(plan), self.finished), 0.0
+
+    def play(self):
+        """Plays all that can be played; whether all matches are finished now."""
+        try:
+            while self.waiting or self.running or self.others:
+                self.start()
+                self.reap()
+                self.look_at_others()
+                self.progress.tell(*self.counts())
+                time.sleep(LOOK)
+        finally:
+            self.end()
+            self.progress.close(*self.counts())
+        return not self.failed
+
+    def counts(self):
+        return self.finished, len(self.running), len(self.others)
+
+    def seated(self):
+        """How many matches each player plays."""
+        return Counter(name for match in self.running.values() for name in match.players)
+
+    def may_start(self, match, seated):
+        bounds = ((seated[name], self.league.players[name].at_once) for name in match.players)
+        return all(bound is None or count < bound for count, bound in bounds)
+
+    def start(self):
+        """Starts the next matches, in the plan's order, as far as there is room for them and their players."""
+        seated, at = self.seated(), 0
+        while len(self.running) < self.jobs and at < len(self.waiting):
+            match = self.waiting[at]
+            if not self.may_start(match, seated):
+                at += 1
+                continue
+            del self.waiting[at]
+            self.begin(match)
+            seated.update(match.players)
+
+    def begin(self, match):
+        parent = os.getpid()
+        try:
+            process = subprocess.Popen(
+                self.command(match), stdin=subprocess.DEVNULL, stdout=subprocess.DEVNULL, stderr=subprocess.PIPE,
+                preexec_fn=lambda: end_with(parent),
+            )
+        except OSError as why:
+            raise Unfinished(f"{match.name} can't be started: {why.strerror}") from why
+        self.running[process] = match
+
+    def reap(self):
+        """Takes note of the matches that have ended."""
+        for process, match in [*self.running.items()]:
+            if process.poll() is None:
+                continue
+            del self.running[process]
+            with process.stderr:
+                said = process.stderr.read().decode(errors="replace").strip()
+            self.take(match, process.returncode, said)
+
+    def take(self, match, status, said):
+        """What becomes of a match whose process has ended."""
+        if status == 0:
+            self.finished += 1
+        elif status == 4:
+            self.others.append(match)
+        else:
+            self.attempts[match] += 1
+            self.progress.note(said.removeprefix("league: ") or f"{match.name} ended with status {status}")
+            (self.waiting if self.attempts[match] < ATTEMPTS else self.failed).append(match)
+
+    def look_at_others(self):
+        """Takes matches back that other processes played and left, or finished."""
+        if time.monotonic() < self.looked + LOOK_AT_OTHERS:
+            return
+        self.looked = time.monotonic()
+        for match in [*self.others]:
+            if is_finished(self.league, match):
+                self.others.remove(match)
+                self.finished += 1
+            elif not is_locked(self.league, match.name):
+                self.others.remove(match)
+                self.waiting.insert(0, match)
+
+    def end(self):
+        """Ends the matches that still run; each ends its players."""
+        for process in self.running:
+            process.terminate()
+        for process in self.running:
+            process.wait()
+            process.stderr.close()
+        self.running = {}
+
+
+def run(league, plan, jobs, command):
+    """Plays a league; the exit status."""
+    held = lock(league, "run")
+    end_by_signals()
+    playing = Run(league, plan, jobs or default_jobs(league), command)
+    try:
+        is_whole = playing.play()
+    except Interrupted:
+        print("league: interrupted; the same command goes on with it", file=sys.stderr)
+        return 1
+    finally:
+        os.close(held)
+    for match in playing.failed:
+        print(f"league: {match.name} isn't finished; the same command goes on with it", file=sys.stderr)
+    return 0 if is_whole else 1

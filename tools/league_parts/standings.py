@@ -1,0 +1,171 @@
+"""What the finished groups of a league say of its players, in thousandths of the greatest blind a hand (mbb/hand)."""
+from collections import Counter
+from fractions import Fraction
+from typing import Dict, List, NamedTuple, Optional, Tuple
+
+from . import groups as grouping
+from .estimates import Estimate, Interval, combined, estimate, estimate_of_sums
+
+# With fewer groups than this the unit is the hand.
+FEWEST_GROUPS = 5
+INCIDENTS = ("restarts", "defaults", "mended")
+
+
+class Cell(NamedTuple):
+    """A player against a set of opponents. `plain` counts each hand of each seating by itself."""
+
+    opponents: Tuple[str, ...]
+    groups: int
+    is_by_hands: bool
+    estimate: Estimate
+    interval: Interval
+    plain_estimate: Estimate
+    plain: Interval
+
+
+class Standing(NamedTuple):
+    """A player over all opponents; no intervals where no group of his is finished. Ranks count from 1; equal means have the
+    same rank."""
+
+    name: str
+    rank: int
+    run_off: int
+    interval: Optional[Interval]
+    plain: Optional[Interval]
+    is_by_hands: bool
+    incidents: Dict[str, int]
+
+
+class Neighbours(NamedTuple):
+    """Two players side by side in rank, and by how much the better one is ahead."""
+
+    better: str
+    worse: str
+    ahead: Interval
+
+    @property
+    def are_told_apart(self):
+        return self.ahead.half is not None and not self.ahead.covers(0)
+
+
+class Standings:
+    """The table of a league. `unit` is hand or group where one of them is forced."""
+
+    def __init__(self, league, plan, unit=None):
+        self.league, self.unit = league, unit
+        self.matches = list(grouping.played(league, plan))
+        self.planned = len(plan)
+        self.groups, self.planned_groups = grouping.grouped(plan, self.matches)
+        self.finished_groups = sum(map(len, self.groups.values()))
+        self.samples = {players: Sample(self, players, found) for players, found in self.groups.items()}
+        self.cells = {name: [sample.cell(name) for sample in self.samples.values() if name in sample.players] for name in league.players}
+        self.standings = self.ranked()
+        self.neighbours = [self.side_by_side(*pair) for pair in zip(self.standings, self.standings[1:]) if pair[1].interval]
+
+    @property
+    def is_whole(self):
+        return self.finished_groups == self.planned_groups
+
+    @property
+    def is_by_hands(self):
+        return any(it.is_by_hands for it in self.standings)
+
+    def mean(self, name, among=None):
+        """A player's mean over the opponents that are among some players, or over all; none where he met none of them."""
+        means = [it.estimate.mean for it in self.cells[name] if among is None or among.issuperset(it.opponents)]
+        return sum(means) / len(means) if means else None
+
+    def ranked(self):
+        """All players, the greatest mean first; those without one last."""
+        means = {name: self.mean(name) for name in self.league.players}
+        order = sorted(means, key=lambda name: (means[name] is None, -(means[name] or 0), name))
+        ranks = {name: 1 + sum(means[it] is not None and means[it] > means[name] for it in order) for name in order if means[name] is not None}
+        run_off, incidents = self.run_off(means), self.incidents()
+        return [self.standing(name, ranks.get(name, len(order)), run_off.index(name) + 1, incidents[name]) for name in order]
+
+    def standing(self, name, rank, run_off, incidents):
+        cells = self.cells[name]
+        weight = Fraction(1, max(1, len(cells)))
+        interval, plain = (combined([(weight, estimate) for estimate in of]) if cells else None for of in (
+            [it.estimate for it in cells], [it.plain_estimate for it in cells]
+        ))
+        return Standing(name, rank, run_off, interval, plain, any(it.is_by_hands for it in cells), incidents)
+
+    def run_off(self, means):
+        """The players by instant run-off, the winner first: again and again the one goes whose mean over those who are left
+        is the least. Among equal ones the one goes whose mean over all is less, then the last by name. The last table is
+        ordered by its own means."""
+        left, order = set(self.league.players), []
+
+        def strength(name):
+            here = self.mean(name, left)
+            return here is not None, here or 0, means[name] or 0, [-ord(letter) for letter in name]
+
+        while len(left) > self.league.seats:
+            gone = min(left, key=strength)
+            left.discard(gone)
+            order.insert(0, gone)
+        return sorted(left, key=strength, reverse=True) + order
+
+    def incidents(self):
+        """What happened to each player in all finished matches."""
+        counts = {name: Counter({key: 0 for key in INCIDENTS}) for name in self.league.players}
+        for match in self.matches:
+            for name in match.planned.players:
+                counts[name].update({key: match.of(key, name) for key in INCIDENTS})
+        return {name: dict(found) for name, found in counts.items()}
+
+    def side_by_side(self, better, worse):
+        """By how much a player is ahead of another. Where both sat the difference of the two in each unit is one sample."""
+        first, second = better.name, worse.name
+        weights = {name: Fraction(1, len(self.cells[name])) for name in (first, second)}
+        terms = []
+        for players, sample in self.samples.items():
+            if first in players and second in players:
+                terms.append((Fraction(1), sample.difference(first, weights[first], second, weights[second])))
+            elif first in players:
+                terms.append((weights[first], sample.estimate(first)))
+            elif second in players:
+                terms.append((-weights[second], sample.estimate(second)))
+        return Neighbours(first, second, combined(terms))
+
+
+class Sample:
+    """The finished groups of some players."""
+
+    def __init__(self, standings, players, found):
+        league = standings.league
+        self.players, self.groups, self.blind = players, found, league.blind
+        self.seatings = len(found[0].matches)
+        self.is_by_hands = standings.unit == "hand" or (standings.unit is None and len(found) < FEWEST_GROUPS)
+        self.hands = league.hands
+        if self.is_by_hands:
+            parts = [group.by_hands(league) for group in found]
+            self.units = {name: [chips for part in parts for chips in part[name]] for name in players}
+        else:
+            self.units = {name: [group.chips[name] for group in found] for name in players}
+
+    @property
+    def scale(self):
+        """What a unit's chips are multiplied by."""
+        return Fraction(1000, self.blind * self.seatings * (1 if self.is_by_hands else self.hands))
+
+    def estimate(self, name):
+        return estimate(self.units[name]).scaled(self.scale)
+
+    def difference(self, first, first_weight, second, second_weight):
+        """The estimate of the difference of two players' weighted results."""
+        pairs = zip(self.units[first], self.units[second])
+        return estimate([first_weight * one - second_weight * other for one, other in pairs]).scaled(self.scale)
+
+    def plain(self, name):
+        """The estimate where each hand of each seating is a unit."""
+        total, squares = (sum(getattr(group, key)[name] for group in self.groups) for key in ("chips", "squares"))
+        return estimate_of_sums(total, squares, len(self.groups) * self.seatings * self.hands).scaled(Fraction(1000, self.blind))
+
+    def cell(self, name):
+        opponents = tuple(it for it in self.players if it != name)
+        found, plain = self.estimate(name), self.plain(name)
+        return Cell(
+            opponents, len(self.groups), self.is_by_hands, found, combined([(Fraction(1), found)]), plain, combined([(Fraction(1), plain)])
+        )

@@ -1,0 +1,141 @@
+"""A league's table as text, as lines of CSV, and as JSON."""
+import csv
+import io
+import json
+
+BY_HANDS = "by hands: too small where bots learn"
+TRUST = (
+    "Each interval by itself misses the true value in 1 of 20 leagues; of {cells} cells about {misses} miss."
+)
+
+
+def shown(interval):
+    """An interval as a table shows it."""
+    if interval is None:
+        return "-"
+    half = "?" if interval.half is None else f"{interval.half:.1f}"
+    return f"{signed(interval.value)} ± {half}"
+
+
+def signed(value):
+    """A value with a tenth, and its sign."""
+    text = f"{float(value):+.1f}"
+    return "0.0" if text in ("+0.0", "-0.0") else text
+
+
+def half(interval):
+    return "-" if interval is None or interval.half is None else f"± {interval.half:.1f}"
+
+
+def columns(rows, right):
+    """Rows as lines with columns, of which those in `right` stand to the right."""
+    widths = [max(map(len, column)) for column in zip(*rows)]
+    for row in rows:
+        cells = [cell.rjust(width) if at in right else cell.ljust(width) for at, (cell, width) in enumerate(zip(row, widths))]
+        yield "  ".join(cells).rstrip()
+
+
+def counted(count, what):
+    return f"{count} {what}" if count == 1 else f"{count} {what}s"
+
+
+def head(standings):
+    league = standings.league
+    kind = "duplicate" if league.duplicate else "no duplicates"
+    lines = [f"{league.name}: {counted(len(league.players), 'player')}, {league.hands} hands a match, {kind}, in mbb/hand"]
+    open_groups = standings.planned_groups - standings.finished_groups
+    counts = f"{len(standings.matches)} of {standings.planned} matches and {standings.finished_groups} of {standings.planned_groups} groups are finished"
+    lines.append(f"{counts}; {counted(open_groups, 'group')} with an unfinished part don't count" if open_groups else counts)
+    return lines
+
+
+def standing_rows(standings):
+    yield "rank", "player", "mbb/hand", "plain", "run-off", "restarts", "defaults", "mended", ""
+    for it in standings.standings:
+        yield (
+            str(it.rank), it.name, shown(it.interval), half(it.plain), str(it.run_off), *map(str, it.incidents.values()),
+            BY_HANDS if it.is_by_hands else "",
+        )
+
+
+def neighbour_lines(standings):
+    for it in standings.neighbours:
+        yield f"{it.better} - {it.worse}: {shown(it.ahead)}" + ("" if it.are_told_apart else ", not told apart")
+
+
+def cell_rows(standings):
+    """Each player against each set of opponents; of two the one that is first by name."""
+    yield "player", "against", "mbb/hand", "plain", "groups", ""
+    for name in sorted(standings.cells):
+        for it in standings.cells[name]:
+            if len(it.opponents) > 1 or name < it.opponents[0]:
+                yield name, " ".join(it.opponents), shown(it.interval), half(it.plain), str(it.groups), BY_HANDS if it.is_by_hands else ""
+
+
+def trust(standings):
+    cells = sum(map(len, standings.cells.values())) // (2 if standings.league.seats == 2 else 1)
+    return TRUST.format(cells=cells, misses=f"{cells / 20:.1f}")
+
+
+def text(standings):
+    """The table for a terminal."""
+    lines = [*head(standings), "", *columns([*standing_rows(standings)], {0, 2, 3, 4, 5, 6, 7})]
+    lines += ["", "neighbours in rank, and by how much the better one is ahead", *neighbour_lines(standings)]
+    lines += ["", *columns([*cell_rows(standings)], {2, 3, 4}), "", trust(standings)]
+    return "\n".join(lines) + "\n"
+
+
+def number(value):
+    return None if value is None else round(float(value), 6)
+
+
+def interval_values(interval, prefix=""):
+    """An interval's figures by their names."""
+    if interval is None:
+        return {prefix + "mean": None, prefix + "half": None, prefix + "freedom": None}
+    return {prefix + "mean": number(interval.value), prefix + "half": number(interval.half), prefix + "freedom": number(interval.freedom)}
+
+
+def standing_values(it):
+    return {
+        "player": it.name, "rank": it.rank, "run_off": it.run_off, **interval_values(it.interval),
+        "plain_half": interval_values(it.plain)["half"], "unit": "hand" if it.is_by_hands else "group", **it.incidents,
+    }
+
+
+def cell_values(name, it):
+    return {
+        "player": name, "against": " ".join(it.opponents), **interval_values(it.interval), "plain_half": number(it.plain.half),
+        "groups": it.groups, "unit": "hand" if it.is_by_hands else "group",
+    }
+
+
+def neighbour_values(it):
+    return {"player": it.better, "against": it.worse, **interval_values(it.ahead), "told_apart": it.are_told_apart}
+
+
+def values(standings):
+    """The whole table as lists of figures by their names."""
+    return {
+        "league": standings.league.name, "hands": standings.league.hands, "duplicate": standings.league.duplicate,
+        "matches": {"planned": standings.planned, "finished": len(standings.matches)},
+        "groups": {"planned": standings.planned_groups, "finished": standings.finished_groups},
+        "standings": [standing_values(it) for it in standings.standings],
+        "neighbours": [neighbour_values(it) for it in standings.neighbours],
+        "cells": [cell_values(name, it) for name in sorted(standings.cells) for it in standings.cells[name]],
+    }
+
+
+def as_json(standings):
+    return json.dumps(values(standings), indent=1) + "\n"
+
+
+def as_csv(standings):
+    """One line for each standing, pair of neighbours and cell; `kind` says which."""
+    found, made = values(standings), io.StringIO()
+    rows = [{"kind": kind, **row} for kind, key in (("standing", "standings"), ("neighbours", "neighbours"), ("cell", "cells")) for row in found[key]]
+    names = list(dict.fromkeys(name for row in rows for name in row))
+    writer = csv.DictWriter(made, names, lineterminator="\n")
+    writer.writeheader()
+    writer.writerows(rows)
+    return made.getvalue()

@@ -1,0 +1,73 @@
+"""Plays some hands of each player against the sample player who calls, before a league begins."""
+import secrets
+import shutil
+import sys
+
+from match_engine.program import TOP
+
+from .bots import Keeper
+from .faults import Unfinished
+from .league_file import Player
+from .one_match import Table, end_by_signals, play, settings_of
+
+HANDS = 20
+CALLER = TOP / "examples/bots/caller"
+MILLISECOND = 1000
+
+
+class Trial(Table):
+    """A table of which only the first player is looked at, who may not return."""
+
+    def __init__(self, players, folder, keeper):
+        super().__init__(players, 0, folder, keeper)
+        self.answers, self.why = 0, None
+
+    def received(self, seat, at, line):
+        self.answers += seat == 0 and line.startswith("MATCHSTATE:")
+
+    def failed(self, seat, why, restarts):
+        if seat == 0:
+            self.why = why
+        return super().failed(seat, why, restarts)
+
+
+def callers(league, name):
+    """The others at the table of a player: as many sample players as it takes."""
+    names = [it for it in (f"caller{number}" for number in range(1, league.seats + 1)) if it != name]
+    words = [sys.executable, str(CALLER), str(league.game_path), "{port}"]
+    return [Player(it, words, TOP, None) for it in names[: league.seats - 1]]
+
+
+def try_player(league, player, keeper):
+    """Plays with a player; why he failed, if he did, and what was seen of him."""
+    folder = league.folder / "tried" / player.name
+    shutil.rmtree(folder, ignore_errors=True)
+    folder.mkdir(mode=0o700, parents=True)
+    players = [player, *callers(league, player.name)]
+    table = Trial(players, folder, keeper)
+    result = play(settings_of(league, "try", [it.name for it in players], HANDS, secrets.randbelow(2**63), folder), table)
+    if table.why is not None:
+        return f"{table.why}; what he wrote is in {folder / (player.name + '.out')}", None
+    mean = result.used[0] / max(1, table.answers) / MILLISECOND
+    mended = f"{result.mended[0]} actions were mended, see {folder / 'notes'}" if result.mended[0] else "no action was mended"
+    return None, (
+        f"came within {table.all_there - table.begun:.1f} s; {table.answers} responses of {mean:.1f} ms, "
+        f"the longest {result.worst[0] / MILLISECOND:.1f} ms; {mended}"
+    )
+
+
+def try_all(league):
+    """Tries each player; the exit status, 1 where one failed."""
+    end_by_signals()
+    keeper, status = Keeper(), 0
+    try:
+        for player in league.players.values():
+            try:
+                why, seen = try_player(league, player, keeper)
+            except Unfinished as fault:
+                why, seen = str(fault), None
+            print(f"{player.name}: {'failed: ' + why if why else seen}", flush=True)
+            status = 1 if why else status
+    finally:
+        keeper.close()
+    return status
