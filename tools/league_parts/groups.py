@@ -18,6 +18,9 @@ class Played(NamedTuple):
         """A figure of a player."""
         return self.result[key][self.planned.seats.index(name)]
 
+    def log(self, league):
+        return league.result_of(self.planned.name) / f"{self.planned.name}.log"
+
 
 class Group(NamedTuple):
     """All seatings of one meeting, all finished. Chips are whole."""
@@ -32,8 +35,7 @@ class Group(NamedTuple):
     def by_hands(self, league):
         """By name the chips of hand h of all seatings together, in the order of the hands."""
         seatings = [
-            dict(zip(it.planned.seats, hand_chips(league.result_of(it.planned.name) / "match.log", it.planned.seats)))
-            for it in self.matches
+            dict(zip(it.planned.seats, hand_chips(it.log(league), it.planned.seats))) for it in self.matches
         ]
         return {name: [sum(hands) for hands in zip(*(seating[name] for seating in seatings))] for name in self.players}
 

@@ -12,7 +12,6 @@ import time
 from pathlib import Path
 
 from match_engine import AGAIN, DEFAULT, PROGRAM, InUse, Match, MatchFault, Settings, Watcher
-from match_engine.seats import take_leave
 
 from . import deals
 from .bots import Bot, Keeper, digest, end_all
@@ -123,7 +122,7 @@ def play(settings, table):
             try:
                 table.start_all(match.ports)
                 result = match.play()
-                take_leave(match.seats)
+                match.take_leave()
             finally:
                 table.close()
     except InUse as why:
@@ -136,7 +135,7 @@ def play(settings, table):
 def settings_of(league, name, names, hands, seed, folder):
     return Settings(
         name=name, game=str(league.game_path), hands=hands, names=names, seed=seed, limits=league.limits, listen=HOST,
-        log=folder / "match.log", transactions=folder / "match.tlog", is_resumed=True, may_return=True,
+        log=folder / f"{name}.log", transactions=folder / f"{name}.tlog", is_resumed=True, may_return=True,
     )
 
 
@@ -178,7 +177,7 @@ def to_the_end(league, planned, folder):
 
 def result_text(league, planned, result, files, begun, folder):
     """What a result says; lists are by seat, times in microseconds."""
-    chips = hand_chips(folder / "match.log", planned.seats)
+    chips = hand_chips(folder / f"{planned.name}.log", planned.seats)
     return json.dumps({
         "match": planned.name, "number": planned.number, "seats": planned.seats, "hands": league.hands,
         "score": result.score, "chips": [sum(hands) for hands in chips], "squares": [sum(it * it for it in hands) for hands in chips],

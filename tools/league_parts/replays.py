@@ -1,0 +1,49 @@
+"""Pages on which the hands of the league's matches can be looked at: one for the matches of each finished meeting."""
+import subprocess
+import sys
+import time
+
+from match_engine.program import TOP
+
+from .faults import Unfinished
+
+REPLAY = TOP / "tools/replay"
+# How often progress is told, in seconds.
+EVERY = 1
+
+
+def make_replays(standings, is_revealed):
+    """Makes the pages that aren't there yet; by match the address of its page, seen from the league's folder. There are none
+    where tools/replay isn't. A meeting's matches are shown when all of them are finished: they have the same cards."""
+    if not REPLAY.exists():
+        return {}
+    folder = standings.league.folder / ("revealed" if is_revealed else "replays")
+    folder.mkdir(mode=0o700, exist_ok=True)
+    groups = [group for found in standings.groups.values() for group in found]
+    addresses, told = {}, time.monotonic()
+    for count, group in enumerate(groups):
+        path = folder / f"{'.'.join(group.players)}.{group.meeting}.html"
+        if not is_made(path, standings.league, group):
+            make(path, standings.league, group, is_revealed)
+        for place, match in enumerate(group.matches, start=1):
+            addresses[match.planned.name] = f"{folder.name}/{path.name}#{place}/0" if len(group.matches) > 1 else f"{folder.name}/{path.name}"
+        if time.monotonic() > told + EVERY:
+            told = time.monotonic()
+            print(f"league: pages of hands of {count + 1} of {len(groups)} groups", file=sys.stderr)
+    return addresses
+
+
+def logs(league, group):
+    return [match.log(league) for match in group.matches]
+
+
+def is_made(path, league, group):
+    """Whether a page is there that is younger than its matches."""
+    return path.exists() and all(path.stat().st_mtime > (log.parent / "result.json").stat().st_mtime for log in logs(league, group))
+
+
+def make(path, league, group, is_revealed):
+    words = [sys.executable, REPLAY, league.game_path, *logs(league, group), "-o", path, *(["--all"] if is_revealed else [])]
+    ran = subprocess.run(words, stdin=subprocess.DEVNULL, stdout=subprocess.DEVNULL, stderr=subprocess.PIPE)
+    if ran.returncode:
+        raise Unfinished(f"tools/replay makes no page {path.name}: {ran.stderr.decode(errors='replace').strip()}")
