@@ -1,0 +1,71 @@
+#!/usr/bin/env python3
+"""A bot that does what a test asks: tests/league_bot.py HOW GAME HOST PORT
+
+  calls     calls
+  raises    raises to 300 where it begins to bet, and else calls
+  quits     folds where it faces a bet and else calls; whenever it has folded it ends with status 1
+  noisy     calls, and writes 20 MiB first
+  slow      calls, a quarter of a second after each line
+  stubborn  never comes; it and a process that it starts don't end when they are asked to
+  silent    comes, answers nothing, and doesn't end when it is asked to
+  wrong     calls, but answers its first turn with an action that nobody can read
+"""
+import os
+import signal
+import socket
+import sys
+import time
+
+sys.dont_write_bytecode = True
+
+from serving import Game, turn_of
+
+
+def acts(how, betting, turn):
+    """The action at a turn, of which `turn` is the number."""
+    if how == "raises" and not betting.raises:
+        return "r300"
+    if how == "quits" and betting.may_fold():
+        return "f"
+    return "x" if how == "wrong" and turn == 0 else "c"
+
+
+def play(how, game, host, port):
+    turn = 0
+    with socket.create_connection((host, int(port))) as connection:
+        connection.sendall(b"VERSION:2.0.0\r\n")
+        for line in connection.makefile("r", encoding="ascii", newline="\r\n"):
+            betting = turn_of(game, line.rstrip("\r\n"))
+            if betting is None or how == "silent":
+                continue
+            if how == "slow":
+                time.sleep(0.25)
+            action = acts(how, betting, turn)
+            turn += 1
+            connection.sendall(f"{line.rstrip()}:{action}\r\n".encode())
+            if action == "f":
+                sys.exit(1)
+
+
+def be_stubborn():
+    signal.signal(signal.SIGTERM, signal.SIG_IGN)
+    if os.fork() == 0:
+        os.close(1)
+    time.sleep(600)
+
+
+def main(how, path, host, port):
+    if how == "stubborn":
+        be_stubborn()
+    if how == "noisy":
+        for _ in range(20):
+            os.write(1, 1024 * (1023 * b"x" + b"\n"))
+    if how == "silent":
+        signal.signal(signal.SIGTERM, signal.SIG_IGN)
+    with open(path, encoding="ascii") as file:
+        game = Game(file.read())
+    play(how, game, host, port)
+
+
+if __name__ == "__main__":
+    main(*sys.argv[1:])

@@ -1,0 +1,145 @@
+"""Tests of leagues whose processes are ended or killed, and of several at once."""
+import os
+import random
+import signal
+import sys
+import time
+
+sys.dont_write_bytecode = True
+
+from dealer_runs import WAIT, are_ended
+from league_runs import OPTIONS, Bots, League, awaited, command, descendants, kill, test
+from serving import want
+
+SEED = 67
+
+
+def six_bots():
+    """Random bots that go by the line alone, so that a match is the same whenever it is played."""
+    return {name: Bots.command(seed) for seed, name in enumerate(("ann", "ben", "cid", "dot", "eve", "fay"), start=1)}
+
+
+def slow_league(**entries):
+    """A league of two matches, of which each takes some seconds."""
+    return League({"calls": command("calls"), "slow": command("slow")}, hands=6, **entries)
+
+
+def played_now(league, process):
+    """Waits until a match of the league has been begun; the processes below a process then, by number and start."""
+    awaited(lambda: [it for it in league.kept.glob("running/*/*.tlog") if it.stat().st_size], "the first action")
+    return descendants(process.pid)
+
+
+@test
+def a_run_that_is_killed_again_and_again():
+    """By signal 9 at random moments, every other time with all processes that it started. At last the table is letter by
+    letter that of a league with the same secret that nobody disturbed, and the logs are."""
+    kills, hands, dice = int(OPTIONS["--kills"]), int(OPTIONS["--hands"]), random.Random(SEED)
+    calm, killed = (League(six_bots(), hands=hands, meetings=3) for _ in range(2))
+    calm.does("plan")
+    killed.does("plan")
+    (killed.kept / "secret").write_bytes(bytes(32))
+    (calm.kept / "secret").write_bytes(bytes(32))
+    ran = calm.start("run", "--jobs", "8")
+    for number in range(kills):
+        run = killed.start("run", "--jobs", "8")
+        time.sleep(dice.uniform(0.2, 0.5 + 0.1 * hands))
+        end_by_nine(run, with_children=number % 2 == 0)
+    killed.does("run", "--jobs", "8")
+    want(ran.wait(WAIT * 5) == 0, "the undisturbed run failed")
+    want(killed.table() == calm.table(), f"the tables differ:\n{killed.table()}\n{calm.table()}")
+    want(killed.logs() == calm.logs() and len(calm.logs()) == 90, "the logs differ")
+    want([*(killed.kept / "running").iterdir()] == [], "something is left of a match")
+
+
+def end_by_nine(run, with_children):
+    """Kills a run, and where it is said all below it, dealers before their bots: a bot that ends while its dealer still looks
+    has failed."""
+    below = descendants(run.pid) if with_children else []
+    run.kill()
+    kill(below)
+    run.communicate(timeout=WAIT)
+
+
+@test
+def a_run_that_is_killed_takes_its_matches_along():
+    league = slow_league()
+    run = league.start("run", "--jobs", "2")
+    below = played_now(league, run)
+    run.kill()
+    run.communicate(timeout=WAIT)
+    awaited(lambda: are_ended(below), f"the end of {below}")
+    want(not league.logs(), "a match is finished")
+
+
+@test
+def a_match_that_is_killed_takes_its_bots_along():
+    """Also one that doesn't end when it is asked to, and what that started."""
+    league = League({"calls": command("calls"), "stubborn": command("stubborn")})
+    match = league.start("match", "1")
+    awaited(lambda: sum("league_bot" in words_of(number) for number, _ in descendants(match.pid)) == 3, "both bots and one's child")
+    below = descendants(match.pid)
+    match.kill()
+    match.communicate(timeout=WAIT)
+    awaited(lambda: are_ended(below), f"the end of {below}")
+
+
+def words_of(number):
+    """A process's command line; nothing where it has ended."""
+    try:
+        with open(f"/proc/{number}/cmdline", encoding="utf-8", errors="replace") as file:
+            return file.read()
+    except OSError:
+        return ""
+
+
+@test
+def an_interrupt_ends_all_and_leaves_all_to_go_on():
+    """As a terminal sends it: to the whole process group of the run. A second one changes nothing."""
+    league = slow_league()
+    run = league.start("run", "--jobs", "2")
+    below = played_now(league, run)
+    os.killpg(run.pid, signal.SIGINT)
+    time.sleep(0.05)
+    os.killpg(run.pid, signal.SIGINT)
+    said = run.communicate(timeout=WAIT)[1]
+    want(run.returncode == 1 and "interrupted; the same command goes on with it" in said, f"status {run.returncode}: {said}")
+    want(are_ended(below), "a process outlived the run")
+    kept = {path: path.read_bytes() for path in league.kept.glob("running/*/*.tlog")}
+    want(kept, "nothing is left to go on with")
+    league.does("run", "--jobs", "2")
+    for path, text in kept.items():
+        now = (league.kept / "matches" / path.parent.name / path.name).read_bytes()
+        want(now.startswith(text[: text.rfind(b"\n") + 1]), f"{path.name} began again")
+    for name in league.logs():
+        league.is_right(name)
+        want(league.result(name)["restarts"] == [0, 0], "the interrupt is counted as a restart")
+
+
+@test
+def a_match_that_another_one_plays():
+    """A second `match` and a second `run` end with status 4; a `run` beside a `match` waits for it and finishes the rest."""
+    league = slow_league()
+    match = league.start("match", "1")
+    played_now(league, match)
+    want("another process plays calls.slow.1.0" in league.does("match", "1", status=4)[1], "the second match says something else")
+    want("another process plays" in league.does("match", "1", "--again", status=4)[1], "the match is taken away")
+    run = league.start("run", "--jobs", "2")
+    awaited(lambda: (league.kept / "running/calls.slow.1.1").exists(), "the run's match")
+    want("another process runs this league" in league.does("run", status=4)[1], "the second run says something else")
+    want(match.wait(WAIT) == 0, "the match failed")
+    said = run.communicate(timeout=WAIT)[1]
+    want(run.returncode == 0 and len(league.logs()) == 2, f"the run ended with {run.returncode}: {said}")
+    want(all(league.result(name)["restarts"] == [0, 0] for name in league.logs()), "a bot was started again")
+
+
+@test
+def two_of_the_same_match_at_once():
+    league = League({"a": Bots.command(1), "b": Bots.command(2)}, hands=3)
+    league.does("plan")
+    both = [league.start("match", "1") for _ in range(2)]
+    for it in both:
+        it.communicate(timeout=WAIT)
+    statuses = sorted(it.returncode for it in both)
+    want(statuses in ([0, 4], [0, 0]) and [*league.logs()] == ["a.b.1.0"], f"they ended with {statuses}")
+    league.is_right("a.b.1.0")

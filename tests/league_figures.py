@@ -1,0 +1,198 @@
+"""Tests of the figures of tools/league. What is wanted is worked out by hand beside each."""
+import random
+import re
+import sys
+from fractions import Fraction
+from types import SimpleNamespace
+
+sys.dont_write_bytecode = True
+
+from dealer_runs import NOLIMIT_3P
+from league_runs import League, test
+from serving import TOP, want
+
+sys.path.insert(0, str(TOP / "tools"))
+
+import match_engine  # noqa: F401 (league_parts needs the path that it adds)
+from league_parts.estimates import combined, estimate
+from league_parts.groups import Played
+from league_parts.plan import Planned
+from league_parts.standings import Standings
+from league_parts.students_t import t
+
+CALLS = "true {port}"
+
+
+def near(found, wanted, what, margin=0.001):
+    want(found is not None and abs(found - wanted) <= margin, f"{what} is {found}, not {wanted}")
+
+
+def standing(figures, name):
+    return next(it for it in figures["standings"] if it["player"] == name)
+
+
+def cell(figures, name, against):
+    return next(it for it in figures["cells"] if (it["player"], it["against"]) == (name, against))
+
+
+def three(meetings, **chips):
+    """A league of a, b and c without duplicates, each match one hand of a blind of 100: one chip is 10 mbb."""
+    league = League({"a": CALLS, "b": CALLS, "c": CALLS}, hands=1, meetings=meetings, duplicate=False)
+    rotated = {}
+    for pair, hands in chips.items():
+        for meeting, it in enumerate(hands, start=1):
+            seating = (meeting - 1) % 2
+            rotated[f"{pair[0]}.{pair[1]}.{meeting}.{seating}"] = [-it if seating else it]
+    league.invent(rotated)
+    return league
+
+
+@test
+def students_t_is_that_of_printed_tables():
+    """Table values of 1, 2, 5, 9, 10, 29, 30; behind 30 those of 40, 60, 120 and 1000 within five thousandths."""
+    for freedom, value in ((1, 12.7062), (2, 4.3027), (5, 2.5706), (9, 2.2622), (10, 2.2281), (29, 2.0452), (30, 2.0423)):
+        want(t(freedom) == value, f"t({freedom}) is {t(freedom)}")
+    for freedom, value in ((40, 2.0211), (60, 2.0003), (120, 1.9799), (1000, 1.9623)):
+        near(t(freedom), value, f"t({freedom})", 0.005)
+    want((t(2.4545), t(29.99999999999), t(0.7)) == (4.3027, 2.0423, 12.7062), "a broken number isn't rounded down, or rounding counts")
+
+
+@test
+def the_worked_example_of_the_page():
+    """Two meetings, two seatings, three hands, a blind of 100; alice's chips: meeting 1 +300 -100 +400 and -200 +200 -300,
+    meeting 2 -400 +100 -60 and +300 -100 +40. By groups x is 1000 x 300 / 6 / 100 = 500 and 1000 x -120 / 6 / 100 = -200:
+    m = 150, v = (350^2 + 350^2) / 1 / 2 = 122500, t(1) x 350 = 4447.17. By hands x is 500 500 500 -500 0 -100: m = 150,
+    v = 875000 / 5 / 6 = 29166.667, t(5) x 170.7825 = 439.0135. Plain v = (70520000 - 12 x 150^2) / 11 / 12 = 532196.97,
+    t(11) x 729.5183 = 1605.6698."""
+    league = League({"bob": CALLS, "alice": CALLS}, hands=3, meetings=2)
+    league.invent({
+        "alice.bob.1.0": [300, -100, 400], "alice.bob.1.1": [200, -200, 300],
+        "alice.bob.2.0": [-400, 100, -60], "alice.bob.2.1": [-300, 100, -40],
+    })
+    by_group, by_hand = league.figures("--unit", "group"), league.figures()
+    want(by_hand == league.figures("--unit", "hand"), "two groups are counted otherwise than by hands")
+    for figures, half, freedom in ((by_group, 4447.17, 1), (by_hand, 439.0135, 5)):
+        for name, sign in (("alice", 1), ("bob", -1)):
+            for found in (standing(figures, name), cell(figures, name, "bob" if name == "alice" else "alice")):
+                near(found["mean"], sign * 150, "the mean")
+                near(found["half"], half, "the interval")
+                near(found["freedom"], freedom, "nu")
+                near(found["plain_half"], 1605.6698, "the plain interval")
+        near(figures["neighbours"][0]["mean"], 300, "the difference")
+        near(figures["neighbours"][0]["half"], 2 * half, "its interval")
+    want(by_hand["neighbours"][0]["told_apart"] is False, "150 - -150 of 878 is told apart")
+    text = league.table()
+    row = r"1 +alice +\+150\.0 ± 439\.0 +± 1605\.7 +1 +0 +0 +0  by hands: too small where bots learn\n"
+    want(re.search(row, text), f"the table is {text}")
+    want("alice - bob: +300.0 ± 878.0, not told apart" in text, f"the table is {text}")
+    want("by hands" not in league.table("--unit", "group"), "groups are marked as hands")
+
+
+@test
+def a_standing_adds_up_opponents():
+    """x of a against b: 10 30, m 20, v 100; against c: 30 70, m 50, v 400; of b against c: -10 10, m 0, v 100. M of a is 35,
+    V = 500 / 4 = 125, nu = 125^2 / (25^2 + 100^2) = 1.4706, t 12.7062: 142.0596. D of a and b is 35 - -10 = 45,
+    V = (400 + 100 + 4 x 100) / 4 = 225, nu = 225^2 / (100^2 + 25^2 + 100^2) = 2.4545, t 4.3027: 64.5405. D of b and c is
+    -10 - -25 = 15, V = (100 + 400 + 4 x 100) / 4 = 225, nu the same."""
+    figures = three(2, ab=[1, 3], ac=[3, 7], bc=[-1, 1]).figures("--unit", "group")
+    want([it["player"] for it in figures["standings"]] == ["a", "b", "c"], "another order")
+    near(standing(figures, "a")["mean"], 35, "M of a")
+    near(standing(figures, "a")["half"], 142.0596, "its interval")
+    near(standing(figures, "a")["freedom"], 1.4706, "its nu")
+    near(standing(figures, "c")["mean"], -25, "M of c")
+    for it, mean in zip(figures["neighbours"], (45, 15)):
+        near(it["mean"], mean, "D")
+        near(it["half"], 64.5405, "its interval")
+        near(it["freedom"], 2.4545, "its nu")
+        want(not it["told_apart"], "neighbours are told apart")
+
+
+@test
+def five_groups_are_enough():
+    """With four groups the unit is the hand, with five the group; here a group is one hand, so nothing else differs."""
+    for meetings, unit in ((4, "hand"), (5, "group")):
+        figures = three(meetings, ab=[1] * meetings, ac=[2] * meetings, bc=[3] * meetings).figures()
+        want({it["unit"] for it in figures["cells"] + figures["standings"]} == {unit}, f"{meetings} groups: {figures['cells'][0]}")
+        want(figures["cells"][0]["half"] == 0 and figures["cells"][0]["freedom"] is None, "equal units have an interval")
+        want([it["told_apart"] for it in figures["neighbours"]] == [True, True], "what is certain isn't told apart")
+
+
+@test
+def winners_by_bankroll_and_by_run_off():
+    """a beats b by 20 and loses 10 to c, b beats c by 60: M are 5, 20 and -25. c goes first; of the others a beats b."""
+    figures = three(1, ab=[2], ac=[-1], bc=[6]).figures()
+    want([(it["player"], it["rank"], it["run_off"]) for it in figures["standings"]] == [("b", 1, 2), ("a", 2, 1), ("c", 3, 3)], "other ranks")
+    want(figures["standings"][0]["half"] is None and "+20.0 ± ?" in three(1, ab=[2], ac=[-1], bc=[6]).table(), "one unit has an interval")
+    equal = three(1, ab=[2], ac=[-2], bc=[2]).figures()
+    want([(it["player"], it["rank"], it["run_off"]) for it in equal["standings"]] == [("a", 1, 1), ("b", 1, 2), ("c", 1, 3)], "equal ones")
+
+
+@test
+def groups_with_an_unfinished_part_do_not_count():
+    """Of two meetings the second has one seating alone: its match stands in no figure."""
+    league = League({"a": CALLS, "b": CALLS, "c": CALLS}, hands=2, meetings=2)
+    league.invent({"a.b.1.0": [3, 1], "a.b.1.1": [-1, -3], "a.b.2.0": [100, 100]})
+    figures, text = league.figures(status=1), league.table(status=1)
+    want(figures["groups"] == {"planned": 6, "finished": 1} and figures["matches"] == {"planned": 12, "finished": 3}, "other counts")
+    near(cell(figures, "a", "b")["mean"], 20, "the mean of the finished group")
+    want("5 groups with an unfinished part don't count" in text, f"the table says {text}")
+    want([(it["player"], it["mean"]) for it in figures["standings"]] == [("a", 20.0), ("b", -20.0), ("c", None)], "other standings")
+
+
+@test
+def three_at_a_table():
+    """By groups of all six orders, one hand each, the same result in each: a +6 +2, b 0 +4, c -6 -6 chips of a blind of 100.
+    m of a is 40, v = (20^2 + 20^2) / 2 = 400, 12.7062 x 20 = 254.124. a - b is 60 and -20: D = 20, v = 1600: 508.248."""
+    league = League({"a": CALLS, "b": CALLS, "c": CALLS}, game=NOLIMIT_3P, hands=1, meetings=2)
+    league.does("plan")
+    results = {1: {"a": 6, "b": 0, "c": -6}, 2: {"a": 2, "b": 4, "c": -6}}
+    lines = [line.split(" ") for line in league.plan()]
+    league.invent({name: [[results[int(meeting)][it] for it in people[3:]]] for name, meeting, *people in lines})
+    figures = league.figures("--unit", "group")
+    near(cell(figures, "a", "b c")["mean"], 40, "m of a")
+    near(cell(figures, "a", "b c")["half"], 254.124, "its interval")
+    near(figures["neighbours"][0]["mean"], 20, "D of a and b")
+    near(figures["neighbours"][0]["half"], 508.248, "its interval")
+    want([(it["player"], it["run_off"]) for it in figures["standings"]] == [("a", 1), ("b", 2), ("c", 3)], "another order")
+
+
+def drawn(dice, names, means, meetings, hands=1000):
+    """Matches without duplicates of some pairs: each has a true mean in chips a match, and normal noise of its own size."""
+    plan, matches = [], []
+    for number, (pair, (mean, noise)) in enumerate(means.items(), start=1):
+        for meeting in range(1, meetings + 1):
+            planned = Planned(len(plan) + 1, f"{number}.{meeting}", pair, meeting, pair)
+            chips = round(dice.gauss(mean, noise))
+            plan.append(planned)
+            result = {"seats": pair, "chips": [chips, -chips], "squares": [chips * chips] * 2, **dict.fromkeys(("restarts", "defaults", "mended"), [0, 0])}
+            matches.append(Played(planned, result))
+    league = SimpleNamespace(players=names, seats=2, blind=100, hands=hands)
+    return Standings(league, plan, matches)
+
+
+@test
+def intervals_cover_in_nineteen_of_twenty_drawn_leagues():
+    """1,000 leagues of one player against five, ten groups each; and 1,000 of three players, where the difference of two is
+    looked at, whoever is ahead. 930 to 970 are three standard errors."""
+    dice, covered, told = random.Random(67), 0, 0
+    names = ["hero", *"abcde"]
+    means = {("hero", name): (20000 * at - 30000, 50000 * (at + 1)) for at, name in enumerate("abcde")}
+    true = Fraction(sum(mean for mean, _ in means.values()), 5) * 1000 / 1000 / 100
+    others = {("a", "b"): (3000, 40000), ("a", "c"): (-5000, 90000), ("b", "c"): (9000, 20000)}
+    ahead = Fraction(1, 100) * (Fraction(3000 - 5000, 2) - Fraction(-3000 + 9000, 2))
+    for _ in range(1000):
+        hero = next(it for it in drawn(dice, names, means, 10).standings if it.name == "hero")
+        covered += hero.interval.covers(true)
+        league = drawn(dice, ["a", "b", "c"], others, 10)
+        by_name = {it.name: it for it in league.standings}
+        told += league.side_by_side(by_name["a"], by_name["b"]).ahead.covers(ahead)
+    want(930 <= covered <= 970, f"{covered} of 1000 intervals cover a player's mean")
+    want(930 <= told <= 970, f"{told} of 1000 intervals cover the difference of two")
+
+
+@test
+def nothing_is_lost_by_rounding():
+    """Great sums with small differences: the variance of 10^15 and 10^15 + 2 is 2, that of their mean 1."""
+    found = estimate([10**15, 10**15 + 2])
+    want((found.mean, found.variance) == (10**15 + 1, 1.0), f"it is {found}")
+    want(combined([(Fraction(1), found)]).freedom == 1, "nu of two units isn't 1")
