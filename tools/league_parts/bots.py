@@ -138,10 +138,13 @@ class Bot:
 
 
 def end_all(bots):
-    """Ends players' programs, all at once."""
+    """Ends players' programs, all at once. One that belongs to another user, and can't be ended, is left behind."""
     end([bot.process.pid for bot in bots], lambda: [bot.process.poll() for bot in bots])
     for bot in bots:
-        bot.process.wait()
+        try:
+            bot.process.wait(GRACE)
+        except subprocess.TimeoutExpired:
+            continue
         bot.keeper.ended(bot.process.pid)
         bot.reader.join(GRACE)
 

@@ -26,11 +26,12 @@ PAGE = """<!DOCTYPE html>
 </body>
 </html>
 """
-MEANING = (
-    "mbb/hand are thousandths of the greatest blind won a hand. The interval behind ± covers 95 %: it counts the mean of all "
-    "seatings of one meeting as one result, so that the luck of the cards, which all seatings share, is taken out. "
-    "“plain” is the interval that one would have if each hand were counted by itself."
+MEANING = "mbb/hand are thousandths of the greatest blind won a hand, and the interval behind ± is one of 95 %. {unit}"
+DUPLICATE = (
+    "The mean of all seatings of one meeting is one result, so that the luck of the cards, which all seatings share, is taken "
+    "out. “plain” is the interval that one would have if each hand were counted by itself."
 )
+SINGLE = "Each match is one result. “plain” is the interval that one would have if each hand were counted by itself."
 FEW_GROUPS = (
     "Against some opponents fewer than {fewest} meetings are finished. There the interval counts each hand of all seatings "
     "together as one result ({mark})."
@@ -137,7 +138,8 @@ def standing_table(standings):
             *[str(it.incidents[key]) for key in INCIDENTS], *times(standings, it.name),
         ]))
     header = ["rank", ("left", "player"), "mbb/hand", "", "plain", "run-off", *INCIDENTS, "a hand", "longest response"]
-    notes = [paragraph(MEANING, "quiet"), paragraph(trust(standings), "quiet")]
+    meaning = MEANING.format(unit=DUPLICATE if standings.league.duplicate else SINGLE)
+    notes = [paragraph(meaning, "quiet"), paragraph(trust(standings), "quiet")]
     if standings.is_by_hands:
         notes.insert(1, paragraph(FEW_GROUPS.format(fewest=FEWEST_GROUPS, mark=BY_HANDS)))
     return section("Standings", table(header, rows), *notes)

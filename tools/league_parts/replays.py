@@ -8,8 +8,8 @@ from match_engine.program import TOP
 from .faults import Unfinished
 
 REPLAY = TOP / "tools/replay"
-# How often progress is told, in seconds.
-EVERY = 1
+# How often progress is told on a terminal and elsewhere, in seconds.
+ON_TERMINAL, ELSEWHERE = 1, 60
 
 
 def make_replays(standings, is_revealed):
@@ -27,7 +27,7 @@ def make_replays(standings, is_revealed):
             make(path, standings.league, group, is_revealed)
         for place, match in enumerate(group.matches, start=1):
             addresses[match.planned.name] = f"{folder.name}/{path.name}#{place}/0" if len(group.matches) > 1 else f"{folder.name}/{path.name}"
-        if time.monotonic() > told + EVERY:
+        if time.monotonic() > told + (ON_TERMINAL if sys.stderr.isatty() else ELSEWHERE):
             told = time.monotonic()
             print(f"league: pages of hands of {count + 1} of {len(groups)} groups", file=sys.stderr)
     return addresses

@@ -3,8 +3,8 @@ from collections import Counter
 from fractions import Fraction
 from typing import Dict, List, NamedTuple, Optional, Tuple
 
-from . import groups as grouping
-from .estimates import Estimate, Interval, combined, estimate, estimate_of_sums
+from .estimates import Estimate, Interval, combined, estimate, estimate_of_sums, mean_of
+from .groups import grouped
 
 # With fewer groups than this the unit is the hand.
 FEWEST_GROUPS = 5
@@ -49,13 +49,12 @@ class Neighbours(NamedTuple):
 
 
 class Standings:
-    """The table of a league. `unit` is hand or group where one of them is forced."""
+    """The table of a league's plan and its finished matches. `unit` is hand or group where one of them is forced."""
 
-    def __init__(self, league, plan, unit=None):
-        self.league, self.unit = league, unit
-        self.matches = list(grouping.played(league, plan))
+    def __init__(self, league, plan, finished, unit=None):
+        self.league, self.unit, self.matches = league, unit, list(finished)
         self.planned = len(plan)
-        self.groups, self.planned_groups = grouping.grouped(plan, self.matches)
+        self.groups, self.planned_groups = grouped(plan, self.matches)
         self.finished_groups = sum(map(len, self.groups.values()))
         self.samples = {players: Sample(self, players, found) for players, found in self.groups.items()}
         self.cells = {name: [sample.cell(name) for sample in self.samples.values() if name in sample.players] for name in league.players}
@@ -85,10 +84,8 @@ class Standings:
 
     def standing(self, name, rank, run_off, incidents):
         cells = self.cells[name]
-        weight = Fraction(1, max(1, len(cells)))
-        interval, plain = (combined([(weight, estimate) for estimate in of]) if cells else None for of in (
-            [it.estimate for it in cells], [it.plain_estimate for it in cells]
-        ))
+        interval = mean_of([it.estimate for it in cells]) if cells else None
+        plain = mean_of([it.plain_estimate for it in cells]) if cells else None
         return Standing(name, rank, run_off, interval, plain, any(it.is_by_hands for it in cells), incidents)
 
     def run_off(self, means):
@@ -166,6 +163,4 @@ class Sample:
     def cell(self, name):
         opponents = tuple(it for it in self.players if it != name)
         found, plain = self.estimate(name), self.plain(name)
-        return Cell(
-            opponents, len(self.groups), self.is_by_hands, found, combined([(Fraction(1), found)]), plain, combined([(Fraction(1), plain)])
-        )
+        return Cell(opponents, len(self.groups), self.is_by_hands, found, mean_of([found]), plain, mean_of([plain]))
