@@ -1,4 +1,5 @@
 """Tests of matches that go right, or whose players do wrong."""
+import os
 import re
 import shutil
 import sys
@@ -76,6 +77,27 @@ def responses_that_take_too_long():
     want(result["restarts"] == [0, 1] and result["defaults"][1] >= 2 and result["defaults"][0] == 0, f"it is {result}")
     notes = (league.kept / "matches/calls.silent.1.0/notes").read_text()
     want("silent: out of time: no response came within 0.300 s: started again (1 of 1)" in notes, f"the notes are {notes}")
+
+
+@test
+def one_who_never_comes_costs_the_other_nothing():
+    """The limit of the start passes while the first seat is waited for; who came to the second one long before has come in
+    time. None of the first one's processes is left."""
+    league = League({"calls": command("calls"), "stubborn": command("stubborn")}, hands=2, restarts=1, start_timeout=1500)
+    league.does("match", "2")
+    result = league.result("calls.stubborn.1.1")
+    want(result["seats"] == ["stubborn", "calls"] and result["restarts"] == [1, 0], f"it is {result}")
+    want(result["defaults"][0] > 0 == result["defaults"][1], f"it is {result}")
+    left = [number for number in os.listdir("/proc") if number.isdigit() and str(league.folder) in folder_of(number)]
+    want(not left, f"processes {left} are left")
+
+
+def folder_of(process):
+    """In which folder a process works; nothing where it has ended."""
+    try:
+        return os.readlink(f"/proc/{process}/cwd")
+    except OSError:
+        return ""
 
 
 @test

@@ -119,14 +119,13 @@ class Bot:
 
     def read(self):
         """Keeps what the program writes, as far as there is room. A program that runs on is never stopped by a full pipe."""
-        source = self.process.stdout.fileno()
         with open(self.output, "ab", buffering=0) as file:
-            try:
-                for piece in iter(lambda: os.read(source, 65536), b""):
-                    room = MOST_OUTPUT - file.tell()
-                    file.write(piece[: max(room, 0)])
-            except OSError:
-                pass
+            for piece in iter(lambda: os.read(self.process.stdout.fileno(), 65536), b""):
+                try:
+                    file.write(piece[: max(MOST_OUTPUT - file.tell(), 0)])
+                except OSError:
+                    # The disk is full: that is no reason to stop a player.
+                    continue
 
     def is_running(self):
         """Whether its program, or one that it started, is there."""

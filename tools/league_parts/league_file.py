@@ -39,6 +39,8 @@ class League(NamedTuple):
     path: Path
     name: str
     folder: Path
+    # The game's path as the file has it, which stands in each log's head, and from the root.
+    game_word: str
     game_path: Path
     game: Game
     hands: int
@@ -95,7 +97,7 @@ class Reader:
             raise self.wrong("nodes is 0 in a league for now: each match is dealt by one process")
         path, game = self.game()
         league = League(
-            self.path, self.named("name", self.entries, "the league"), self.place("folder", self.entries), path, game,
+            self.path, self.named("name", self.entries, "the league"), self.place("folder", self.entries), self.entries["game"], path, game,
             self.number("hands", *HANDS), self.number("meetings", *MEETINGS), self.truth("duplicate"), limits,
             self.number("restarts", *COUNT), self.players(),
         )

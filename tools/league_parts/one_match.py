@@ -22,6 +22,8 @@ from .plan import is_finished
 HOST = "127.0.0.1"
 # The most bytes of a match's notes.
 MOST_NOTES = 16 * 2**20
+# Why a program isn't started where the machine is at fault, and not the player.
+OF_MACHINE = {errno.EAGAIN, errno.ENOMEM, errno.EMFILE, errno.ENFILE}
 
 
 def lock(league, name):
@@ -77,12 +79,14 @@ class Table(Watcher):
             self.start(seat)
 
     def start(self, seat):
-        """Starts a seat's player. That his program can't be started is told by the notes; nobody comes then."""
+        """Starts a seat's player. Where his program can't be started the notes say why, and nobody comes."""
         player = self.players[seat]
         try:
             self.bots[seat] = Bot(player, HOST, self.ports[seat], self.folder / f"{player.name}.out", self.keeper)
         except OSError as why:
-            self.note(f"{player.name}: his program can't be started: {why}")
+            if why.errno in OF_MACHINE:
+                raise
+            self.note(f"{player.name}: the program can't be started: {why}")
 
     def started(self, at):
         self.all_there = time.monotonic()
@@ -134,7 +138,7 @@ def play(settings, table):
 
 def settings_of(league, name, names, hands, seed, folder):
     return Settings(
-        name=name, game=str(league.game_path), hands=hands, names=names, seed=seed, limits=league.limits, listen=HOST,
+        name=name, game=league.game_word, hands=hands, names=names, seed=seed, limits=league.limits, listen=HOST,
         log=folder / f"{name}.log", transactions=folder / f"{name}.tlog", is_resumed=True, may_return=True,
     )
 
@@ -186,7 +190,7 @@ def result_text(league, planned, result, files, begun, folder):
         "host": socket.gethostname(), "processors": os.cpu_count(), "load": [round(it, 2) for it in os.getloadavg()],
         "began": round(begun, 3), "ended": round(time.time(), 3),
         "versions": {"program": sha256(PROGRAM), "python": platform.python_version(), "system": platform.platform()},
-        "files": files,
+        "commands": {name: league.players[name].command for name in planned.seats}, "files": files,
     }, indent=1) + "\n"
 
 

@@ -26,7 +26,7 @@ PAGE = """<!DOCTYPE html>
 </body>
 </html>
 """
-MEANING = "mbb/hand are thousandths of the greatest blind won a hand, and the interval behind ± is one of 95 %. {unit}"
+MEANING = "mbb/hand are thousandths of the greatest blind won a hand, and the interval behind ± is one of 95\u00a0%. {unit}"
 DUPLICATE = (
     "The mean of all seatings of one meeting is one result, so that the luck of the cards, which all seatings share, is taken "
     "out. “plain” is the interval that one would have if each hand were counted by itself."

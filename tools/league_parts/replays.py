@@ -5,8 +5,6 @@ import time
 
 from match_engine.program import TOP
 
-from .faults import Unfinished
-
 REPLAY = TOP / "tools/replay"
 # How often progress is told on a terminal and elsewhere, in seconds.
 ON_TERMINAL, ELSEWHERE = 1, 60
@@ -23,10 +21,9 @@ def make_replays(standings, is_revealed):
     addresses, told = {}, time.monotonic()
     for count, group in enumerate(groups):
         path = folder / f"{'.'.join(group.players)}.{group.meeting}.html"
-        if not is_made(path, standings.league, group):
-            make(path, standings.league, group, is_revealed)
-        for place, match in enumerate(group.matches, start=1):
-            addresses[match.planned.name] = f"{folder.name}/{path.name}#{place}/0" if len(group.matches) > 1 else f"{folder.name}/{path.name}"
+        if is_made(path, standings.league, group) or make(path, standings.league, group, is_revealed):
+            for place, match in enumerate(group.matches, start=1):
+                addresses[match.planned.name] = f"{folder.name}/{path.name}" + (f"#{place}/0" if len(group.matches) > 1 else "")
         if time.monotonic() > told + (ON_TERMINAL if sys.stderr.isatty() else ELSEWHERE):
             told = time.monotonic()
             print(f"league: pages of hands of {count + 1} of {len(groups)} groups", file=sys.stderr)
@@ -43,7 +40,9 @@ def is_made(path, league, group):
 
 
 def make(path, league, group, is_revealed):
+    """Makes a page; whether that went well. Where it didn't the league's page has no link to it."""
     words = [sys.executable, REPLAY, league.game_path, *logs(league, group), "-o", path, *(["--all"] if is_revealed else [])]
     ran = subprocess.run(words, stdin=subprocess.DEVNULL, stdout=subprocess.DEVNULL, stderr=subprocess.PIPE)
     if ran.returncode:
-        raise Unfinished(f"tools/replay makes no page {path.name}: {ran.stderr.decode(errors='replace').strip()}")
+        print(f"league: no page of hands {path.name}: {ran.stderr.decode(errors='replace').strip()}", file=sys.stderr)
+    return ran.returncode == 0
