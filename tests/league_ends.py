@@ -103,7 +103,7 @@ def an_interrupt_ends_all_and_leaves_all_to_go_on():
     time.sleep(0.05)
     os.killpg(run.pid, signal.SIGINT)
     said = run.communicate(timeout=WAIT)[1]
-    want(run.returncode == 1 and "interrupted; the same command goes on with it" in said, f"status {run.returncode}: {said}")
+    want(run.returncode == 1 and "interrupted; the same command resumes it" in said, f"status {run.returncode}: {said}")
     want(are_ended(below), "a process outlived the run")
     kept = {path: path.read_bytes() for path in league.kept.glob("running/*/*.tlog")}
     want(kept, "nothing is left to go on with")

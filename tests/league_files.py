@@ -87,6 +87,7 @@ def wrong_files_are_refused_in_plain_sentences():
         ("game", "none.game", "none.game can't be read: No such file or directory"),
         ("game", "l.toml", "isn't a game file"),
         ("folder", 7, "folder is a path, not 7"),
+        ("folder", ".", "folder is one that the league has to itself, and not one in which its file lies"),
     ):
         league = League(dict.fromkeys("ab", CALLS))
         league.entries[key] = value
@@ -100,6 +101,7 @@ def wrong_files_are_refused_in_plain_sentences():
         ({"command": "x 'y"}, "the command of c can't be split into words: No closing quotation"),
         ({"command": "x"}, "the command of c has no {port}, so nobody would come to it"),
         ({"folder": "none"}, "the folder of c, "),
+        ({"folder": 7}, "folder is a path, not 7"),
         ({"at_once": 0}, "at_once of c is a number from 1 on, not 0"),
         ({"port": 1}, "no key is called 'port' in the table of c; there are at_once, command, folder, name"),
     ):
@@ -108,6 +110,9 @@ def wrong_files_are_refused_in_plain_sentences():
         league.write()
         said = league.does("plan", status=2)[1]
         want(text in said and said.count("\n") == 1, f"{player}: {said}")
+    del league.players["c"]["command"]
+    league.write()
+    want("command is missing in the table of c" in league.does("plan", status=2)[1], "a player without a command")
     league.write("name = ")
     want("l.toml isn't a TOML file" in league.does("plan", status=2)[1], "text that isn't TOML")
     league.file.unlink()

@@ -91,14 +91,11 @@ class Keeper:
         os.waitpid(self.process, 0)
 
 
-def set_apart(parent, mask):
+def set_apart(parent):
     """What a player's process does before it becomes his program: it gets a process group of its own, and ends where its
     parent ends."""
     os.setpgid(0, 0)
     LIBRARY.prctl(PR_SET_PDEATHSIG, signal.SIGKILL)
-    signal.pthread_sigmask(signal.SIG_SETMASK, mask)
-    for number in (signal.SIGINT, signal.SIGTERM):
-        signal.signal(number, signal.SIG_DFL)
     if os.getppid() != parent:
         os._exit(1)
 
@@ -111,7 +108,7 @@ class Bot:
         parent, self.keeper, self.output = os.getpid(), keeper, output
         self.process = subprocess.Popen(
             player.words(host, port), cwd=player.folder, stdin=subprocess.DEVNULL, stdout=subprocess.PIPE, stderr=subprocess.STDOUT,
-            preexec_fn=lambda: set_apart(parent, set()),
+            preexec_fn=lambda: set_apart(parent),
         )
         self.keeper.begun(self.process.pid)
         self.reader = threading.Thread(target=self.read, daemon=True)
@@ -131,9 +128,6 @@ class Bot:
         """Whether its program, or one that it started, is there."""
         self.process.poll()
         return is_alive(self.process.pid)
-
-    def end(self):
-        end_all([self])
 
 
 def end_all(bots):

@@ -34,9 +34,7 @@ class Group(NamedTuple):
 
     def by_hands(self, league):
         """By name the chips of hand h of all seatings together, in the order of the hands."""
-        seatings = [
-            dict(zip(it.planned.seats, hand_chips(it.log(league), it.planned.seats))) for it in self.matches
-        ]
+        seatings = [dict(zip(it.planned.seats, hand_chips(it.log(league), it.planned.seats))) for it in self.matches]
         return {name: [sum(hands) for hands in zip(*(seating[name] for seating in seatings))] for name in self.players}
 
 

@@ -97,7 +97,7 @@ class Reader:
             raise self.wrong("nodes is 0 in a league for now: each match is dealt by one process")
         path, game = self.game()
         league = League(
-            self.path, self.named("name", self.entries, "the league"), self.place("folder", self.entries), self.entries["game"], path, game,
+            self.path, self.named("name", self.entries, "the league"), self.folder(), self.entries["game"], path, game,
             self.number("hands", *HANDS), self.number("meetings", *MEETINGS), self.truth("duplicate"), limits,
             self.number("restarts", *COUNT), self.players(),
         )
@@ -139,6 +139,13 @@ class Reader:
     def place(self, key, entries):
         return self.path.parent / self.value(key, str, "a path", entries)
 
+    def folder(self):
+        """The league's own folder, which is closed to others: so it can't be one in which the file lies."""
+        folder = self.place("folder", self.entries)
+        if self.path.is_relative_to(folder.resolve()):
+            raise self.wrong("folder is one that the league has to itself, and not one in which its file lies")
+        return folder
+
     def game(self):
         path = self.place("game", self.entries)
         try:
@@ -165,6 +172,9 @@ class Reader:
 
     def player(self, entries):
         name = self.named("name", entries, "a player")
+        for key in ("command", "folder"):
+            if key not in entries:
+                raise self.wrong(f"{key} is missing in the table of {name}")
         self.refuse_others(entries, PLAYER_KEYS, f" in the table of {name}")
         try:
             words = shlex.split(self.value("command", str, "a text", entries))

@@ -22,18 +22,21 @@ from .plan import is_finished
 HOST = "127.0.0.1"
 # The most bytes of a match's notes.
 MOST_NOTES = 16 * 2**20
+# What another process does that has a lock, where it isn't a match's.
+LOCKED = {"run": "another process runs this league", "try": "another process tries the players of this league"}
 # Why a program isn't started where the machine is at fault, and not the player.
 OF_MACHINE = {errno.EAGAIN, errno.ENOMEM, errno.EMFILE, errno.ENFILE}
 
 
 def lock(league, name):
-    """Takes a lock of the league until this process and those that it forked have ended. Busy where another one has it."""
+    """Takes the lock of a match, or of the league's runs or trials, until this process and those that it forked have ended.
+    Busy where another one has it."""
     descriptor = os.open(league.folder / "locks" / name, os.O_RDWR | os.O_CREAT, 0o600)
     try:
         fcntl.flock(descriptor, fcntl.LOCK_EX | fcntl.LOCK_NB)
     except BlockingIOError as why:
         os.close(descriptor)
-        raise Busy(f"another process plays {name}" if name != "run" else "another process runs this league") from why
+        raise Busy(LOCKED.get(name, f"another process plays {name}")) from why
     return descriptor
 
 
@@ -62,7 +65,7 @@ def end_by_signals():
 class Table(Watcher):
     """The players of a match, and the notes of what they do."""
 
-    def __init__(self, players, restarts, folder, keeper, since=0):
+    def __init__(self, players, restarts, folder, keeper):
         """`restarts` is how often a player may be started again."""
         self.players, self.restarts, self.folder, self.keeper = players, restarts, folder, keeper
         self.bots, self.ports = [None] * len(players), []
@@ -144,8 +147,8 @@ def settings_of(league, name, names, hands, seed, folder):
 
 
 def play_planned(league, planned, local, is_again):
-    """Plays a match of the plan, or goes on with it, in a local folder, and puts its result in place. It says what was
-    done."""
+    """Plays a match of the plan, or resumes it, in a local folder, and puts its result in place. Returns what to say of
+    it."""
     held = lock(league, planned.name)
     if is_again:
         put_away(league, planned, local)
@@ -220,7 +223,9 @@ def put_in_place(folder, place):
             return
         if why.errno != errno.EXDEV:
             raise
-    copy = place.with_name(f".{place.name}.{socket.gethostname()}.{os.getpid()}")
+    # Who holds the match's lock is alone here: what is there was left by a process that was killed.
+    copy = place.with_name(f".{place.name}")
+    shutil.rmtree(copy, ignore_errors=True)
     shutil.copytree(folder, copy)
     os.chmod(copy, 0o700)
     os.sync()
@@ -235,5 +240,5 @@ def put_away(league, planned, local):
     if not place.exists():
         return
     away.mkdir(mode=0o700, exist_ok=True)
-    number = 1 + sum(path.name.rpartition(".")[0] == planned.name for path in away.iterdir())
-    os.rename(place, away / f"{planned.name}.{number}")
+    numbers = [int(number) for name, _, number in (path.name.rpartition(".") for path in away.iterdir()) if name == planned.name]
+    os.rename(place, away / f"{planned.name}.{max(numbers, default=0) + 1}")

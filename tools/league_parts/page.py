@@ -58,12 +58,12 @@ def write(standings, is_revealed):
     return path
 
 
-def row(cells, tag="td", first="th"):
+def row(cells, tag="td"):
     """A line of a table; cells are HTML, or pairs of a class and HTML. The first one names the line."""
     made = []
     for at, cell in enumerate(cells):
         kind, text = cell if isinstance(cell, tuple) else ("", cell)
-        name = first if at == 0 else tag
+        name = "th" if at == 0 else tag
         made.append(f'<{name} class="{kind}">{text}</{name}>' if kind else f"<{name}>{text}</{name}>")
     return f"<tr>{''.join(made)}</tr>"
 
@@ -224,13 +224,12 @@ def matches(standings, replays, is_revealed):
 
 
 def match_list(standings, players, replays, is_revealed):
-    rows, seeds = [], {}
+    rows = []
     whole = {group.meeting for group in standings.groups.get(players, [])}
     secret = deals.secret(standings.league) if is_revealed else None
     for it in sorted((it for it in standings.matches if it.planned.players == players), key=lambda it: it.planned.number):
         meeting, planned = it.planned.meeting, it.planned
         seed = deals.seed(secret, players, meeting) if is_revealed and meeting in whole else None
-        seeds[meeting] = seed
         links = [link(place_of(planned, f"{planned.name}.log"), "log"), link(place_of(planned, "notes"), "notes")]
         links += [link(replays[planned.name], "hands")] if planned.name in replays else []
         rows.append(row([

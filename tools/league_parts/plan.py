@@ -8,9 +8,6 @@ from typing import NamedTuple, Tuple
 
 from .faults import Unfinished, Wrong
 
-# What can't change once matches were played: their results couldn't be added up.
-FIXED = "what can't change any more"
-
 
 class Planned(NamedTuple):
     """A match of the plan: its number from 1 on, its name, who plays, by name, which meeting of these players it is,
@@ -40,8 +37,8 @@ def seatings(players, duplicate, meeting):
 
 
 def wanted(league):
-    """The matches that the league's file asks for: name, players, meeting, seats. First meetings come first, and players
-    stand by their names, so that their order in the file is of no account."""
+    """The matches that the league's file asks for: name, players, meeting, seats. First meetings come first. Players are
+    sorted by name, so that their order in the file doesn't matter."""
     for meeting in range(1, league.meetings + 1):
         for players in itertools.combinations(sorted(league.players), league.seats):
             for number, seats in seatings(players, league.duplicate, meeting):
@@ -90,10 +87,11 @@ def match(league, number, text):
     """The match of a line of the plan."""
     name, meeting, *people = text.split(" ")
     players, seats = tuple(people[: league.seats]), tuple(people[league.seats :])
-    missing = [player for player in players if player not in league.players]
-    if missing or len(seats) != len(players) or not meeting.isdigit():
-        which = f"the plan has matches of {missing[0]}" if missing else f"line {number} of the plan isn't one of a match"
-        raise Wrong(f"{league.path.name}: {which}, whom the file doesn't name; a player who was planned can't be taken out" if missing else which)
+    if len(seats) != len(players) or not meeting.isdigit():
+        raise Wrong(f"{league.folder / 'plan'}: line {number} isn't one of a match")
+    missing = next((player for player in players if player not in league.players), None)
+    if missing is not None:
+        raise Wrong(f"{league.path.name}: the plan has matches of {missing}, whom the file doesn't name; a player who was planned stays")
     return Planned(number, name, players, int(meeting), seats)
 
 

@@ -185,10 +185,10 @@ def run(league, plan, jobs, command):
     try:
         is_whole = playing.play()
     except Interrupted:
-        print("league: interrupted; the same command goes on with it", file=sys.stderr)
+        print("league: interrupted; the same command resumes it", file=sys.stderr)
         return 1
     finally:
         os.close(held)
     for match in playing.failed:
-        print(f"league: {match.name} isn't finished; the same command goes on with it", file=sys.stderr)
+        print(f"league: {match.name} isn't finished; the same command resumes it", file=sys.stderr)
     return 0 if is_whole else 1

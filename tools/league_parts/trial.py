@@ -8,7 +8,8 @@ from match_engine.program import TOP
 from .bots import Keeper
 from .faults import Unfinished
 from .league_file import Player
-from .one_match import Table, end_by_signals, play, settings_of
+from .one_match import Table, end_by_signals, lock, play, settings_of
+from .table import counted
 
 HANDS = 20
 CALLER = TOP / "examples/bots/caller"
@@ -49,7 +50,7 @@ def try_player(league, player, keeper):
     if table.why is not None:
         return f"{table.why}; what he wrote is in {folder / (player.name + '.out')}", None
     mean = result.used[0] / max(1, table.answers) / MILLISECOND
-    mended = f"{result.mended[0]} actions were mended, see {folder / 'notes'}" if result.mended[0] else "no action was mended"
+    mended = f"{counted(result.mended[0], 'mended action')}, see {folder / 'notes'}" if result.mended[0] else "no mended action"
     return None, (
         f"came within {table.all_there - table.begun:.1f} s; {table.answers} responses of {mean:.1f} ms, "
         f"the longest {result.worst[0] / MILLISECOND:.1f} ms; {mended}"
@@ -58,6 +59,7 @@ def try_player(league, player, keeper):
 
 def try_all(league):
     """Tries each player; the exit status, 1 where one failed."""
+    lock(league, "try")
     end_by_signals()
     keeper, status = Keeper(), 0
     try:
