@@ -13,11 +13,10 @@ from serving import TOP, want
 
 sys.path.insert(0, str(TOP / "tools"))
 
-import match_engine  # noqa: F401 (league_parts needs the path that it adds)
 from league_parts.estimates import combined, estimate
 from league_parts.groups import Played
 from league_parts.plan import Planned
-from league_parts.standings import Standings
+from league_parts.standings import INCIDENTS, Standings
 from league_parts.students_t import t
 
 CALLS = "true {port}"
@@ -164,8 +163,8 @@ def drawn(dice, names, means, meetings, hands=1000):
             planned = Planned(len(plan) + 1, f"{number}.{meeting}", pair, meeting, pair)
             chips = round(dice.gauss(mean, noise))
             plan.append(planned)
-            result = {"seats": pair, "chips": [chips, -chips], "squares": [chips * chips] * 2, **dict.fromkeys(("restarts", "defaults", "mended"), [0, 0])}
-            matches.append(Played(planned, result))
+            result = {"seats": pair, "chips": [chips, -chips], "squares": [chips * chips] * 2}
+            matches.append(Played(planned, {**result, **dict.fromkeys(INCIDENTS, [0, 0])}))
     league = SimpleNamespace(players=names, seats=2, blind=100, hands=hands)
     return Standings(league, plan, matches)
 

@@ -8,7 +8,7 @@ from html.parser import HTMLParser
 
 sys.dont_write_bytecode = True
 
-from dealer_runs import NOLIMIT_2P, NOLIMIT_3P, NOLIMIT_6P, WAIT
+from dealer_runs import NOLIMIT_3P, NOLIMIT_6P, WAIT
 from league_runs import TOOL, Bots, League, command, test
 from serving import TOP, want
 
@@ -136,7 +136,6 @@ def a_meeting_has_one_seed_that_nothing_tells():
     other interface; another program's value for a known secret is beside it. Same cards in both seatings, others in
     the next meeting; no command and no file tells a seed before `page --reveal`."""
     sys.path.insert(0, str(TOP / "tools"))
-    import match_engine  # noqa: F401 (league_parts needs the path that it adds)
     from league_parts.deals import seed
 
     # printf 'alice|bob|1' | openssl dgst -sha256 -mac HMAC -macopt hexkey:000102..1f: 16 digits, and half of them

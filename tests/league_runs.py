@@ -11,8 +11,8 @@ from pathlib import Path
 
 sys.dont_write_bytecode = True
 
-from dealer_runs import NOLIMIT_2P, NOLIMIT_3P, PROGRAM, WAIT, compiled, fields_of
-from serving import FAST, NAMES, TOP, want
+from dealer_runs import NOLIMIT_2P, PROGRAM, WAIT, fields_of
+from serving import FAST, TOP, want
 
 TOOL = TOP / "tools/league"
 BOT = [sys.executable, str(TOP / "tests/league_bot.py")]

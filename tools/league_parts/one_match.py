@@ -9,7 +9,6 @@ import shutil
 import signal
 import socket
 import time
-from pathlib import Path
 
 from match_engine import AGAIN, DEFAULT, PROGRAM, InUse, Match, MatchFault, Settings, Watcher
 

@@ -171,7 +171,7 @@ def cross_table(standings):
     rows = []
     for name in order:
         found = {it.opponents[0]: it for it in standings.cells[name]}
-        cells = [("own", "") if other == name else cell_link(name, found[other]) if other in found else ("quiet", "–") for other in order]
+        cells = [cell_link(name, found[other]) if other in found else ("own", "") if other == name else ("quiet", "–") for other in order]
         rows.append(row([("left", escape(name)), *cells]))
     return section("Each against each", table([("left", "mbb/hand of"), *map(escape, order)], rows))
 
@@ -199,8 +199,8 @@ def incidents(standings):
             if any(counts):
                 notes = link(place_of(match.planned, "notes"), match.planned.name)
                 rows.append(row([("left", notes), ("left", escape(name)), *map(str, counts)]))
-    parts = [table([("left", "match"), ("left", "player"), *INCIDENTS], rows)] if rows else [paragraph("No player failed, and no action was mended.")]
-    return section("Incidents", *parts, *[paragraph(text) for text in [*replaced(standings.league), *changed_files(standings)]])
+    found = table([("left", "match"), ("left", "player"), *INCIDENTS], rows) if rows else paragraph("No player failed, and no action was mended.")
+    return section("Incidents", found, *map(paragraph, [*replaced(standings.league), *changed_files(standings)]))
 
 
 def replaced(league):
@@ -232,11 +232,12 @@ def match_list(standings, players, replays, is_revealed):
         seed = deals.seed(secret, players, meeting) if is_revealed and meeting in whole else None
         links = [link(place_of(planned, f"{planned.name}.log"), "log"), link(place_of(planned, "notes"), "notes")]
         links += [link(replays[planned.name], "hands")] if planned.name in replays else []
-        rows.append(row([
-            str(planned.number), ("left", escape(planned.name)), ("left", escape(", ".join(planned.seats))),
-            *[f"{it.of('chips', name):+d}" for name in players], ("left", " · ".join(links)), *([f"<code>{seed or 'not yet'}</code>"] if is_revealed else []),
-        ]))
-    header = ["number", ("left", "match"), ("left", "seats"), *[f"chips of {escape(name)}" for name in players], "", *(["seed"] if is_revealed else [])]
+        cells = [str(planned.number), ("left", escape(planned.name)), ("left", escape(", ".join(planned.seats)))]
+        cells += [f"{it.of('chips', name):+d}" for name in players]
+        cells += [("left", " · ".join(links)), *([f"<code>{seed or 'not yet'}</code>"] if is_revealed else [])]
+        rows.append(row(cells))
+    header = ["number", ("left", "match"), ("left", "seats"), *[f"chips of {escape(name)}" for name in players], ""]
+    header += ["seed"] if is_revealed else []
     title = f"{', '.join(map(escape, players))}: {len(rows)} finished"
     is_open = " open" if len(standings.matches) <= FEW_MATCHES else ""
     return f'<details{is_open}><summary>{title}</summary>\n<div id="{names_of(players)}">{table(header, rows)}</div>\n</details>'

@@ -1,7 +1,7 @@
 """What the finished groups of a league say of its players, in thousandths of the greatest blind a hand (mbb/hand)."""
 from collections import Counter
 from fractions import Fraction
-from typing import Dict, List, NamedTuple, Optional, Tuple
+from typing import Dict, NamedTuple, Optional, Tuple
 
 from .estimates import Estimate, Interval, combined, estimate, estimate_of_sums, mean_of
 from .groups import grouped

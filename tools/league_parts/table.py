@@ -44,7 +44,8 @@ def head(standings):
     kind = "duplicate" if league.duplicate else "no duplicates"
     lines = [f"{league.name}: {counted(len(league.players), 'player')}, {league.hands} hands a match, {kind}, in mbb/hand"]
     open_groups = standings.planned_groups - standings.finished_groups
-    counts = f"{len(standings.matches)} of {standings.planned} matches and {standings.finished_groups} of {standings.planned_groups} groups are finished"
+    counts = f"{len(standings.matches)} of {standings.planned} matches and "
+    counts += f"{standings.finished_groups} of {standings.planned_groups} groups are finished"
     lines.append(f"{counts}; {counted(open_groups, 'group')} with an unfinished part don't count" if open_groups else counts)
     return lines
 
@@ -133,7 +134,8 @@ def as_json(standings):
 def as_csv(standings):
     """One line for each standing, pair of neighbours and cell; `kind` says which."""
     found, made = values(standings), io.StringIO()
-    rows = [{"kind": kind, **row} for kind, key in (("standing", "standings"), ("neighbours", "neighbours"), ("cell", "cells")) for row in found[key]]
+    kinds = {"standing": "standings", "neighbours": "neighbours", "cell": "cells"}
+    rows = [{"kind": kind, **row} for kind, key in kinds.items() for row in found[key]]
     names = list(dict.fromkeys(name for row in rows for name in row))
     writer = csv.DictWriter(made, names, lineterminator="\n")
     writer.writeheader()
