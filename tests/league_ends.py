@@ -34,8 +34,9 @@ def played_now(league, process):
 def a_run_that_is_killed_again_and_again():
     """By signal 9 at random moments, every other time with all processes that it started. At last the table is letter by
     letter that of a league with the same secret that nobody disturbed, and the logs are."""
-    kills, hands, dice = int(OPTIONS["--kills"]), int(OPTIONS["--hands"]), random.Random(SEED)
-    calm, killed = (League(six_bots(), hands=hands, meetings=3) for _ in range(2))
+    kills, hands, meetings = (int(OPTIONS[key]) for key in ("--kills", "--hands", "--meetings"))
+    dice = random.Random(SEED)
+    calm, killed = (League(six_bots(), hands=hands, meetings=meetings) for _ in range(2))
     calm.does("plan")
     killed.does("plan")
     (killed.kept / "secret").write_bytes(bytes(32))
@@ -48,7 +49,7 @@ def a_run_that_is_killed_again_and_again():
     killed.does("run", "--jobs", "8")
     want(ran.wait(WAIT * 5) == 0, "the undisturbed run failed")
     want(killed.table() == calm.table(), f"the tables differ:\n{killed.table()}\n{calm.table()}")
-    want(killed.logs() == calm.logs() and len(calm.logs()) == 90, "the logs differ")
+    want(killed.logs() == calm.logs() and len(calm.logs()) == 30 * meetings, "the logs differ")
     want([*(killed.kept / "running").iterdir()] == [], "something is left of a match")
 
 

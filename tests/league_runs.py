@@ -18,7 +18,7 @@ TOOL = TOP / "tools/league"
 BOT = [sys.executable, str(TOP / "tests/league_bot.py")]
 # All tests by their titles, and what the command line asks for.
 TESTS = []
-OPTIONS = {"--kills": 6, "--hands": 20, "--title": ""}
+OPTIONS = {"--kills": 6, "--hands": 20, "--meetings": 2, "--title": ""}
 
 
 def test(function):
