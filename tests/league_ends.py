@@ -35,7 +35,7 @@ def a_run_that_is_killed_again_and_again():
     """By signal 9 at random moments, every other time with all processes that it started. At last the table is letter by
     letter that of a league with the same secret that nobody disturbed, and the logs are."""
     kills, hands, meetings = (int(OPTIONS[key]) for key in ("--kills", "--hands", "--meetings"))
-    dice = random.Random(SEED)
+    dice, torn = random.Random(SEED), 0
     calm, killed = (League(six_bots(), hands=hands, meetings=meetings) for _ in range(2))
     calm.does("plan")
     killed.does("plan")
@@ -46,8 +46,10 @@ def a_run_that_is_killed_again_and_again():
         run = killed.start("run", "--jobs", "8")
         time.sleep(dice.uniform(0.2, 0.5 + 0.1 * hands))
         end_by_nine(run, with_children=number % 2 == 0)
-    killed.does("run", "--jobs", "8")
-    want(ran.wait(WAIT * 5) == 0, "the undisturbed run failed")
+        torn += any((killed.kept / "running").glob("*/*.tlog"))
+    killed.does("run", "--jobs", "8", most=10 * WAIT)
+    want(ran.wait(10 * WAIT) == 0, "the undisturbed run failed")
+    want(torn, "no kill hit a match")
     want(killed.table() == calm.table(), f"the tables differ:\n{killed.table()}\n{calm.table()}")
     want(killed.logs() == calm.logs() and len(calm.logs()) == 30 * meetings, "the logs differ")
     want([*(killed.kept / "running").iterdir()] == [], "something is left of a match")

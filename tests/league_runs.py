@@ -79,10 +79,10 @@ class League:
             cwd=self.folder, start_new_session=True,
         )
 
-    def does(self, *words, status=0):
-        """Gives a command that is to end with a status; what it printed, and what it said of errors."""
+    def does(self, *words, status=0, most=WAIT):
+        """Gives a command that is to end with a status, within so many seconds; what it printed, and what it said of errors."""
         ran = self.start(*words)
-        printed, said = ran.communicate(timeout=WAIT)
+        printed, said = ran.communicate(timeout=most)
         want(ran.returncode == status, f"{' '.join(words)} ended with {ran.returncode}, not {status}: {printed[-300:]}{said[-600:]}")
         return printed, said
 
