@@ -135,7 +135,8 @@ def groups_with_an_unfinished_part_do_not_count():
     want(figures["groups"] == {"planned": 6, "finished": 1} and figures["matches"] == {"planned": 12, "finished": 3}, "other counts")
     near(cell(figures, "a", "b")["mean"], 20, "the mean of the finished group")
     want("5 groups with an unfinished part don't count" in text, f"the table says {text}")
-    want([(it["player"], it["mean"]) for it in figures["standings"]] == [("a", 20.0), ("b", -20.0), ("c", None)], "other standings")
+    found = [(it["player"], it["mean"], it["rank"], it["run_off"]) for it in figures["standings"]]
+    want(found == [("a", 20.0, 1, 1), ("b", -20.0, 2, 2), ("c", None, None, None)], f"the standings are {found}")
 
 
 @test

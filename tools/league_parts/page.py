@@ -9,7 +9,7 @@ from . import deals
 from .one_match import write_whole
 from .replays import make_replays
 from .standings import FEWEST_GROUPS, INCIDENTS
-from .table import BY_HANDS, counted, half, head, shown, trust
+from .table import BY_HANDS, counted, half, head, place, shown, trust
 
 HERE = Path(__file__).resolve().parent
 PAGE = """<!DOCTYPE html>
@@ -110,15 +110,15 @@ def scale_of(standings):
     return lambda value: MARGIN + (float(value) - least) / width * (WIDTH - 2 * MARGIN)
 
 
-def graph(interval, place):
-    """A dot with its interval, and where 0 is."""
+def graph(interval, at):
+    """A dot with its interval, and where 0 is. `at` says where a value is drawn."""
     if interval is None:
         return ""
-    middle, zero = HEIGHT / 2, place(0)
+    middle, zero = HEIGHT / 2, at(0)
     reach = interval.half or 0
     lines = f'<line class="zero" x1="{zero:.1f}" x2="{zero:.1f}" y1="0" y2="{HEIGHT}"/>'
-    lines += f'<line x1="{place(float(interval.value) - reach):.1f}" x2="{place(float(interval.value) + reach):.1f}" y1="{middle}" y2="{middle}"/>'
-    dot = f'<circle cx="{place(interval.value):.1f}" cy="{middle}" r="4"/>'
+    lines += f'<line x1="{at(float(interval.value) - reach):.1f}" x2="{at(float(interval.value) + reach):.1f}" y1="{middle}" y2="{middle}"/>'
+    dot = f'<circle cx="{at(interval.value):.1f}" cy="{middle}" r="4"/>'
     return f'<svg width="{WIDTH}" height="{HEIGHT}" viewBox="0 0 {WIDTH} {HEIGHT}" role="img" aria-label="{shown(interval)}">{lines}{dot}</svg>'
 
 
@@ -131,15 +131,15 @@ def times(standings, name):
 
 
 def standing_table(standings):
-    place, rows = scale_of(standings), []
+    at, rows = scale_of(standings), []
     for it in standings.standings:
         rows.append(row([
-            str(it.rank), ("left", escape(it.name)), valued(it.interval), ("left", graph(it.interval, place)), half(it.plain), str(it.run_off),
+            place(it.rank), ("left", escape(it.name)), valued(it.interval), ("left", graph(it.interval, at)), half(it.plain), place(it.run_off),
             *[str(it.incidents[key]) for key in INCIDENTS], *times(standings, it.name),
         ]))
     header = ["rank", ("left", "player"), "mbb/hand", "", "plain", "run-off", *INCIDENTS, "a hand", "longest response"]
     meaning = MEANING.format(unit=DUPLICATE if standings.league.duplicate else SINGLE)
-    notes = [paragraph(meaning, "quiet"), paragraph(trust(standings), "quiet")]
+    notes = [paragraph(meaning, "quiet")] + ([paragraph(trust(standings), "quiet")] if standings.finished_groups else [])
     if standings.is_by_hands:
         notes.insert(1, paragraph(FEW_GROUPS.format(fewest=FEWEST_GROUPS, mark=BY_HANDS)))
     return section("Standings", table(header, rows), *notes)

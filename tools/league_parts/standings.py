@@ -24,12 +24,12 @@ class Cell(NamedTuple):
 
 
 class Standing(NamedTuple):
-    """A player over all opponents; no intervals where no group of his is finished. Ranks count from 1; equal means have the
-    same rank."""
+    """A player over all opponents; no ranks and no intervals where no group of his is finished. Ranks count from 1; equal
+    means have the same rank."""
 
     name: str
-    rank: int
-    run_off: int
+    rank: Optional[int]
+    run_off: Optional[int]
     interval: Optional[Interval]
     plain: Optional[Interval]
     is_by_hands: bool
@@ -77,15 +77,16 @@ class Standings:
     def ranked(self):
         """All players, the greatest mean first; those without one last."""
         means = {name: self.mean(name) for name in self.league.players}
-        order = sorted(means, key=lambda name: (means[name] is None, -(means[name] or 0), name))
-        ranks = {name: 1 + sum(means[it] is not None and means[it] > means[name] for it in order) for name in order if means[name] is not None}
-        run_off, incidents = self.run_off(means), self.incidents()
-        return [self.standing(name, ranks.get(name, len(order)), run_off.index(name) + 1, incidents[name]) for name in order]
+        have = {name: mean for name, mean in means.items() if mean is not None}
+        order, run_off, incidents = sorted(have, key=lambda name: (-have[name], name)), self.run_off(means), self.incidents()
+        ranks = {name: 1 + sum(mean > have[name] for mean in have.values()) for name in order}
+        ranked = [self.standing(name, ranks[name], run_off.index(name) + 1, incidents[name]) for name in order]
+        return ranked + [Standing(name, None, None, None, None, False, incidents[name]) for name in sorted(means.keys() - have.keys())]
 
     def standing(self, name, rank, run_off, incidents):
+        """A player who has a finished group."""
         cells = self.cells[name]
-        interval = mean_of([it.estimate for it in cells]) if cells else None
-        plain = mean_of([it.plain_estimate for it in cells]) if cells else None
+        interval, plain = mean_of([it.estimate for it in cells]), mean_of([it.plain_estimate for it in cells])
         return Standing(name, rank, run_off, interval, plain, any(it.is_by_hands for it in cells), incidents)
 
     def run_off(self, means):

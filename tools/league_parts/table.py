@@ -27,6 +27,11 @@ def half(interval):
     return "-" if interval is None or interval.half is None else f"± {interval.half:.1f}"
 
 
+def place(number):
+    """A place in an order of winners."""
+    return "-" if number is None else str(number)
+
+
 def columns(rows, right):
     """Rows as lines with columns, of which those in `right` stand to the right."""
     widths = [max(map(len, column)) for column in zip(*rows)]
@@ -54,7 +59,7 @@ def standing_rows(standings):
     yield "rank", "player", "mbb/hand", "plain", "run-off", "restarts", "defaults", "mended", ""
     for it in standings.standings:
         yield (
-            str(it.rank), it.name, shown(it.interval), half(it.plain), str(it.run_off), *map(str, it.incidents.values()),
+            place(it.rank), it.name, shown(it.interval), half(it.plain), place(it.run_off), *map(str, it.incidents.values()),
             BY_HANDS if it.is_by_hands else "",
         )
 
@@ -81,8 +86,9 @@ def trust(standings):
 def text(standings):
     """The table for a terminal."""
     lines = [*head(standings), "", *columns([*standing_rows(standings)], {0, 2, 3, 4, 5, 6, 7})]
-    lines += ["", "neighbours in rank, and by how much the better one is ahead", *neighbour_lines(standings)]
-    lines += ["", *columns([*cell_rows(standings)], {2, 3, 4}), "", trust(standings)]
+    if standings.finished_groups:
+        lines += ["", "neighbours in rank, and by how much the better one is ahead", *neighbour_lines(standings)]
+        lines += ["", *columns([*cell_rows(standings)], {2, 3, 4}), "", trust(standings)]
     return "\n".join(lines) + "\n"
 
 
