@@ -92,10 +92,10 @@ class Keeper:
 
 
 def set_apart(parent):
-    """What a player's process does before it becomes his program: it gets a process group of its own, and ends where its
-    parent ends."""
+    """What a player's process does before it becomes his program: it gets a process group of its own, and is asked to end
+    where its parent ends. Killed at once, a program that stands for a container couldn't end that."""
     os.setpgid(0, 0)
-    LIBRARY.prctl(PR_SET_PDEATHSIG, signal.SIGKILL)
+    LIBRARY.prctl(PR_SET_PDEATHSIG, signal.SIGTERM)
     if os.getppid() != parent:
         os._exit(1)
 
