@@ -33,7 +33,7 @@ def acts(how, betting, turn):
 def play(how, game, host, port):
     turn = 0
     with socket.create_connection((host, int(port))) as connection:
-        connection.sendall(b"VERSION:2.0.0\r\n")
+        connection.sendall(b"# a comment may come first\r\nVERSION:2.0.0\r\n")
         for line in connection.makefile("r", encoding="ascii", newline="\r\n"):
             betting = turn_of(game, line.rstrip("\r\n"))
             if betting is None or how == "silent":

@@ -19,8 +19,6 @@ from .logs import hand_chips
 from .plan import is_finished
 
 HOST = "127.0.0.1"
-# How long a seat's port is looked at that wasn't looked at before the start's limit has passed, in seconds.
-MOMENT = 0.5
 # The most bytes of a match's notes.
 MOST_NOTES = 16 * 2**20
 # What another process does that has a lock, where it isn't a match's.
@@ -61,14 +59,6 @@ def end_by_signals():
 
     for number in numbers:
         signal.signal(number, interrupted)
-
-
-class PatientMatch(Match):
-    """A match in which nobody is late because others were waited for before him: seats are let in one behind the other, all
-    until the same moment."""
-
-    def admit(self, seat, until):
-        super().admit(seat, None if until is None else max(until, time.monotonic() + MOMENT))
 
 
 class Table(Watcher):
@@ -134,7 +124,7 @@ def play(settings, table):
     """Plays a match with the players of a table; its Result. Their programs are ended before its ports are closed, since
     one that dials again could come to a port that is another match's by then."""
     try:
-        with PatientMatch(settings, table) as match:
+        with Match(settings, table) as match:
             try:
                 table.start_all(match.ports)
                 result = match.play()

@@ -19,6 +19,12 @@ def left(until):
     return None if until is None else max(0.001, until - time.monotonic())
 
 
+def judge(until, late):
+    """Fails where a moment of the monotonic clock has passed, saying what is late."""
+    if until is not None and time.monotonic() >= until:
+        raise Failed(late)
+
+
 def printable(data):
     """A player's bytes as text that does nothing to a terminal."""
     return "".join(chr(byte) if 32 <= byte < 127 else f"\\x{byte:02x}" for byte in data)
@@ -42,7 +48,8 @@ class Seat:
 
     def admit(self, until, is_last, is_coming):
         """Waits for the player's connection and version. Where it is the last, nobody can come to the port any more. Who
-        isn't coming, as is asked now and then, isn't waited for."""
+        isn't coming, as is asked now and then, isn't waited for. Who has come and named his version before this seat was
+        looked at isn't late, whatever the time: other seats were waited for first."""
         self.connection = None
         while self.connection is None:
             try:
@@ -59,9 +66,12 @@ class Seat:
         self.buffer = b""
         if is_last:
             self.listener.close()
-        line = "#"
+        late = "the player named no version in time"
+        line = self.line(until, late)
         while line[:1] in ("#", ";"):
-            line = self.line(until, "the player named no version in time")
+            if b"\n" not in self.buffer:
+                judge(until, late)
+            line = self.line(until, late)
         if not VERSION.fullmatch(line):
             raise Failed(f"the first line isn't VERSION:2.0.0 but {line[:SHOWN]!r}")
 
@@ -73,23 +83,26 @@ class Seat:
         except OSError as why:
             raise Failed(f"the player takes no line any more ({why.strerror or why})") from why
 
+    def piece(self, until):
+        """What the player has sent, which may have been there before; nothing where nothing comes until then."""
+        self.connection.settimeout(left(until))
+        try:
+            piece = self.connection.recv(65536)
+        except socket.timeout:
+            return b""
+        except OSError as why:
+            raise Failed(f"the connection failed ({why.strerror or why})") from why
+        if not piece:
+            raise Failed("the player ended the connection")
+        return piece
+
     def line(self, until, late):
         """The player's next line without its end, as printable text. Of one that is too long the beginning is told, behind
         words that no line begins with. `late` says what it is where none comes in time."""
         while b"\n" not in self.buffer:
-            self.buffer = self.buffer[: LINE + 1]
-            if until is not None and time.monotonic() >= until:
-                raise Failed(late)
-            self.connection.settimeout(left(until))
-            try:
-                piece = self.connection.recv(65536)
-            except socket.timeout:
-                continue
-            except OSError as why:
-                raise Failed(f"the connection failed ({why.strerror or why})") from why
-            if not piece:
-                raise Failed("the player ended the connection")
-            self.buffer += piece
+            self.buffer = self.buffer[: LINE + 1] + self.piece(until)
+            if b"\n" not in self.buffer:
+                judge(until, late)
         line, _, self.buffer = self.buffer.partition(b"\n")
         if len(line) > LINE:
             return f"(a line of more than {LINE} bytes) {printable(line[:SHOWN])}"
