@@ -37,10 +37,9 @@ def a_run_that_is_killed_again_and_again():
     kills, hands, meetings = (int(OPTIONS[key]) for key in ("--kills", "--hands", "--meetings"))
     dice, torn = random.Random(SEED), 0
     calm, killed = (League(six_bots(), hands=hands, meetings=meetings) for _ in range(2))
-    calm.does("plan")
-    killed.does("plan")
-    (killed.kept / "secret").write_bytes(bytes(32))
-    (calm.kept / "secret").write_bytes(bytes(32))
+    for league in (calm, killed):
+        league.kept.mkdir()
+        (league.kept / "secret").write_bytes(bytes(32))
     ran = calm.start("run", "--jobs", "8")
     for number in range(kills):
         run = killed.start("run", "--jobs", "8")

@@ -72,6 +72,12 @@ def what_is_fixed_can_not_change():
             del league.entries[key]
     league.write()
     league.does("plan")
+    secret = league.kept / "secret"
+    kept = secret.read_bytes()
+    secret.unlink()
+    want("secret was another one when" in league.does("run", status=2)[1] and not secret.exists(), "a lost secret is drawn again")
+    secret.write_bytes(kept)
+    league.does("plan")
 
 
 @test

@@ -3,16 +3,28 @@ import hashlib
 import hmac
 import secrets
 
-from .plan import put_once
+from .files import put_once
 
 SECRET_BYTES = 32
 
 
+def path(league):
+    return league.folder / "secret"
+
+
+def draw(league):
+    """Draws the league's secret, where it has none yet."""
+    put_once(path(league), secrets.token_bytes(SECRET_BYTES))
+
+
 def secret(league):
-    """The league's secret, which is drawn at first."""
-    path = league.folder / "secret"
-    put_once(path, secrets.token_bytes(SECRET_BYTES))
-    return path.read_bytes()
+    """The league's secret."""
+    return path(league).read_bytes()
+
+
+def digest(league):
+    """What tells the league's secret from others, and nothing of it; none where it is gone."""
+    return hashlib.sha256(secret(league)).hexdigest() if path(league).exists() else None
 
 
 def seed(secret, players, meeting):

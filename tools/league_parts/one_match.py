@@ -15,6 +15,7 @@ from match_engine import AGAIN, DEFAULT, PROGRAM, InUse, Match, MatchFault, Sett
 from . import deals
 from .bots import Bot, Keeper, digest, end_all
 from .faults import Busy, Interrupted, Unfinished
+from .files import write_whole
 from .logs import hand_chips
 from .plan import is_finished
 
@@ -199,16 +200,6 @@ def result_text(league, planned, result, files, begun, folder):
 def sha256(path):
     with open(path, "rb") as file:
         return hashlib.file_digest(file, "sha256").hexdigest()
-
-
-def write_whole(path, text):
-    """Writes a file in one step."""
-    made = path.with_name(f".{path.name}.{os.getpid()}")
-    with open(made, "w", encoding="utf-8") as file:
-        file.write(text)
-        file.flush()
-        os.fsync(file.fileno())
-    os.replace(made, path)
 
 
 def put_in_place(folder, place):

@@ -6,7 +6,7 @@ from html import escape
 from pathlib import Path
 
 from . import deals
-from .one_match import write_whole
+from .files import write_whole
 from .replays import make_replays
 from .standings import FEWEST_GROUPS, INCIDENTS
 from .table import BY_HANDS, counted, half, head, place, shown, trust

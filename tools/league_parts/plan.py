@@ -6,7 +6,9 @@ import os
 from collections import Counter
 from typing import NamedTuple, Tuple
 
+from . import deals
 from .faults import Unfinished, Wrong
+from .files import put_once
 
 
 class Planned(NamedTuple):
@@ -54,7 +56,7 @@ def fixed(league):
     """What the results of all matches depend on."""
     return {
         "name": league.name, "game": league.game_path.read_text(encoding="latin-1"), "hands": league.hands,
-        "duplicate": league.duplicate,
+        "duplicate": league.duplicate, "secret": deals.digest(league),
     }
 
 
@@ -104,30 +106,14 @@ def prepare(league):
             (league.folder / name).mkdir(mode=0o700, exist_ok=True)
     except OSError as why:
         raise Unfinished(f"{why.filename} can't be made: {why.strerror}") from why
-    path, now = league.folder / "fixed.json", fixed(league)
+    path = league.folder / "fixed.json"
+    if not path.exists():
+        deals.draw(league)
+    now = fixed(league)
     put_once(path, json.dumps(now, indent=1).encode())
     for key, value in json.loads(path.read_text()).items():
         if now.get(key) != value:
             raise Wrong(f"{league.path.name}: {key} was another one when the league began ({path}); begin another league for that")
-
-
-def put_once(path, data):
-    """Writes a file that isn't there yet, for its owner alone. Of two who do so at once one wins, and it is never seen
-    half written."""
-    if path.exists():
-        return
-    made = path.with_name(f".{path.name}.{os.getpid()}")
-    descriptor = os.open(made, os.O_WRONLY | os.O_CREAT | os.O_TRUNC, 0o600)
-    with os.fdopen(descriptor, "wb") as file:
-        file.write(data)
-        file.flush()
-        os.fsync(file.fileno())
-    try:
-        os.link(made, path)
-    except FileExistsError:
-        pass
-    finally:
-        made.unlink()
 
 
 def is_finished(league, planned):
