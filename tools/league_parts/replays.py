@@ -1,13 +1,12 @@
 """Pages on which the hands of the league's matches can be looked at: one for the matches of each finished meeting."""
 import subprocess
 import sys
-import time
 
 from match_engine.program import TOP
 
+from .progress import Progress
+
 REPLAY = TOP / "tools/replay"
-# How often progress is told on a terminal and elsewhere, in seconds.
-ON_TERMINAL, ELSEWHERE = 1, 60
 
 
 def make_replays(standings, is_revealed):
@@ -18,15 +17,14 @@ def make_replays(standings, is_revealed):
     folder = standings.league.folder / ("revealed" if is_revealed else "replays")
     folder.mkdir(mode=0o700, exist_ok=True)
     groups = [group for found in standings.groups.values() for group in found]
-    addresses, told = {}, time.monotonic()
+    addresses, progress = {}, Progress()
     for count, group in enumerate(groups):
         path = folder / f"{'.'.join(group.players)}.{group.meeting}.html"
         if is_made(path, standings.league, group) or make(path, standings.league, group, is_revealed):
             for place, match in enumerate(group.matches, start=1):
                 addresses[match.planned.name] = f"{folder.name}/{path.name}" + (f"#{place}/0" if len(group.matches) > 1 else "")
-        if time.monotonic() > told + (ON_TERMINAL if sys.stderr.isatty() else ELSEWHERE):
-            told = time.monotonic()
-            print(f"league: pages of hands of {count + 1} of {len(groups)} groups", file=sys.stderr)
+        progress.tell(lambda: f"pages of hands of {count + 1} of {len(groups)} groups")
+    progress.clear()
     return addresses
 
 

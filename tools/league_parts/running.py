@@ -10,11 +10,10 @@ from collections import Counter
 from .faults import Interrupted, Unfinished
 from .one_match import end_by_signals, is_locked, lock
 from .plan import in_words, is_finished
+from .progress import Progress
 
 # How often the matches are looked at, and those that other processes play, in seconds.
 LOOK, LOOK_AT_OTHERS = 0.02, 0.5
-# How often progress is told on a terminal and elsewhere, in seconds.
-ON_TERMINAL, ELSEWHERE = 1, 60
 # How often a match is tried in one run where the machine fails.
 ATTEMPTS = 2
 LIBRARY, PR_SET_PDEATHSIG = ctypes.CDLL(None), 1
@@ -33,47 +32,6 @@ def end_with(parent):
         os._exit(1)
 
 
-class Progress:
-    """The line that tells how far a run is."""
-
-    def __init__(self, whole, finished):
-        self.whole, self.before, self.begun = whole, finished, time.monotonic()
-        self.is_terminal = sys.stderr.isatty()
-        self.next, self.width = 0.0, 0
-
-    def line(self, finished, running, others):
-        seconds, new = time.monotonic() - self.begun, finished - self.before
-        text = f"{finished} of {self.whole} matches finished, {running} running"
-        text += f", {others} played by others" if others else ""
-        if new:
-            text += f", {3600 * new / seconds:.0f} an hour, {in_words(seconds / new * (self.whole - finished))} left"
-        return text
-
-    def tell(self, *counts):
-        if time.monotonic() < self.next:
-            return
-        self.next = time.monotonic() + (ON_TERMINAL if self.is_terminal else ELSEWHERE)
-        self.show(self.line(*counts))
-
-    def show(self, text):
-        if self.is_terminal:
-            print(f"\r{text:{self.width}}", end="", file=sys.stderr, flush=True)
-            self.width = len(text)
-        else:
-            print(f"league: {text}", file=sys.stderr, flush=True)
-
-    def note(self, text):
-        """Tells something beside the progress."""
-        if self.is_terminal and self.width:
-            print(f"\r{'':{self.width}}\r", end="", file=sys.stderr)
-        print(f"league: {text}", file=sys.stderr, flush=True)
-
-    def close(self, *counts):
-        self.show(self.line(*counts))
-        if self.is_terminal:
-            print(file=sys.stderr)
-
-
 class Run:
     """A run of a league's matches."""
 
@@ -81,9 +39,10 @@ class Run:
         """`command` gives the words that play a match of the plan."""
         self.league, self.jobs, self.command = league, jobs, command
         self.waiting = [it for it in plan if not is_finished(league, it)]
-        self.finished = len(plan) - len(self.waiting)
+        self.whole, self.begun = len(plan), time.monotonic()
+        self.finished = self.before = len(plan) - len(self.waiting)
         self.running, self.others, self.attempts, self.failed = {}, [], Counter(), []
-        self.progress, self.looked = Progress(len(plan), self.finished), 0.0
+        self.progress, self.looked = Progress(is_told_at_once=True), 0.0
 
     def play(self):
         """Plays all that can be played; whether all matches are finished now."""
@@ -92,15 +51,21 @@ class Run:
                 self.start()
                 self.reap()
                 self.look_at_others()
-                self.progress.tell(*self.counts())
+                self.progress.tell(self.text)
                 time.sleep(LOOK)
         finally:
             self.end()
-            self.progress.close(*self.counts())
+            self.progress.note(self.text())
         return not self.failed
 
-    def counts(self):
-        return self.finished, len(self.running), len(self.others)
+    def text(self):
+        """How far the run is."""
+        seconds, new = time.monotonic() - self.begun, self.finished - self.before
+        text = f"{self.finished} of {self.whole} matches finished, {len(self.running)} running"
+        text += f", {len(self.others)} played by others" if self.others else ""
+        if new:
+            text += f", {3600 * new / seconds:.0f} an hour, {in_words(seconds / new * (self.whole - self.finished))} left"
+        return text
 
     def seated(self):
         """How many matches each player plays."""

@@ -49,14 +49,18 @@ class Neighbours(NamedTuple):
 
 
 class Standings:
-    """The table of a league's plan and its finished matches. `unit` is hand or group where one of them is forced."""
+    """The table of a league's plan and its finished matches. `unit` is hand or group where one of them is forced; `tell` is
+    called with what says how far it is, since it may read many logs."""
 
-    def __init__(self, league, plan, finished, unit=None):
+    def __init__(self, league, plan, finished, unit=None, tell=lambda text: None):
         self.league, self.unit, self.matches = league, unit, list(finished)
         self.planned = len(plan)
         self.groups, self.planned_groups = grouped(plan, self.matches)
         self.finished_groups = sum(map(len, self.groups.values()))
-        self.samples = {players: Sample(self, players, found) for players, found in self.groups.items()}
+        self.samples = {}
+        for players, found in self.groups.items():
+            self.samples[players] = Sample(self, players, found)
+            tell(lambda: f"read the matches of {len(self.samples)} of {len(self.groups)} tables")
         self.cells = {name: [sample.cell(name) for sample in self.samples.values() if name in sample.players] for name in league.players}
         self.standings = self.ranked()
         self.neighbours = [self.side_by_side(*pair) for pair in zip(self.standings, self.standings[1:]) if pair[1].interval]
