@@ -26,13 +26,25 @@ def slow_league(**entries):
 
 def played_now(league, process):
     """Waits until a match of the league has been begun; the processes below a process then, by number and start."""
-    awaited(lambda: [it for it in league.kept.glob("running/*/*.tlog") if it.stat().st_size], "the first action")
+    awaited(lambda: is_played(league), "the first action")
     return descendants(process.pid)
+
+
+def is_played(league):
+    """Whether a match of the league was begun and isn't finished."""
+    for path in league.kept.glob("running/*/*.tlog"):
+        try:
+            if path.stat().st_size:
+                return True
+        except FileNotFoundError:
+            continue
+    return False
 
 
 @test
 def a_run_that_is_killed_again_and_again():
-    """By signal 9 at random moments, every other time with all processes that it started. At last the table is letter by
+    """By signal 9, every other time with all processes that it started: at a random moment of the first second, or as long
+    after the first action of a match that is being played. At last the table is letter by
     letter that of a league with the same secret that nobody disturbed, and the logs are."""
     kills, hands, meetings = (int(OPTIONS[key]) for key in ("--kills", "--hands", "--meetings"))
     dice, torn = random.Random(SEED), 0
@@ -43,9 +55,11 @@ def a_run_that_is_killed_again_and_again():
     ran = calm.start("run", "--jobs", "8")
     for number in range(kills):
         run = killed.start("run", "--jobs", "8")
-        time.sleep(dice.uniform(0.2, 0.5 + 0.1 * hands))
+        if number % 3 != 2:
+            awaited(lambda: is_played(killed) or run.poll() is not None, "the first action")
+        time.sleep(dice.choice([0, 0.05, 1]) * dice.random())
         end_by_nine(run, with_children=number % 2 == 0)
-        torn += any((killed.kept / "running").glob("*/*.tlog"))
+        torn += is_played(killed)
     killed.does("run", "--jobs", "8", most=10 * WAIT)
     want(ran.wait(10 * WAIT) == 0, "the undisturbed run failed")
     want(torn, "no kill hit a match")
