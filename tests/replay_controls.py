@@ -151,9 +151,9 @@ def steps(screen, url):
     same(screen.text("told"), "carol bets 400, all-in. bob is to act.", "a step of the story")
     same(screen.texts("#story [aria-current=step]"), ["carol bets 400, all-in"], "the step that is marked")
     outcome = [
-        "carol shows A♠\ufe0e A♦\ufe0e: a pair of aces, with J 8 7.",
-        "bob shows Q♠\ufe0e Q♦\ufe0e: a pair of queens, with J 8 7.",
-        "Pot 2,100: carol wins it with a pair of aces, with J 8 7.",
+        "carol shows A♠\ufe0e A♦\ufe0e: a pair of aces, kickers J 8 7.",
+        "bob shows Q♠\ufe0e Q♦\ufe0e: a pair of queens, kickers J 8 7.",
+        "Pot 2,100: carol wins it with a pair of aces, kickers J 8 7.",
     ]
     same(screen.texts(".outcome li"), outcome, "outcome")
 
@@ -167,7 +167,7 @@ def side_pots(screen, url):
     same(screen.texts("#pots li"), ["Pot 350 → carol"], "pots of hand 4")
     same(screen.texts(".outcome li")[0], "350 that nobody called go back to alice.", "what goes back in hand 4")
     screen.open(url + "#5")
-    last = "Pot 250: alice and bob share it (125 and 125) with ace high, with K J 8 7."
+    last = "Pot 250: alice and bob share it (125 and 125) with ace high, kickers K J 8 7."
     same(screen.texts(".outcome li")[-1], last, "the shared pot of hand 5")
 
 
@@ -260,6 +260,13 @@ def list_pages(screen, url):
     same((screen.listed()[:1], screen.text("page")), ([0], "1 of 2"), "Previous page")
     screen.value("location.hash = '#29'")
     screen.comes("document.querySelector('#list-body .is-current')?.innerText.startsWith('29')")
+    screen.choose("Sort by", ORDERS["last"])
+    screen.choose("Sort by", ORDERS["number"])
+    same(screen.listed()[:1], [0], "the first page after sorting")
+    screen.click("button", "Hand 29 is on page 2")
+    same((screen.texts("#list-body .is-current th"), screen.text("where")), (["29"], ""), "the page of the hand that is shown")
+    screen.click("checkbox", "All-in")
+    same((screen.listed(), screen.text("where")), ([0], "Hand 29 isn't in this list."), "a list without the hand that is shown")
 
 
 def course(screen, url):
@@ -304,11 +311,22 @@ def figures(screen, url):
     heads = ["alice", "position 0: blind 50", "position 1: blind 100", "position 2: no blind, button"]
     same(screen.texts("#figures-body tr > th")[:4], heads, "By position")
     same([row(at)["Chips"] for at in (2, 3, 4)], ["+600", "−75", "−250"], "alice's chips by position")
+    same(row(6)["Lost most"], "−50 3 hands, first hand 1", "what bob lost most at position 0, in hands 1, 4 and 10")
     screen.click("checkbox", "By position")
     same(len(screen.texts("#figures-body tr")), 3, "without By position")
     screen.click("link", "hand 2")
     screen.comes("document.getElementById('hand-title').innerText === 'Hand 2'")
     want(0 <= screen.value("document.getElementById('hand-title').getBoundingClientRect().top") < 900, "hand 2 isn't in sight")
+
+
+def parts(screen, url):
+    """A link of the head brings a part into sight, and leaves the hand and its address."""
+    screen.open(url + "#2", 360)
+    for name, part in (("Hands", "hands"), ("Chips", "course"), ("Figures", "figures")):
+        screen.click("link", name)
+        want(-1 < screen.value(f"document.getElementById('{part}').getBoundingClientRect().top") < 450, f"{name} isn't in sight")
+        same(screen.value("document.activeElement.id"), f"{part}-title", f"the focus after {name}")
+    same((screen.hand(), screen.value("location.hash"), screen.text("lost-way")), ("Hand 2", "#2", ""), "the hand after links to parts")
 
 
 def cards(screen, log):
@@ -435,7 +453,7 @@ def controls(folder):
     with Browser(program()) as browser:
         screen = Screen(browser, folder)
         url, largest = screen.make("twelve.html", GAME, log), screen.make("largest.html", *largest_match(folder))
-        for test in (steps, side_pots, playing, hands, keys, filters, course, figures, policy, keyboard):
+        for test in (steps, side_pots, playing, hands, keys, filters, course, figures, parts, policy, keyboard):
             yield f"controls: {test.__name__}", lambda test=test: test(screen, url)
         yield "controls: pages of the list", lambda: list_pages(screen, largest)
         yield "controls: widths", lambda: widths(screen, largest)

@@ -84,7 +84,7 @@ def asks_for_nothing(folder):
     metas = [attributes.get("content") for tag, attributes in page.tags if attributes.get("http-equiv") == "Content-Security-Policy"]
     want(metas == [policy], f"the policy is {metas}, not {policy}")
     places = [(tag, attributes[name]) for tag, attributes in page.tags for name in ("src", "href", "action", "style") if name in attributes]
-    want(all(tag == "use" and place.startswith("#") for tag, place in places), f"{places}")
+    want(all(tag in ("a", "use") and place.startswith("#") for tag, place in places), f"{places}")
     want(not re.search(r"https?://(?!www\.w3\.org/2000/svg)", "".join(page.texts)), "the page names an address")
 
 

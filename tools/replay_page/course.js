@@ -1,7 +1,7 @@
 // Draws the course of chips: a line for each player, and the band of one of them.
 
 const STYLES = 10;
-const DASHES = ["", "7 4", "2 3", "9 3 2 3", "1 4"];
+const DASHES = ["", "7 4", "3 3", "9 3 2 3", "14 3 2 3 2 3"];
 const MARGIN = { right: 26, top: 12, bottom: 30 };
 /** About how wide a digit of a mark is, in pixels. */
 const LETTER = 7.2;

@@ -63,7 +63,8 @@ class Figures {
     const step = value - this.mean;
     this.mean += step / this.hands;
     this.squares += step * (value - this.mean);
-    if (!this.worst || value < this.worst.value) this.worst = { value, hand };
+    if (!this.worst || value < this.worst.value) this.worst = { value, hand, hands: 0 };
+    if (value === this.worst.value) this.worst.hands += 1;
     if (!this.best || value > this.best.value) this.best = { value, hand };
     this.addActions(hand.actions.filter((action) => action.position === position));
     this.addShowdown(hand, position);

@@ -6,16 +6,16 @@ const COLUMNS = [
   { id: "hands", title: "Hands", meaning: "Hands played." },
   {
     id: "vpip", title: "VPIP", part: "voluntary", whole: "turns", name: "Voluntarily put in pot",
-    meaning: "How often he put chips in before the flop that no blind made him: he called more than he had in, or raised. "
-      + "Of hands in which he had a turn before the flop.",
+    meaning: "Share of hands in which he called or raised before the flop by choice; blinds and checks don't count. "
+      + "Of hands in which he had a turn there.",
   },
   {
     id: "pfr", title: "PFR", part: "raised", whole: "turns", name: "Preflop raise",
-    meaning: "How often he raised before the flop. Of the same hands as VPIP.",
+    meaning: "Share of hands in which he raised before the flop. Of the same hands as VPIP.",
   },
   {
     id: "aggression", title: "Aggression", part: "aggressive", whole: "actions",
-    meaning: "Bets and raises, of all his actions after the flop except checks.",
+    meaning: "Bets and raises, of all his actions on flop, turn and river except checks.",
   },
   {
     id: "went", title: "Went to showdown", part: "showdowns", whole: "flops",
@@ -32,7 +32,7 @@ const COLUMNS = [
     meaning: "1000 × chips / greatest blind, on average over his hands. ± 1.96 s / √hands: s is the standard deviation over his hands. "
       + "In 95 of 100 such matches the true rate is within.",
   },
-  { id: "worst", title: "Lost most", meaning: "The hand in which he lost most." },
+  { id: "worst", title: "Lost most", meaning: "The most that he lost in one hand, and that hand. Where several hands cost as much, how many there are, and the first." },
 ];
 
 /** Draws one page of the list of hands. `address` gives a hand's address. */
@@ -102,7 +102,14 @@ function figureCell(game, { id, part, whole }, figures, handLink) {
   if (id === "hands") return chipsText(figures.hands);
   if (figures.hands === 0) return "–";
   if (id === "chips") return valueElement(figures.chips);
-  if (id === "worst") return figures.worst.value < 0 ? [valueElement(figures.worst.value), small(handLink(figures.worst.hand))] : "–";
+  if (id === "worst") return worstCell(figures.worst, handLink);
   const { rate, half } = figures.rate(Math.max(...game.blinds));
   return [valueElement(Math.round(rate)), half === null ? null : small(`± ${chipsText(Math.round(half))}`)];
+}
+
+/** Returns the most that was lost in a hand, in how many hands it was if in several, and the first of them. */
+function worstCell({ value, hand, hands }, handLink) {
+  if (value >= 0) return "–";
+  const many = hands > 1 ? `${chipsText(hands)} hands, first ` : "";
+  return [valueElement(value), element("small", {}, many, handLink(hand))];
 }

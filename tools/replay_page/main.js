@@ -4,6 +4,8 @@ const PLAY_MILLISECONDS = 900;
 /** So many differences from the logs are listed. */
 const DIFFERENCES = 20;
 const ADDRESS = /^#(?:(\d+)\/)?(\d+)$/;
+/** The parts of the page that its head links to. */
+const PARTS = ["#hands", "#course", "#figures"];
 
 const data = JSON.parse(byId("data").textContent);
 const game = readGame(data.game.text);
@@ -36,7 +38,7 @@ function handLink(hand) {
 /** Returns the hand that an address names: undefined where there is none, null where it names nothing. */
 function handOf(hash) {
   const found = ADDRESS.exec(hash);
-  if (!found) return hash.length > 1 ? undefined : null;
+  if (!found) return hash.length > 1 && !PARTS.includes(hash) ? undefined : null;
   const match = matches[found[1] === undefined ? Math.max(0, view.scope) : Number(found[1]) - 1];
   return match && match.hands[Number(found[2])];
 }
@@ -168,6 +170,26 @@ function showPageOf(hand) {
 function showList() {
   drawList(view.list, view.page, byId("player").value, isMany, address, view.hand);
   byId("count").textContent = countText(view.list, scopeHands());
+  showWhere();
+}
+
+/** Says where the hand that is shown is, if the page of the list doesn't have it. */
+function showWhere() {
+  const place = view.list.indexOf(view.hand);
+  const page = Math.floor(place / HANDS_ON_PAGE);
+  byId("where").hidden = view.hand === null || page === view.page;
+  if (byId("where").hidden) refill(byId("where"));
+  else refill(byId("where"), place < 0 ? `${handName(view.hand)} isn't in this list.` : pageButton(page));
+}
+
+/** Makes the button that turns the list to the page of the hand that is shown. */
+function pageButton(page) {
+  const button = element("button", { type: "button" }, `${handName(view.hand)} is on page ${page + 1}`);
+  button.addEventListener("click", () => {
+    showPageOf(view.hand);
+    byId("list-body").querySelector(".is-current a").focus();
+  });
+  return button;
 }
 
 function turnPage(by) {
@@ -192,8 +214,8 @@ function drawChart() {
 function bandText(figures) {
   if (!figures || figures.total.deviation() === null) return "";
   const reach = chipsText(Math.round(bandAt(figures.total.deviation(), figures.total.hands)));
-  return `The band is ±1.96 s √k about 0 after k hands, where s is the standard deviation of ${view.band}'s chips in a hand: `
-    + "where two equal players would be in 95 of 100 such matches, looked at one hand alone. "
+  return "In 95 of 100 matches of equal players the line is inside the band at any one hand. "
+    + `After k hands the band is ±1.96 s √k about 0, where s is the standard deviation of ${view.band}'s chips in a hand. `
     + `After the last hand it is ±${reach}.`;
 }
 
@@ -231,16 +253,21 @@ function showFigures() {
 function showAbout() {
   const hands = matches.reduce((sum, match) => sum + match.hands.length, 0);
   const [first] = matches;
-  const name = isMany ? `${matches.length} matches` : first.name;
+  const name = isMany ? `${matches.length} matches` : nameOf(first);
   const blinds = game.blinds.filter((blind) => blind > 0).map(chipsText).join(" and ");
   document.title = `${name} · replay`;
   byId("title").textContent = name;
   byId("about").textContent = [
-    `${chipsText(hands)} ${hands === 1 ? "hand" : "hands"} of ${isMany ? data.game.file : first.gameName}`,
+    `${chipsText(hands)} ${hands === 1 ? "hand" : "hands"} of ${isMany || first.gameName.startsWith("/") ? data.game.file : first.gameName}`,
     `${game.isLimit ? "limit" : "no-limit"} hold'em for ${game.players}, blinds ${blinds}`,
     `hole cards: ${data.isAll ? "all" : `those shown to ${data.seat || "everybody"}`}`,
     goingText(matches.filter((match) => !match.isOver)),
   ].filter(Boolean).join(" · ");
+}
+
+/** Returns a match's name; a log that `hand` wrote has none, and goes by its file. */
+function nameOf(match) {
+  return match.name === "hand" ? data.matches[match.index].log : match.name;
 }
 
 /** Says how many matches aren't over, and how far one alone is; nothing where all are. */
@@ -296,12 +323,23 @@ function takeKey(event) {
   event.preventDefault();
 }
 
-/** Opens the hand that a link names, and brings it into sight where it isn't, as on a narrow screen. */
+/** Brings a part of the page into sight and its heading into focus. The address stays that of the hand. */
+function goToPart(part) {
+  const heading = part.querySelector("h2");
+  heading.tabIndex = -1;
+  heading.addEventListener("blur", () => heading.removeAttribute("tabindex"), { once: true });
+  heading.focus({ preventScroll: true });
+  part.scrollIntoView();
+}
+
+/** Opens the hand that a link names, and brings it into sight where it isn't, as on a narrow screen; or goes to a part. */
 function followLink(event) {
   const link = event.target.closest("a[href^='#']");
   if (!link || event.ctrlKey || event.metaKey || event.shiftKey) return;
   event.preventDefault();
-  goToAddress(link.getAttribute("href"));
+  const href = link.getAttribute("href");
+  if (PARTS.includes(href)) return goToPart(byId(href.slice(1)));
+  goToAddress(href);
   const { top, bottom } = byId("hand-title").getBoundingClientRect();
   if (top < 0 || bottom > window.innerHeight) byId("replay").scrollIntoView();
 }

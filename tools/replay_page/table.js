@@ -4,6 +4,9 @@
 const BOX_AT = { across: 40.5, down: 37 };
 const BET_AT = { across: 23, down: 19.5 };
 
+/** With so many players at most there is room for larger cards. */
+const ROOMY = 6;
+
 /** Draws the seats of a match once; what changes from step to step goes into them. */
 function drawSeats(match, seat) {
   const count = match.names.length;
@@ -23,7 +26,7 @@ function drawSeats(match, seat) {
     return made;
   });
   refill(byId("seats"), seats);
-  byId("table").className = `table of-${count}`;
+  byId("table").className = `table of-${count} ${count <= ROOMY ? "is-roomy" : ""}`;
 }
 
 function place(seat, what, { across, down }, angle) {
@@ -44,14 +47,14 @@ function drawStep(game, match, hand, steps, at) {
   refill(byId("told"), stepText(game, hand, steps, at));
 }
 
-/** Returns the cards of the hands that win a pot, at a showdown's end; none at any other step. */
+/** Returns the cards of the hands that win a pot, at a showdown's end; none at any other step. The others stay as they are. */
 function bestCards({ outcome, pots }) {
   const winners = outcome && outcome.isShowdown ? pots.flatMap((pot) => pot.winners) : [];
   return new Set(winners.flatMap((position) => outcome.values[position].cards));
 }
 
 function markOf(card, best) {
-  return best.size === 0 ? "" : best.has(card) ? "is-best" : "is-beside";
+  return best.has(card) ? "is-best" : "";
 }
 
 function drawSeat(game, seat, hand, steps, at, position, best) {
@@ -68,7 +71,7 @@ function drawSeat(game, seat, hand, steps, at, position, best) {
   seat.className = `seat ${Object.keys(classes).filter((name) => classes[name]).join(" ")}`;
   const [cards, , , stack, did] = seat.querySelector(".box").children;
   const hole = hand.holes[position] || [null, null];
-  refill(cards, hole.map((card) => cardElement(card, step.folded[position] ? "" : markOf(card, card === null ? new Set() : best))));
+  refill(cards, hole.map((card) => cardElement(card, step.folded[position] ? "" : markOf(card, best))));
   refill(stack, stackText(game, step.stacks[position]));
   refill(did, step.kind === "end" && won !== 0 ? valueElement(won) : lastText(game, steps, at, position));
   const bet = step.bets[position];

@@ -43,20 +43,31 @@ function ranksText(ranks) {
   return ranks.map((rank) => RANKS[rank]).join(" ");
 }
 
+/** Returns the ranks that decide between equal hands, as in: king kicker; kickers K 9 8. */
+function kickersText(ranks) {
+  return ranks.length === 1 ? `${RANK_NAMES[ranks[0]]} kicker` : `kickers ${ranksText(ranks)}`;
+}
+
+/** Returns the highest card of a straight or flush, as in: an ace-high. */
+function highText(rank) {
+  const name = RANK_NAMES[rank];
+  return `${/^[ae]/.test(name) ? "an" : "a"} ${name}-high`;
+}
+
 /** Returns a hand's value in words, with the ranks that decide between equal ones. */
 function valueText({ category, ranks }) {
   const [first, second] = ranks;
-  const beside = (from) => `, with ${ranksText(ranks.slice(from))}`;
+  const beside = (from) => `, ${kickersText(ranks.slice(from))}`;
   const words = [
     () => `${RANK_NAMES[first]} high${beside(1)}`,
     () => `a pair of ${plural(first)}${beside(1)}`,
-    () => `two pairs, ${plural(first)} and ${plural(second)}${beside(2)}`,
+    () => `two pair, ${plural(first)} and ${plural(second)}${beside(2)}`,
     () => `three ${plural(first)}${beside(1)}`,
-    () => `a straight to the ${RANK_NAMES[first]}`,
-    () => `a flush, ${ranksText(ranks)}`,
+    () => `${highText(first)} straight`,
+    () => `${highText(first)} flush, ${ranksText(ranks)}`,
     () => `a full house, ${plural(first)} over ${plural(second)}`,
     () => `four ${plural(first)}${beside(1)}`,
-    () => `a straight flush to the ${RANK_NAMES[first]}`,
+    () => `${highText(first)} straight flush`,
   ];
   return words[category]();
 }
