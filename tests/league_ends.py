@@ -7,8 +7,8 @@ import time
 
 sys.dont_write_bytecode = True
 
-from dealer_runs import WAIT, are_ended
-from league_runs import OPTIONS, Bots, League, awaited, command, descendants, kill, test
+from dealer_runs import are_ended
+from league_runs import OPTIONS, WAIT, Bots, League, awaited, command, descendants, kill, test
 from serving import want
 
 SEED = 67
@@ -48,7 +48,7 @@ def a_run_that_is_killed_again_and_again():
     letter that of a league with the same secret that nobody disturbed, and the logs are."""
     kills, hands, meetings = (int(OPTIONS[key]) for key in ("--kills", "--hands", "--meetings"))
     dice, torn = random.Random(SEED), 0
-    calm, killed = (League(six_bots(), hands=hands, meetings=meetings) for _ in range(2))
+    calm, killed = (League(six_bots(), hands=hands, meetings=meetings, start_timeout=1000 * WAIT) for _ in range(2))
     for league in (calm, killed):
         league.kept.mkdir()
         (league.kept / "secret").write_bytes(bytes(32))
@@ -60,8 +60,8 @@ def a_run_that_is_killed_again_and_again():
         time.sleep(dice.choice([0, 0.05, 1]) * dice.random())
         end_by_nine(run, with_children=number % 2 == 0)
         torn += is_played(killed)
-    killed.does("run", "--jobs", "8", most=10 * WAIT)
-    want(ran.wait(10 * WAIT) == 0, "the undisturbed run failed")
+    killed.does("run", "--jobs", "8", most=5 * WAIT)
+    want(ran.wait(5 * WAIT) == 0, "the undisturbed run failed")
     want(torn, "no kill hit a match")
     want(killed.table() == calm.table(), f"the tables differ:\n{killed.table()}\n{calm.table()}")
     want(killed.logs() == calm.logs() and len(calm.logs()) == 30 * meetings, "the logs differ")

@@ -8,8 +8,8 @@ from html.parser import HTMLParser
 
 sys.dont_write_bytecode = True
 
-from dealer_runs import NOLIMIT_3P, NOLIMIT_6P, WAIT
-from league_runs import TOOL, Bots, League, command, test
+from dealer_runs import NOLIMIT_3P, NOLIMIT_6P
+from league_runs import TOOL, WAIT, Bots, League, command, test
 from serving import TOP, want
 
 CALLS = "true {port}"

@@ -71,22 +71,22 @@ def a_bot_that_cannot_be_started_costs_little_time():
 @test
 def responses_that_take_too_long():
     """A bot that answers nothing is started again once, then it has default actions; it is killed, since it asks not to end."""
-    league = League({"calls": command("calls"), "silent": command("silent")}, hands=2, restarts=1, t_response=300)
+    league = League({"calls": command("calls"), "silent": command("silent")}, hands=2, restarts=1, t_response=1500)
     league.does("match", "1")
     result = league.result("calls.silent.1.0")
     want(result["restarts"] == [0, 1] and result["defaults"][1] >= 2 and result["defaults"][0] == 0, f"it is {result}")
     notes = (league.kept / "matches/calls.silent.1.0/notes").read_text()
-    want("silent: out of time: no response came within 0.300 s: started again (1 of 1)" in notes, f"the notes are {notes}")
+    want("silent: out of time: no response came within 1.500 s: started again (1 of 1)" in notes, f"the notes are {notes}")
 
 
 @test
 def one_who_never_comes_costs_the_other_nothing():
     """The limit of the start passes while the first seat is waited for; who came to the second one long before has come in
     time. None of the first one's processes is left."""
-    league = League({"calls": command("calls"), "stubborn": command("stubborn")}, hands=2, restarts=1, start_timeout=1500)
+    league = League({"quick": Bots.command(1), "stubborn": command("stubborn")}, hands=2, restarts=1, start_timeout=5000)
     league.does("match", "2")
-    result = league.result("calls.stubborn.1.1")
-    want(result["seats"] == ["stubborn", "calls"] and result["restarts"] == [1, 0], f"it is {result}")
+    result = league.result("quick.stubborn.1.1")
+    want(result["seats"] == ["stubborn", "quick"] and result["restarts"] == [1, 0], f"it is {result}")
     want(result["defaults"][0] > 0 == result["defaults"][1], f"it is {result}")
     left = [number for number in os.listdir("/proc") if number.isdigit() and str(league.folder) in folder_of(number)]
     want(not left, f"processes {left} are left")

@@ -11,10 +11,12 @@ from pathlib import Path
 
 sys.dont_write_bytecode = True
 
-from dealer_runs import NOLIMIT_2P, PROGRAM, WAIT, fields_of
+from dealer_runs import NOLIMIT_2P, PROGRAM, fields_of
 from serving import FAST, TOP, want
 
 TOOL = TOP / "tools/league"
+# The longest wait for anything that has to happen, in seconds: on a busy machine even a bot's start takes long.
+WAIT = 300
 BOT = [sys.executable, str(TOP / "tests/league_bot.py")]
 # All tests by their titles, and what the command line asks for.
 TESTS = []
