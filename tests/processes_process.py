@@ -109,7 +109,7 @@ class Peer:
         self.opened = self.heard = 0.0
         self.trip, self.beat, self.unanswered = None, None, None
         self.number_sent = self.number_got = 0
-        self.sent_at = {}
+        self.sent_at, self.seats = {}, set()
 
 
 class Process:
@@ -132,6 +132,7 @@ class Process:
         self.work_since = self.behind_since = None
         self.ticked, self.in_vain, self.last_call = None, 0, 0.0
         self.was_led, self.unquorate, self.over_since, self.pace = False, None, None, 1000.0
+        self.quorate_since, self.replays, self.seated, self.ordered = now, False, {}, None
         self.next_beat, self.turn_began = now, now
         self.log = []
         self.logs.append(self.log)
@@ -282,7 +283,9 @@ class Process:
             if reader == "L":
                 self.log.append(line)
             else:
-                self.world.bots[int(reader)].told(self.number, line)
+                for bot in self.world.bots:
+                    if bot.seat == int(reader):
+                        bot.told(self.number, line)
 
     def send(self, peer, message):
         """Gives a frame to a peer's connection, but an Ask that has just been put."""
@@ -405,12 +408,12 @@ class Process:
         else:
             wire.close(self.number)
 
-    def on_beat(self, peer, wire, number, got, front, campaigns, over):
+    def on_beat(self, peer, wire, number, got, front, campaigns, over, seats):
         if peer.wire is not wire:
             return
         now = self.world.now
         peer.heard = peer.heard_ever = now
-        peer.number_got = number
+        peer.number_got, peer.seats = number, seats
         if got in peer.sent_at:
             peer.trip = now - peer.sent_at[got]
             peer.sent_at = {k: when for k, when in peer.sent_at.items() if k > got}
@@ -458,7 +461,7 @@ class Process:
     def beat(self, peer):
         peer.number_sent += 1
         peer.sent_at[peer.number_sent] = self.world.now
-        state = (self.node.front, self.node.state != "idle", self.is_over())
+        state = (self.node.front, self.node.state != "idle", self.is_over(), self.seats())
         peer.wire.send(self.number, ("beat", peer.number_sent, peer.number_got, *state))
 
     def is_over(self):
@@ -477,7 +480,7 @@ class Process:
         promised = "-" if node.promised == nodes.NONE else node.promised[1]
         words = [micros(self.world.now), self.number, node.front, micros(self.moved), promised, micros(self.promised_since)]
         words += [int(node.state != "idle"), int(self.was_led), int(self.is_over())]
-        words += [int(table.runs()), int(node.pending is not None)]
+        words += [int(table.runs()), int(node.pending is not None), int(node.front in node.accepted)]
         words += [micros(self.work_since or 0.0), micros(self.behind_since or 0.0)]
         words += ["-" if self.ticked is None else micros(self.ticked), self.in_vain, micros(self.last_call)]
         for peer in self.peers.values():
@@ -497,12 +500,12 @@ class Process:
     def tick_if_due(self):
         """Asks what is due; whether the node ticks."""
         now = self.world.now
-        until, work, behind, quorate, self.pace = self.world.clock.ask(self.known())
+        until, work, behind, self.replays, quorate, self.pace = self.world.clock.ask(self.known())
         is_new = (work and not behind) != (self.work_since is not None) or behind != (self.behind_since is not None)
         if is_new:
             self.work_since = (self.work_since or now) if work and not behind else None
             self.behind_since = (self.behind_since or now) if behind else None
-            until, work, behind, quorate, self.pace = self.world.clock.ask(self.known())
+            until, work, behind, self.replays, quorate, self.pace = self.world.clock.ask(self.known())
         self.until = until if until is not None else now
         self.hang_up(quorate)
         if self.ends():
@@ -515,17 +518,54 @@ class Process:
             self.world.tell("tick", self.number, self.node.front, self.node.promised)
             self.call(lambda: self.node.call(self.node.tick))
             return True
-        return False
+        return self.order_if_due()
 
     def hang_up(self, quorate):
         """Without a quorum seats are sent elsewhere after a while."""
         if quorate:
+            self.quorate_since = self.quorate_since if self.unquorate is None else self.world.now
             self.unquorate = None
             return
         self.unquorate = self.world.now if self.unquorate is None else self.unquorate
         if self.world.now - self.unquorate >= HANGUP:
             for bot in self.world.bots:
                 bot.drop_at(self.number)
+
+    # A seat that holds the table for too long is played for.
+
+    def sits_at(self, peer, seat):
+        """Whether a present peer has told that the seat sits there."""
+        return peer.wire is not None and peer.beat is not None and self.world.now - peer.heard < self.pace and seat in peer.seats
+
+    def awaited(self, seat):
+        """A line for the program."""
+        now, here = self.world.now, seat in self.seats()
+        others = [peer.number for peer in self.peers.values() if self.sits_at(peer, seat)]
+        present = [p.number for p in self.peers.values() if p.wire is not None and p.beat is not None and now - p.heard < self.pace]
+        rank = sum(number < self.number for number in (others if here else present))
+        since = max(self.moved, self.quorate_since, self.seated.get(seat, self.began))
+        ordered = "-" if self.ordered is None or self.ordered < self.moved else micros(self.ordered)
+        words = [micros(now), micros(self.world.patience), int(self.is_over()), int(self.node.table.runs()), int(self.unquorate is None)]
+        return [*words, int(self.replays), int(here), int(bool(others)), rank, micros(since), ordered]
+
+    def seats(self):
+        """The seats that sit here."""
+        return {bot.seat for bot in self.world.bots if bot.up and bot.at == self.number}
+
+    def order_if_due(self):
+        """Asks whether the seat to act is to be played for; whether that is ordered."""
+        table = self.node.table
+        if self.world.patience is None or not table.runs():
+            return False
+        hand = table.hand
+        until = self.world.clock.ask_away(self.awaited((hand.turn + hand.number) % table.game.players))
+        if until is not None:
+            self.until = min(self.until, until)
+            return False
+        self.ordered = self.world.now
+        self.world.orders += 1
+        self.call(lambda: self.node.call(self.node.away))
+        return True
 
     def takes_seats(self):
         return self.up and not (self.unquorate is not None and self.world.now - self.unquorate >= HANGUP)

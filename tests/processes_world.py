@@ -15,6 +15,11 @@ LOCAL, BOT_PATIENCE = 0.05, 2000.0
 STUCK = 90_000.0
 
 
+def until_of(answer):
+    """Until when nothing is due by an answer's words; None where it is."""
+    return None if answer[0] == b"tick" else int(answer[1]) / 1000
+
+
 class Clock:
     """The program that answers what is due."""
 
@@ -22,13 +27,19 @@ class Clock:
         self.program = subprocess.Popen([program], stdin=subprocess.PIPE, stdout=subprocess.PIPE)
 
     def ask(self, words):
-        """When to tick, None for now; whether there is work, the node is behind, it is quorate; its pace."""
+        """When to tick, None for now; whether there is work, the node is behind, replays, is quorate; its pace."""
+        answer = self.answer(words)
+        *flags, pace = answer[-5:]
+        return until_of(answer), *(flag == b"1" for flag in flags), int(pace) / 1000
+
+    def ask_away(self, words):
+        """When to order that the seat to act is played for, None for now."""
+        return until_of(self.answer(words))
+
+    def answer(self, words):
         self.program.stdin.write((" ".join(map(str, words)) + "\n").encode())
         self.program.stdin.flush()
-        answer = self.program.stdout.readline().split()
-        until = None if answer[0] == b"tick" else int(answer[1]) / 1000
-        work, behind, quorate, pace = answer[-4:]
-        return until, work == b"1", behind == b"1", quorate == b"1", int(pace) / 1000
+        return self.program.stdout.readline().split()
 
     def close(self):
         self.program.stdin.close()
@@ -80,6 +91,7 @@ class Bot:
     def greet(self, life):
         if self.is_at(life):
             node, seat = self.world.processes[self.at].node, self.seat
+            self.world.processes[self.at].seated[seat] = self.world.now
             self.give(lambda: node.sessions.update({seat: nodes.Session(seat)}))
             self.give(lambda: node.hear(seat, b"VERSION:2.0.0\r"))
 
@@ -132,7 +144,7 @@ class Bot:
 class World:
     """All of a run. `options` are what a batch says of it, `faults` is called as the match goes on."""
 
-    def __init__(self, clock, seed, count=3, hands=20, way=0.05, sync=0.4, think=0.05, at=(0, 0), stays=False, tells_ends=False, by_beats=False, busy=0.0, verbose=False):
+    def __init__(self, clock, seed, count=3, hands=20, way=0.05, sync=0.4, think=0.05, at=(0, 0), stays=False, tells_ends=False, by_beats=False, busy=0.0, patience=None, votes=0, players=None, verbose=False):
         self.clock, self.random, self.count = clock, random.Random(seed), count
         self.now, self.queue, self.events = 0.0, [], 0
         self.way_ms, self.sync_ms, self.think_ms, self.verbose = way, sync, think, verbose
@@ -142,14 +154,32 @@ class World:
         self.by_beats = by_beats
         # Now and then something waits for a processor, for so many milliseconds at most.
         self.busy = busy
+        # How long a seat may hold the table; without it nobody is played for, and nobody was so far.
+        self.patience, self.orders = patience, 0
         self.match = Match(count, hands)
         self.wires, self.cuts, self.slow, self.gone = [], set(), {}, set()
         self.processes = [Process(self, number) for number in range(count)]
-        self.bots = [Bot(self, seat, at[seat], stays) for seat in range(2)]
+        self.bots = players(self) if players else [Bot(self, seat, at[seat], stays) for seat in range(2)]
+        # A run may end once this holds of the world.
+        self.is_enough, self.enough_at, self.why_not = (lambda: False), None, (lambda: None)
+        if votes:
+            self.fill(votes)
         self.applied, self.last_applied, self.longest, self.ticks = 0, 0.0, 0.0, 0
         self.fault_at, self.gaps, self.faults = None, [], 0
         self.on_progress, self.on_end, self.writes = (lambda front: None), (lambda: None), (lambda process, receiver, message: True)
         self.held_until = 0.0
+
+    def fill(self, votes):
+        """All nodes were killed after so many commands: each has its votes of them, and knows none as chosen."""
+        cards = [nodes.number_of(card) for card in nodes.dealer.CARDS[:9]]
+        commands = [nodes.deal_bytes(slot // 9, []) [:5] + bytes([9, *cards]) if slot % 9 == 0 else nodes.act_bytes(slot // 9, slot % 9 - 1, "c", 0) for slot in range(votes)]
+        for process in self.processes:
+            process.node.promised = (1, 0)
+            process.node.accepted.update((slot, ((1, 0), command)) for slot, command in enumerate(commands))
+
+    def is_whole_to(self, front):
+        """Whether each process runs and has come so far."""
+        return all(process.up and process.node.front >= front for process in self.processes)
 
     def way(self):
         return self.way_ms * (1 + self.random.random()) + self.waits()
@@ -241,12 +271,13 @@ class World:
             process.start()
         for bot in self.bots:
             bot.dial(bot.at)
-        while self.queue and not self.is_done():
+        while self.queue and not self.is_done() and not self.is_enough():
             self.now, _, what, arguments = heapq.heappop(self.queue)
             what(*arguments)
             if self.now - self.last_applied > STUCK:
                 return self.state()
-        return None if self.is_done() else self.state()
+        self.enough_at = self.now if self.is_enough() else None
+        return None if self.is_done() or self.enough_at is not None else self.state()
 
     def state(self):
         texts = []

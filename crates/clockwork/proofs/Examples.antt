@@ -15,8 +15,8 @@ use Rattle.clockwork.specs.Helping.{lag_within, lagging, has_passed, lagging_lef
 use Rattle.clockwork.specs.Standings.{idle_since, gone_since, standing_over, standing_behind, standing_to}
 use Rattle.clockwork.specs.Work.{has_work, is_reopened, steps_by_number, steps_behind, is_untold, idle_wait, row_left, work_left}
 use Rattle.clockwork.specs.Dues.{due_in, behind_left, awaited, due_of}
-use Rattle.clockwork.specs.ActionTimeout.{is_ours, away_wait, away_left, away_due_of, HasWaitedFor, IsOrderedLongAgo}
-use Rattle.clockwork.specs.Laws.{LongAgo, HasWaited, IsReason, to_catch_up, for_a_peer, to_work, to_be_heard, IsLinkPast, heard_again}
+use Rattle.clockwork.specs.ActionTimeout.{is_ours, away_left, away_due_of, HasWaitedFor, IsOrderedLongAgo}
+use Rattle.clockwork.specs.Laws.{replays, LongAgo, HasWaited, IsReason, to_catch_up, for_a_peer, to_work, to_be_heard, IsLinkPast, heard_again}
 
 -- ---- waits
 
@@ -240,6 +240,7 @@ with_peers any peers = record any {
   over = false;
   hand_runs = true;
   act_waits = false;
+  vote_waits = false;
   work_since = 1000000;
   behind_since = 1000000;
   ticks = None;
@@ -288,6 +289,24 @@ and_so_is_a_hand_to_deal : (any : Known) → has_work (record (lost any) { hand_
 unfolding has_work
 and_so_is_a_hand_to_deal any = refl
 
+and_a_vote_at_the_front : (any : Known) → has_work (record (lost any) { vote_waits = true }) ≡ true
+unfolding has_work
+and_a_vote_at_the_front any = refl
+
+it_replays_with_one : (any : Known) → replays (record (lost any) { vote_waits = true }) ≡ true
+it_replays_with_one any = refl
+
+and_where_it_is_behind : (any : Known) → replays (record (among_two any (heard_at 5000000 (Some (beat_of 8)))) { vote_waits = false }) ≡ true
+unfolding among_two is_behind is_above told pace_of slowest trip
+and_where_it_is_behind any = refl
+
+not_once_it_is_over : (any : Known) → replays (record (lost any) { vote_waits = true; over = true }) ≡ false
+not_once_it_is_over any = refl
+
+not_at_rest : (any : Known) → replays (lost any) ≡ false
+unfolding is_behind is_above told pace_of slowest trip
+not_at_rest any = refl
+
 none_where_the_match_is_over : (any : Known) → has_work (record (lost any) { act_waits = true; over = true }) ≡ false
 unfolding has_work
 none_where_the_match_is_over any = refl
@@ -320,13 +339,17 @@ of_those_who_would_deal_one_after_another : (any : Known) → idle_wait (record 
 unfolding idle_wait soon_of slowest trip steps_behind rank_behind comes_sooner turn told
 of_those_who_would_deal_one_after_another any = refl
 
-an_act_from_before_the_promise : (any : Known) → is_untold (record any { act_waits = true; work_since = 4000000; promised_since = 4000001 }) ≡ true
+an_act_from_before_the_promise : (any : Known) → is_untold (record any { act_waits = true; vote_waits = false; work_since = 4000000; promised_since = 4000001 }) ≡ true
 unfolding is_untold
 an_act_from_before_the_promise any = refl
 
-an_act_that_went_on_to_the_leader : (any : Known) → is_untold (record any { act_waits = true; work_since = 4000000; promised_since = 4000000 }) ≡ false
+an_act_that_went_on_to_the_leader : (any : Known) → is_untold (record any { act_waits = true; vote_waits = false; work_since = 4000000; promised_since = 4000000 }) ≡ false
 unfolding is_untold
 an_act_that_went_on_to_the_leader any = refl
+
+an_act_behind_a_vote : (any : Known) → is_untold (record any { act_waits = true; vote_waits = true; work_since = 4000000; promised_since = 4000001 }) ≡ false
+unfolding is_untold
+an_act_behind_a_vote any = refl
 
 a_hand_to_deal_is_no_act : (any : Known) → is_untold (record any { act_waits = false; work_since = 4000000; promised_since = 4000001 }) ≡ false
 unfolding is_untold
@@ -400,32 +423,36 @@ there_is_none_at_rest any (to_be_heard front is waited) = cc
 
 -- ---- patience
 
--- a seat that sits here has held the table for ten seconds, of twenty
+-- a seat that sits here alone has held the table for ten seconds, of twenty
 abbrev held : Awaited
-held = record { time = 50000000; patience = 20000000; over = false; hand_runs = true; quorate = true; sits_here = true; sits_elsewhere = false; rank = 2; since = 40000000; ordered = None }
+held = record { time = 50000000; patience = 20000000; over = false; hand_runs = true; quorate = true; replays = false; sits_here = true; sits_elsewhere = false; rank = 0; since = 40000000; ordered = None }
 
 ten_are_left : away_due_of held ≡ Nothing 51000000
-unfolding away_due_of is_ours away_left away_wait due_in
+unfolding away_due_of is_ours away_left due_in
 ten_are_left = refl
 
 it_is_played_for : away_due_of (record held { since = 30000000 }) ≡ Now
-unfolding away_due_of is_ours away_left away_wait due_in
+unfolding away_due_of is_ours away_left due_in
 it_is_played_for = refl
 
 not_a_moment_before : away_due_of (record held { since = 30000001 }) ≡ Nothing 50000001
-unfolding away_due_of is_ours away_left away_wait due_in
+unfolding away_due_of is_ours away_left due_in
 not_a_moment_before = refl
 
-two_steps_later_where_it_sits_nowhere : away_due_of (record held { sits_here = false; since = 29950000 }) ≡ Nothing 50010000
-unfolding away_due_of is_ours away_left away_wait due_in
+two_steps_later_behind_two_others : away_due_of (record held { rank = 2; since = 29950000 }) ≡ Nothing 50010000
+unfolding away_due_of is_ours away_left due_in
+two_steps_later_behind_two_others = refl
+
+two_steps_later_where_it_sits_nowhere : away_due_of (record held { sits_here = false; rank = 2; since = 29950000 }) ≡ Nothing 50010000
+unfolding away_due_of is_ours away_left due_in
 two_steps_later_where_it_sits_nowhere = refl
 
 not_again_for_eight_seconds : away_due_of (record held { since = 0; ordered = Some 42500000 }) ≡ Nothing 50500000
-unfolding away_due_of is_ours away_left away_wait due_in
+unfolding away_due_of is_ours away_left due_in
 not_again_for_eight_seconds = refl
 
 nor_for_the_patience_where_that_is_shorter : away_due_of (record held { patience = 3000000; since = 0; ordered = Some 47000001 }) ≡ Nothing 50000001
-unfolding away_due_of is_ours away_left away_wait due_in
+unfolding away_due_of is_ours away_left due_in
 nor_for_the_patience_where_that_is_shorter = refl
 
 not_where_it_sits_elsewhere : is_ours (record held { sits_here = false; sits_elsewhere = true }) ≡ false
@@ -447,6 +474,10 @@ not_between_hands = refl
 not_apart : is_ours (record held { quorate = false }) ≡ false
 unfolding is_ours
 not_apart = refl
+
+not_while_it_replays : is_ours (record held { replays = true }) ≡ false
+unfolding is_ours
+not_while_it_replays = refl
 
 it_has_held_the_table : HasWaitedFor (record held { since = 30000000 })
 it_has_held_the_table = omega arith

@@ -28,16 +28,8 @@ parts_of_none : (awaited : Awaited) → away_left awaited ≡ 0
 unfolding away_left
 parts_of_none awaited none = max_parts (left awaited.time awaited.since (away_wait awaited)) (order_left awaited.time awaited.ordered awaited.patience) none
 
-no_shorter : (awaited : Awaited) → awaited.patience ≤ away_wait awaited
-unfolding away_wait
-no_shorter awaited = elim (cases_Bool awaited.sits_here) [ inl so ↦ rw so (omega arith) | inr not_so ↦ rw not_so (omega arith) ]
-
-no_longer : (awaited : Awaited) → away_wait awaited ≤ awaited.patience + STEP * awaited.rank
-unfolding away_wait
-no_longer awaited = elim (cases_Bool awaited.sits_here) [ inl so ↦ rw so (omega arith) | inr not_so ↦ rw not_so (omega arith) ]
-
 pub has_waited : (awaited : Awaited) → away_left awaited ≡ 0 → HasWaitedFor awaited
-has_waited awaited none = let parts = parts_of_none awaited none in let least = no_shorter awaited in omega (arith, parts.0, least)
+has_waited awaited none = none_left (away_wait awaited) (awaited.time - awaited.since) (parts_of_none awaited none).0
 
 long_ago : (time : ℕ) (ordered : Option ℕ) (patience : ℕ) → order_left time ordered patience ≡ 0 → IfSome ordered (λ moment. min patience LONGEST ≤ time - moment)
 long_ago time None patience none = tt
@@ -53,7 +45,6 @@ none_of_long_ago time (Some moment) patience ago = omega arith
 pub in_time : (awaited : Awaited) → IsOrderedInTime awaited
 unfolding away_due_of away_left
 in_time awaited = λ ours waited ago.
-    let most = no_longer awaited in
-    let first : left awaited.time awaited.since (away_wait awaited) ≡ 0 = omega (arith, most, waited) in
+    let first : left awaited.time awaited.since (away_wait awaited) ≡ 0 = omega (arith, waited) in
     let second = none_of_long_ago awaited.time awaited.ordered awaited.patience ago in
     rw ours (tick_of_none awaited.time (away_left awaited) (omega (arith, first, second)))

@@ -36,7 +36,7 @@ first_heartbeat : report_after None 10 true true 12 900 ≡ record { front = 10;
 first_heartbeat = refl
 
 abbrev seen : ℕ → Option ℕ → Seen
-seen front promised = record { front = front; promised = promised; campaigns = false; over = false; hand_runs = true; act_waits = true }
+seen front promised = record { front = front; promised = promised; campaigns = false; over = false; hand_runs = true; act_waits = true; vote_waits = false }
 
 abbrev ticked : Watch
 ticked = ticked_at (ticked_at (watch_of (seen 5 None) 100) 200) 300

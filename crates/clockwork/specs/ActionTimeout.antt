@@ -7,13 +7,13 @@ use Rattle.clockwork.specs.declared.limits.TheConstants.{STEP, LONGEST, LOOK}
 use Rattle.clockwork.specs.Waits.{left}
 use Rattle.clockwork.specs.Dues.{due_in}
 
--- the order would be this node's: the match is on, a hand runs, the node is quorate, and the seat sits here, or as far as is known nowhere
+-- the order would be this node's: the match is on, a hand runs, the node is quorate and doesn't replay, and the seat sits here, or as far as is known nowhere
 unfoldable pub is_ours : Awaited → Bool
-is_ours awaited = not awaited.over && (awaited.hand_runs && (awaited.quorate && (awaited.sits_here || not awaited.sits_elsewhere)))
+is_ours awaited = not awaited.over && (awaited.hand_runs && (awaited.quorate && (not awaited.replays && (awaited.sits_here || not awaited.sits_elsewhere))))
 
--- how long the seat is waited for: where it sits nowhere, one node after another plays for it
-unfoldable pub away_wait : Awaited → ℕ
-away_wait awaited = if awaited.sits_here then awaited.patience else awaited.patience + STEP * awaited.rank
+-- how long the seat is waited for: of several nodes whose order it would be one after another plays for it
+abbrev pub away_wait : Awaited → ℕ
+away_wait awaited = awaited.patience + STEP * awaited.rank
 
 -- it isn't ordered again before the patience has passed once more, or eight seconds
 abbrev pub order_left : ℕ → Option ℕ → ℕ → ℕ
@@ -28,9 +28,9 @@ away_due_of awaited = if is_ours awaited then due_in awaited.time (away_left awa
 
 -- ---- what holds of every order, and that it comes
 
--- nothing has happened for as long as a seat may hold the table
+-- nothing has happened for as long as a seat may hold the table, and a step more for each node that comes before this one
 abbrev pub HasWaitedFor : Awaited → Type 0
-HasWaitedFor awaited = awaited.patience ≤ awaited.time - awaited.since
+HasWaitedFor awaited = away_wait awaited ≤ awaited.time - awaited.since
 
 -- the last order, if any, was as long ago, or eight seconds
 abbrev pub IsOrderedLongAgo : Awaited → Type 0
@@ -38,4 +38,4 @@ IsOrderedLongAgo awaited = IfSome awaited.ordered (λ moment. min awaited.patien
 
 -- where the order would be this node's it is given once the patience and the steps of those before it have passed, at the latest
 abbrev pub IsOrderedInTime : Awaited → Type 0
-IsOrderedInTime awaited = is_ours awaited ≡ true → awaited.patience + STEP * awaited.rank ≤ awaited.time - awaited.since → IsOrderedLongAgo awaited → away_due_of awaited ≡ Now
+IsOrderedInTime awaited = is_ours awaited ≡ true → HasWaitedFor awaited → IsOrderedLongAgo awaited → away_due_of awaited ≡ Now

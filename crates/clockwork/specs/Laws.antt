@@ -1,5 +1,5 @@
 -- What holds of every tick, and that each tick that is needed comes.
-use Rattle.std.specs.Prelude.{◌≡◌, ◌⊎◌, ℕ, ◌+◌, ◌-◌, ◌<◌, ◌≤◌, Bool, true, false, if◌then◌else◌, length, map, Option, Some, None, IfSome, All}
+use Rattle.std.specs.Prelude.{◌≡◌, ◌⊎◌, ℕ, ◌+◌, ◌-◌, ◌<◌, ◌≤◌, Bool, true, false, not, ◌&&◌, ◌||◌, if◌then◌else◌, length, map, Option, Some, None, IfSome, All}
 use Rattle.clockwork.specs.declared.known.Ticks.{Ticks}
 use Rattle.clockwork.specs.declared.known.PeerReport.{PeerReport}
 use Rattle.clockwork.specs.declared.known.Link.{Link}
@@ -21,6 +21,10 @@ quorate known = is_quorate known.time (pace_in known) known.peers.now
 
 abbrev pub behind : Known → Bool
 behind known = is_behind known.time (pace_in known) known.front known.peers.now
+
+-- the node learns what was chosen before: its match isn't over, and a vote of its own stands at its front, or it is behind
+abbrev pub replays : Known → Bool
+replays known = not known.over && (known.vote_waits || behind known)
 
 abbrev pub lags : Known → Bool
 lags known = one_lags known (pace_in known)

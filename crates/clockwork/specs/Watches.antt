@@ -69,6 +69,7 @@ known_of w number peers now = record {
   over = w.seen.over;
   hand_runs = w.seen.hand_runs;
   act_waits = w.seen.act_waits;
+  vote_waits = w.seen.vote_waits;
   work_since = begun w.work_since now;
   behind_since = begun w.behind_since now;
   ticks = w.ticks;

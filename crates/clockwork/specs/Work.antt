@@ -13,9 +13,9 @@ use Rattle.clockwork.specs.Ranks.{rank_by_number, rank_behind}
 use Rattle.clockwork.specs.Presence.{slowest, soon_of}
 use Rattle.clockwork.specs.Standings.{is_campaign, is_follower}
 
--- the match isn't over, and an act waits or no hand runs
+-- the match isn't over, and an act waits, a vote of the node's own stands at its front, or no hand runs
 unfoldable pub has_work : Known → Bool
-has_work known = not known.over && (known.act_waits || not known.hand_runs)
+has_work known = not known.over && (known.act_waits || (known.vote_waits || not known.hand_runs))
 
 -- after the last tick
 abbrev pub opened_since : Option Ticks → ℕ → Bool
@@ -37,9 +37,9 @@ steps_by_number known pace = STEP * rank_by_number known.time pace known.number 
 unfoldable pub steps_behind : Known → ℕ → ℕ → ℕ
 steps_behind known pace leader = STEP * rank_behind known.time pace leader known.number known.peers.now
 
--- an act waits that went on to another node than the one whose ballot is promised now, or to none
+-- an act waits that went on to another node than the one whose ballot is promised now, or to none, and no vote stands where it would be
 unfoldable pub is_untold : Known → Bool
-is_untold known = known.act_waits && nat_lt known.work_since known.promised_since
+is_untold known = known.act_waits && (not known.vote_waits && nat_lt known.work_since known.promised_since)
 
 abbrev pub soon_in : Known → ℕ
 soon_in known = soon_of (slowest known.time known.last_call known.peers.now)

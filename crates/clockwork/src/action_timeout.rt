@@ -25,11 +25,14 @@ pub struct Awaited {
     pub hand_runs: bool,
     /// The node and its present peers are more than half of all (`is_quorate`).
     pub quorate: bool,
+    /// The node learns what was chosen before (`replays`).
+    pub replays: bool,
     /// A bot sits at this node for the seat.
     pub sits_here: bool,
     /// Some present peer has told that one sits there.
     pub sits_elsewhere: bool,
-    /// How many present peers have a lower number than this node (`rank`), at most `MOST_PEERS`.
+    /// How many present peers come before this node, at most `MOST_PEERS`: where the seat sits here, of those at which it
+    /// sits too, as many as have a lower number; else as many of all (`rank`).
     pub rank: usize,
     /// The latest of these: the front moved, the node became quorate, the process began, a bot took the seat at this node.
     pub since: u64,
@@ -37,8 +40,8 @@ pub struct Awaited {
     pub ordered: Option<u64>,
 }
 
-/// Whether the order to play for the seat would be this node's: the match is on, a hand runs, the node is quorate, and the
-/// seat sits here, or as far as is known nowhere.
+/// Whether the order to play for the seat would be this node's: the match is on, a hand runs, the node is quorate and doesn't
+/// replay, and the seat sits here, or as far as is known nowhere.
 #[tactic(auto, unfolding(crate::specs::ActionTimeout::is_ours))]
 fn is_ours(awaited: &Awaited) -> bool
     ensures { result ≡ is_ours awaited.now }
@@ -46,21 +49,17 @@ fn is_ours(awaited: &Awaited) -> bool
     !awaited.over
         && awaited.hand_runs
         && awaited.quorate
+        && !awaited.replays
         && (awaited.sits_here || !awaited.sits_elsewhere)
 }
 
-/// How long the seat is waited for: where it sits nowhere, one node after another plays for it.
-#[tactic(auto, unfolding(crate::specs::ActionTimeout::away_wait))]
+/// How long the seat is waited for: of several nodes whose order it would be one after another plays for it.
 fn away_wait(awaited: &Awaited) -> u64
     requires patience { awaited.now.patience ≤ LATEST }
     requires rank { awaited.now.rank ≤ MOST_PEERS }
     ensures { result ≡ away_wait awaited.now }
 {
-    if awaited.sits_here {
-        awaited.patience
-    } else {
-        awaited.patience + STEP * awaited.rank as u64
-    }
+    awaited.patience + STEP * awaited.rank as u64
 }
 
 /// What is left until it may be ordered again.
@@ -89,9 +88,9 @@ fn away_left(awaited: &Awaited) -> u64
 
 /// Whether a node is to order now that the seat to act is played for (`Due::Now`), by what its process knows.
 ///
-/// The node at which the seat sits orders it once nothing has happened for `patience`; where the seat sits at none, the
-/// present nodes do, each a step later than the one before it. It is ordered again only after as long, or after eight
-/// seconds. `laws::an_order_comes_in_time` says that it comes.
+/// A node at which the seat sits orders it once nothing has happened for `patience`; where the seat sits at none, the present
+/// nodes do. Of several each does it a step later than the one before it. While a node replays it orders nothing. It is
+/// ordered again only after as long, or after eight seconds. `laws::an_order_comes_in_time` says that it comes.
 pub fn away_due(awaited: &Awaited) -> Due
     requires time { awaited.now.time ≤ LATEST }
     requires patience { awaited.now.patience ≤ LATEST }

@@ -29,6 +29,8 @@ pub struct Known<'a> {
     pub hand_runs: bool,
     /// An act waits here to be proposed.
     pub act_waits: bool,
+    /// The node's own store has a vote at its front: what was chosen there isn't known here yet, or nothing is chosen there.
+    pub vote_waits: bool,
     /// Since when there has been work here (`has_work`) while the node wasn't behind, both without a break. It tells
     /// nothing where that isn't so now.
     pub work_since: u64,

@@ -8,7 +8,7 @@
 //! an open connection and since when (`report_after`). Of both it makes a `Known`, and asks whenever something came, a
 //! connection opened or ended, or the moment of the last answer has come. By `has_work` and `is_behind` it knows when
 //! `work_since` and `behind_since` begin anew, by `is_quorate` whether it may keep its seats, by `pace` how long a silent
-//! peer counts as present (`is_heard`). There are no faults.
+//! peer counts as present (`is_heard`), by `replays` that nobody is to be played for. There are no faults.
 //!
 //! The tests of `clockwork_lines` have the rules row by row, and `tests/processes_sim` lets simulated processes tick by them.
 #![tactic(auto)]
@@ -38,4 +38,4 @@ pub use presence::{is_behind, is_quorate, pace};
 pub use ranks::rank;
 pub use silence::is_heard;
 pub use watch::{Seen, Watch};
-pub use work::has_work;
+pub use work::{has_work, replays};

@@ -18,6 +18,8 @@ pub struct Seen {
     pub hand_runs: bool,
     /// Whether an act waits there to be proposed.
     pub act_waits: bool,
+    /// Whether its store has a vote at its front.
+    pub vote_waits: bool,
 }
 
 /// What is seen of the node of a process, and since when.
@@ -153,6 +155,7 @@ impl Watch {
             over: self.seen.over,
             hand_runs: self.seen.hand_runs,
             act_waits: self.seen.act_waits,
+            vote_waits: self.seen.vote_waits,
             work_since: match self.work_since {
                 Some(moment) => moment,
                 None => now,

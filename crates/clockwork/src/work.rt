@@ -2,20 +2,30 @@ ghost use Rattle.std.specs.Prelude.{◌≡◌, ◌≤◌, length};
 ghost use Rattle.clockwork.specs.declared.limits.TheConstants.{SHORTEST, LONGEST, LATEST, MOST_PEERS};
 ghost use Rattle.clockwork.specs.Work.{has_work, opened_since, is_reopened, one_reopened, steps_by_number, steps_behind, is_untold, idle_wait, row_left, work_left};
 ghost use Rattle.clockwork.specs.Standings.{standing};
+ghost use Rattle.clockwork.specs.Laws.{replays};
 
 use crate::known::{Known, Link, Ticks};
 use crate::limits::{LONGEST, STEP};
-use crate::presence::{slowest, soon_of};
+use crate::presence::{is_behind, slowest, soon_of};
 use crate::ranks::{rank_behind, rank_by_number};
 use crate::standing::{Standing, is_campaign, is_follower, standing_of};
 use crate::waits::{again, doubled, in_vain, left};
 
-/// Whether a node has something to do: its match isn't over, and an act waits or no hand runs.
+/// Whether a node has something to do: its match isn't over, and an act waits, a vote of its own stands at its front, or no
+/// hand runs.
 #[tactic(auto, unfolding(crate::specs::Work::has_work))]
 pub fn has_work(known: &Known<'_>) -> bool
     ensures { result ≡ has_work known.now }
 {
-    !known.over && (known.act_waits || !known.hand_runs)
+    !known.over && (known.act_waits || known.vote_waits || !known.hand_runs)
+}
+
+/// Whether a node learns what was chosen before, as far as it knows: its match isn't over, and a vote of its own stands at its
+/// front, or it is behind.
+pub fn replays(known: &Known<'_>) -> bool
+    ensures { result ≡ replays known.now }
+{
+    !known.over && (known.vote_waits || is_behind(known))
 }
 
 /// Whether a moment comes after the last tick.
@@ -47,12 +57,13 @@ fn one_reopened(known: &Known<'_>) -> bool
     known.peers.iter().any(|peer| is_reopened(ticks, peer.link))
 }
 
-/// Whether an act waits here that went on to another node than the one whose ballot is promised now, or to none.
+/// Whether an act waits here that went on to another node than the one whose ballot is promised now, or to none. Where a vote
+/// stands at the front that command comes first, and the act is most likely of a bot that was shown an old line.
 #[tactic(auto, unfolding(crate::specs::Work::is_untold))]
 fn is_untold(known: &Known<'_>) -> bool
     ensures { result ≡ is_untold known.now }
 {
-    known.act_waits && known.work_since < known.promised_since
+    known.act_waits && !known.vote_waits && known.work_since < known.promised_since
 }
 
 /// How long a node with work waits where its leader is there and campaigns no longer: that one has the act that went on to

@@ -6,12 +6,12 @@ use clockwork::{Awaited, Known, Link, OpenLink, Peer, PeerReport, Ticks};
 use std::alloc::{AllocError, Global};
 
 /// How many words of a line tell of the process itself, and of each peer.
-const OWN: usize = 16;
+const OWN: usize = 17;
 
 const OF_A_PEER: usize = 13;
 
 /// How many words a line has that tells of the seat to act.
-pub const OF_A_SEAT: usize = 10;
+pub const OF_A_SEAT: usize = 11;
 
 /// The numbers of a line; what is none stands as none.
 pub fn numbers_of(alloc: Global, line: &str) -> Result<Vec<Option<u64>>, AllocError> {
@@ -64,11 +64,12 @@ pub fn awaited_of(numbers: &[Option<u64>]) -> Awaited
         over: flag(numbers, 2),
         hand_runs: flag(numbers, 3),
         quorate: flag(numbers, 4),
-        sits_here: flag(numbers, 5),
-        sits_elsewhere: flag(numbers, 6),
-        rank: (number(numbers, 7) as usize).min(MOST_PEERS),
-        since: number(numbers, 8),
-        ordered: optional(numbers, 9),
+        replays: flag(numbers, 5),
+        sits_here: flag(numbers, 6),
+        sits_elsewhere: flag(numbers, 7),
+        rank: (number(numbers, 8) as usize).min(MOST_PEERS),
+        since: number(numbers, 9),
+        ordered: optional(numbers, 10),
     }
 }
 
@@ -90,10 +91,11 @@ pub fn known_of<'a>(numbers: &[Option<u64>], peers: &'a [Peer]) -> Known<'a>
         over: flag(numbers, 8),
         hand_runs: flag(numbers, 9),
         act_waits: flag(numbers, 10),
-        work_since: number(numbers, 11),
-        behind_since: number(numbers, 12),
+        vote_waits: flag(numbers, 11),
+        work_since: number(numbers, 12),
+        behind_since: number(numbers, 13),
         ticks: ticks_of(numbers),
-        last_call: number(numbers, 15),
+        last_call: number(numbers, 16),
     }
 }
 
@@ -105,10 +107,10 @@ fn promised_of(numbers: &[Option<u64>]) -> Option<u8> {
 }
 
 fn ticks_of(numbers: &[Option<u64>]) -> Option<Ticks> {
-    match optional(numbers, 13) {
+    match optional(numbers, 14) {
         Some(last) => Some(Ticks {
             last,
-            in_vain: byte(numbers, 14),
+            in_vain: byte(numbers, 15),
         }),
         None => None,
     }

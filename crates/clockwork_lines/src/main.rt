@@ -1,16 +1,16 @@
 //! Answers lines of what processes know by what is due there, for a simulation of processes.
 //!
 //! A line has words with one blank between: numbers, or `-` for none. The first are `time number front moved promised
-//! promised_since campaigns was_led over hand_runs act_waits work_since behind_since last in_vain last_call`, as the
+//! promised_since campaigns was_led over hand_runs act_waits vote_waits work_since behind_since last in_vain last_call`, as the
 //! fields of `Known` and its `Ticks`; a flag is 0 or 1. Then come those of each peer: `number accepted open since heard
 //! round_trip unanswered told front below campaigns told over`; `open` tells whether a connection is open, `since` when it
 //! opened or the last one ended, the first `told` whether a beat came.
 //!
-//! The answer is `tick`, or `nothing` and until when, and then three flags and a length of time: whether there is work,
-//! whether the node is behind, whether it is quorate, and its pace.
+//! The answer is `tick`, or `nothing` and until when, and then four flags and a length of time: whether there is work,
+//! whether the node is behind, whether it replays, whether it is quorate, and its pace.
 //!
-//! A line of ten words says what is known of the seat to act, as the fields of `Awaited`: `time patience over hand_runs quorate
-//! sits_here sits_elsewhere rank since ordered`. The answer is `tick` where it is to be ordered that the seat is played for, or
+//! A line of eleven words says what is known of the seat to act, as the fields of `Awaited`: `time patience over hand_runs quorate
+//! replays sits_here sits_elsewhere rank since ordered`. The answer is `tick` where it is to be ordered that the seat is played for, or
 //! `nothing` and until when. A line of another length is answered by `-`.
 #![tactic(auto)]
 
@@ -20,7 +20,9 @@ ghost use Rattle.std.specs.Prelude.{◌≤◌, length};
 ghost use Rattle.clockwork.specs.declared.limits.TheConstants.{LATEST, MOST_PEERS};
 
 use clockwork::limits::MOST_PEERS;
-use clockwork::{Awaited, Due, Known, Peer, away_due, due, has_work, is_behind, is_quorate, pace};
+use clockwork::{
+    Awaited, Due, Known, Peer, away_due, due, has_work, is_behind, is_quorate, pace, replays,
+};
 use fields::{OF_A_SEAT, awaited_of, is_whole, known_of, numbers_of, peers_of};
 use std::io;
 
@@ -69,9 +71,10 @@ fn print_known(rt: &impl Print, known: &Known<'_>) -> io::Result<()>
     print_due(rt, due(known))?;
     let work = u8::from(has_work(known));
     let behind = u8::from(is_behind(known));
+    let replays = u8::from(replays(known));
     let quorate = u8::from(is_quorate(known));
     let pace = pace(known);
-    println!(rt; " {work} {behind} {quorate} {pace}")
+    println!(rt; " {work} {behind} {replays} {quorate} {pace}")
 }
 
 /// Prints whether something is due.
