@@ -399,6 +399,18 @@ impl<D: Disk + Drop> Node<D> {
         }
     }
 
+    /// Whether a vote of the node's own stands at its front: it has stored what was proposed there, and doesn't know it as
+    /// chosen. One that is down knows of none.
+    pub fn vote_waits(&self) -> bool
+        ensures seen { (s : Standing) → IsTrue D.is_honest → IsSeen D.Disk self.now s → s.up ≡ true → result ≡ is_some (s.store.votes (front_of s)) }
+        ensures down { runs self.now ≡ false → result ≡ false }
+    {
+        match &self.up {
+            None => false,
+            Some(up) => up.vote_waits(),
+        }
+    }
+
     /// The act that waits to be proposed; none while the node is down.
     pub fn pending(&self) -> Option<Command>
         ensures seen { (s : Standing) → IsSeen D.Disk self.now s → result ≡ s.pending }

@@ -1,5 +1,5 @@
-ghost use Rattle.std.specs.Prelude.{◌≡◌, IsTrue};
-ghost use Rattle.node_rules.specs.Standings.{Standing};
+ghost use Rattle.std.specs.Prelude.{◌≡◌, IsTrue, is_some};
+ghost use Rattle.node_rules.specs.Standings.{Standing, front_of};
 ghost use Rattle.dealer_node.specs.Members.{Membership};
 ghost use Rattle.dealer_node.specs.Seeing.{promised_ballot};
 ghost use Rattle.dealer_node.specs.Working.{IsUp};
@@ -36,5 +36,13 @@ impl<D: Disk + Drop> Up<D> {
         ensures { (member : Membership) (s : Standing) → IsTrue D.is_honest → IsUp D.Disk member self.now s → result ≡ promised_ballot s.store.promise }
     {
         promised_ballot(self.acceptor.promised())
+    }
+
+    /// Whether its store has a vote at the front.
+    pub(crate) fn vote_waits(&self) -> bool
+        ensures { (member : Membership) (s : Standing) → IsTrue D.is_honest → IsUp D.Disk member self.now s → result ≡ is_some (s.store.votes (front_of s)) }
+    {
+        let front = self.running.front();
+        self.acceptor.store().held().find(front).is_some()
     }
 }
