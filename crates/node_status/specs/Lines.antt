@@ -7,8 +7,9 @@ use Rattle.node_status.specs.declared.status.SeatStatus.{SeatStatus}
 use Rattle.node_status.specs.Texts.{yes_or_no, hand_text, promised_text, peer_text, seat_text, backlog_text, listed}
 
 -- how far the node is
-unfoldable pub play_text : (node front : ℕ) (hand : Option ℕ) (over : Bool) → List ℕ
-play_text node front hand over = codes "node " ++ decimal node ++ codes " front " ++ decimal front ++ codes " hand " ++ hand_text hand ++ codes " over " ++ yes_or_no over
+unfoldable pub play_text : (node front : ℕ) (hand : Option ℕ) (over replaying : Bool) → List ℕ
+play_text node front hand over replaying =
+    codes "node " ++ decimal node ++ codes " front " ++ decimal front ++ codes " hand " ++ hand_text hand ++ codes " over " ++ yes_or_no over ++ codes " replaying " ++ yes_or_no replaying
 
 -- who leads, and who is there
 unfoldable pub ballot_text : (promised : Option Ballot) (leads quorum : Bool) (peers : List PeerStatus) → List ℕ
@@ -22,4 +23,4 @@ work_text seats pending commands =
 
 -- all of it
 abbrev pub status_text : Status → List ℕ
-status_text s = play_text s.node s.front s.hand s.over ++ ballot_text s.promised s.leads s.quorum s.peers.now ++ work_text s.seats.now s.pending s.commands
+status_text s = play_text s.node s.front s.hand s.over s.replaying ++ ballot_text s.promised s.leads s.quorum s.peers.now ++ work_text s.seats.now s.pending s.commands

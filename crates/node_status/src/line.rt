@@ -23,7 +23,7 @@ pub fn status_line(alloc: Global, status: &Status<'_>) -> Result<Vec<u8>, AllocE
 /// Appends how far the node is.
 #[tactic(auto, unfolding(crate::specs::Lines::play_text))]
 fn put_play(line: &mut Vec<u8>, status: &Status<'_>) -> Result<(), AllocError>
-    ensures { OnOk result (line.new.items ≡ line.old.items ++ play_text status.now.node status.now.front status.now.hand status.now.over) }
+    ensures { OnOk result (line.new.items ≡ line.old.items ++ play_text status.now.node status.now.front status.now.hand status.now.over status.now.replaying) }
 {
     put(line, b"node ")?;
     put_number(line, status.node as u64)?;
@@ -32,7 +32,9 @@ fn put_play(line: &mut Vec<u8>, status: &Status<'_>) -> Result<(), AllocError>
     put(line, b" hand ")?;
     put_hand(line, status.hand)?;
     put(line, b" over ")?;
-    put(line, yes_or_no(status.over))
+    put(line, yes_or_no(status.over))?;
+    put(line, b" replaying ")?;
+    put(line, yes_or_no(status.replaying))
 }
 
 /// Appends who leads, and who is there.

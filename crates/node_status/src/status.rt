@@ -14,6 +14,8 @@ pub struct Status<'a> {
     pub hand: Option<u32>,
     /// The match is over here.
     pub over: bool,
+    /// It learns what was chosen before, and its front says how far it is.
+    pub replaying: bool,
     /// The ballot that it promised last, if it promised one.
     pub promised: Option<Ballot>,
     /// It leads: a quorum promised its ballot, and it was not refused since.
