@@ -543,10 +543,14 @@ class Process:
         others = [peer.number for peer in self.peers.values() if self.sits_at(peer, seat)]
         present = [p.number for p in self.peers.values() if p.wire is not None and p.beat is not None and now - p.heard < self.pace]
         rank = sum(number < self.number for number in (others if here else present))
-        since = max(self.moved, self.quorate_since, self.seated.get(seat, self.began))
+        since = max(micros(self.moved), micros(self.quorate_since), self.seated.get(seat, 0))
         ordered = "-" if self.ordered is None or self.ordered < self.moved else micros(self.ordered)
         words = [micros(now), micros(self.world.patience), int(self.is_over()), int(self.node.table.runs()), int(self.unquorate is None)]
-        return [*words, int(self.replays), int(here), int(bool(others)), rank, micros(since), ordered]
+        return [*words, int(self.replays), int(here), int(bool(others)), rank, since, ordered]
+
+    def seat(self, seat):
+        """A bot took a seat here."""
+        self.seated[seat] = self.world.clock.seated_after(self.seated.get(seat), micros(self.moved), micros(self.world.now))
 
     def seats(self):
         """The seats that sit here."""

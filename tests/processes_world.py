@@ -36,6 +36,10 @@ class Clock:
         """When to order that the seat to act is played for, None for now."""
         return until_of(self.answer(words))
 
+    def seated_after(self, earlier, moved, now):
+        """Since when a seat is waited for where a bot takes it now, in whole microseconds."""
+        return int(self.answer(["-" if earlier is None else earlier, moved, now])[0])
+
     def answer(self, words):
         self.program.stdin.write((" ".join(map(str, words)) + "\n").encode())
         self.program.stdin.flush()
@@ -91,7 +95,7 @@ class Bot:
     def greet(self, life):
         if self.is_at(life):
             node, seat = self.world.processes[self.at].node, self.seat
-            self.world.processes[self.at].seated[seat] = self.world.now
+            self.world.processes[self.at].seat(seat)
             self.give(lambda: node.sessions.update({seat: nodes.Session(seat)}))
             self.give(lambda: node.hear(seat, b"VERSION:2.0.0\r"))
 

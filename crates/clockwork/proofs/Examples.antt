@@ -15,7 +15,7 @@ use Rattle.clockwork.specs.Helping.{lag_within, lagging, has_passed, lagging_lef
 use Rattle.clockwork.specs.Standings.{idle_since, gone_since, standing_over, standing_behind, standing_to}
 use Rattle.clockwork.specs.Work.{has_work, is_reopened, steps_by_number, steps_behind, is_untold, idle_wait, row_left, work_left}
 use Rattle.clockwork.specs.Dues.{due_in, behind_left, awaited, due_of}
-use Rattle.clockwork.specs.ActionTimeout.{is_ours, away_left, away_due_of, HasWaitedFor, IsOrderedLongAgo}
+use Rattle.clockwork.specs.ActionTimeout.{is_ours, away_left, away_due_of, seated_after, HasWaitedFor, IsOrderedLongAgo}
 use Rattle.clockwork.specs.Laws.{replays, LongAgo, HasWaited, IsReason, to_catch_up, for_a_peer, to_work, to_be_heard, IsLinkPast, heard_again}
 
 -- ---- waits
@@ -490,3 +490,12 @@ ordered_eight_seconds_ago = omega arith
 
 ordered_just_now : IsOrderedLongAgo (record held { ordered = Some 42000001 }) → ⊥
 ordered_just_now ago = omega arith
+
+first_seating : seated_after None 100 150 ≡ 150
+first_seating = refl
+
+seated_since_before_the_front_moved : seated_after (Some 99) 100 150 ≡ 150
+seated_since_before_the_front_moved = refl
+
+seated_again_while_it_stands : seated_after (Some 100) 100 150 ≡ 100
+seated_again_while_it_stands = refl

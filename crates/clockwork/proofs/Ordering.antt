@@ -1,12 +1,12 @@
 -- Why a seat is played for, and that it is.
 use Rattle.std.proofs.Common.{ℕ, ◌≡◌, ◌+◌, ◌-◌, ◌*◌, ◌<◌, ◌≤◌, true, Option, Some, None, inl, inr, refl, arith}
-use Rattle.std.specs.Prelude.{min, IfSome}
-use Rattle.std.proofs.lemmas.Bool.{cases_Bool}
+use Rattle.std.specs.Prelude.{min, nat_lt, IfSome}
+use Rattle.std.proofs.lemmas.Bool.{cases_Bool, le-ltb}
 use Rattle.clockwork.specs.declared.action_timeout.Awaited.{Awaited}
 use Rattle.clockwork.specs.declared.answer.Due.TheVariants.{Now, Nothing}
 use Rattle.clockwork.specs.declared.limits.TheConstants.{LONGEST, STEP, LOOK}
 use Rattle.clockwork.specs.Waits.{left}
-use Rattle.clockwork.specs.ActionTimeout.{is_ours, away_wait, order_left, away_left, away_due_of, HasWaitedFor, IsOrderedLongAgo, IsOrderedInTime}
+use Rattle.clockwork.specs.ActionTimeout.{is_ours, away_wait, order_left, away_left, away_due_of, seated_after, HasWaitedFor, IsOrderedLongAgo, IsOrderedInTime, IsSeatedOnce}
 use Rattle.clockwork.proofs.Ticking.{max_parts, none_left, tick_of_none, none_of_tick, until_of}
 
 pub order_by : (awaited : Awaited) → away_due_of awaited ≡ Now → (is_ours awaited ≡ true) × (away_left awaited ≡ 0)
@@ -48,3 +48,10 @@ in_time awaited = λ ours waited ago.
     let first : left awaited.time awaited.since (away_wait awaited) ≡ 0 = omega (arith, waited) in
     let second = none_of_long_ago awaited.time awaited.ordered awaited.patience ago in
     rw ours (tick_of_none awaited.time (away_left awaited) (omega (arith, first, second)))
+
+pub once : (earlier : Option ℕ) (moved first second : ℕ) → IsSeatedOnce earlier moved first second
+once None moved first second = λ past. rw (le-ltb first moved past) refl
+once (Some earlier) moved first second = λ past. elim (cases_Bool (nat_lt earlier moved)) [
+  | inl so ↦ rw so (rw (le-ltb first moved past) refl)
+  | inr not_so ↦ rw not_so (rw not_so refl)
+]

@@ -1,5 +1,5 @@
 -- When a node orders that the seat to act be played for. Times are in microseconds.
-use Rattle.std.specs.Prelude.{◌≡◌, ℕ, ◌+◌, ◌-◌, ◌*◌, ◌≤◌, min, max, Bool, true, not, ◌&&◌, ◌||◌, if◌then◌else◌, Option, Some, None, IfSome}
+use Rattle.std.specs.Prelude.{◌≡◌, ℕ, ◌+◌, ◌-◌, ◌*◌, ◌≤◌, min, max, Bool, true, not, ◌&&◌, ◌||◌, if◌then◌else◌, nat_lt, Option, Some, None, IfSome}
 use Rattle.clockwork.specs.declared.action_timeout.Awaited.{Awaited}
 use Rattle.clockwork.specs.declared.answer.Due.{Due}
 use Rattle.clockwork.specs.declared.answer.Due.TheVariants.{Now}
@@ -26,6 +26,11 @@ away_left awaited = max (left awaited.time awaited.since (away_wait awaited)) (o
 unfoldable pub away_due_of : Awaited → Due
 away_due_of awaited = if is_ours awaited then due_in awaited.time (away_left awaited) else due_in awaited.time LOOK
 
+-- since when a seat is waited for at a node where a bot takes it now: it begins anew, but only once while the front stands
+abbrev pub seated_after : Option ℕ → (moved now : ℕ) → ℕ
+seated_after None moved now = now
+seated_after (Some earlier) moved now = if nat_lt earlier moved then now else earlier
+
 -- ---- what holds of every order, and that it comes
 
 -- nothing has happened for as long as a seat may hold the table, and a step more for each node that comes before this one
@@ -39,3 +44,8 @@ IsOrderedLongAgo awaited = IfSome awaited.ordered (λ moment. min awaited.patien
 -- where the order would be this node's it is given once the patience and the steps of those before it have passed, at the latest
 abbrev pub IsOrderedInTime : Awaited → Type 0
 IsOrderedInTime awaited = is_ours awaited ≡ true → HasWaitedFor awaited → IsOrderedLongAgo awaited → away_due_of awaited ≡ Now
+
+-- while the front stands a second seating at a node changes nothing
+abbrev pub IsSeatedOnce : Option ℕ → (moved first second : ℕ) → Type 0
+IsSeatedOnce earlier moved first second =
+    moved ≤ first → seated_after (Some (seated_after earlier moved first)) moved second ≡ seated_after earlier moved first

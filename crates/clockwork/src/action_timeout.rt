@@ -3,7 +3,7 @@
 ghost use Rattle.std.specs.Prelude.{◌≡◌, ◌+◌, ◌≤◌, ◌<◌, ℕ, true};
 ghost use Rattle.clockwork.specs.declared.answer.Due.TheVariants.{Now, Nothing};
 ghost use Rattle.clockwork.specs.declared.limits.TheConstants.{LATEST, MOST_PEERS, LOOK};
-ghost use Rattle.clockwork.specs.ActionTimeout.{is_ours, away_wait, order_left, away_left, away_due_of, HasWaitedFor, IsOrderedLongAgo};
+ghost use Rattle.clockwork.specs.ActionTimeout.{is_ours, away_wait, order_left, away_left, away_due_of, seated_after, HasWaitedFor, IsOrderedLongAgo};
 
 use crate::answer::Due;
 use crate::clock::due_in;
@@ -34,10 +34,23 @@ pub struct Awaited {
     /// How many present peers come before this node, at most `MOST_PEERS`: where the seat sits here, of those at which it
     /// sits too, as many as have a lower number; else as many of all (`rank`).
     pub rank: usize,
-    /// The latest of these: the front moved, the node became quorate, the process began, a bot took the seat at this node.
+    /// The latest of these: the front moved, the node became quorate, the process began, and the moment that a bot's taking
+    /// the seat at this node has begun anew (`seated_after`).
     pub since: u64,
     /// When this process last ordered that a seat be played for, where it has since the front moved.
     pub ordered: Option<u64>,
+}
+
+/// Since when a seat is waited for at a node where a bot takes it at this moment, and the front last moved at that one: since
+/// now, but where it was begun anew before while the front stood, it stays at that. So nobody holds the table by sitting down
+/// again and again; at another node it begins anew once too.
+pub fn seated_after(earlier: Option<u64>, moved: u64, now: u64) -> u64
+    ensures { result ≡ seated_after earlier moved now }
+{
+    match earlier {
+        Some(moment) if moved <= moment => moment,
+        _ => now,
+    }
 }
 
 /// Whether the order to play for the seat would be this node's: the match is on, a hand runs, the node is quorate and doesn't

@@ -1,7 +1,7 @@
 //! What holds of what is due.
 
 ghost use Rattle.clockwork.specs.Laws.{ComesInTime};
-ghost use Rattle.clockwork.specs.ActionTimeout.{IsOrderedInTime};
+ghost use Rattle.clockwork.specs.ActionTimeout.{IsOrderedInTime, IsSeatedOnce};
 
 use crate::action_timeout::Awaited;
 use crate::known::Known;
@@ -16,4 +16,9 @@ pub fn a_tick_comes_within_ten_seconds(known: &Known<'_>)
 /// present node before it have passed, at the latest; after an order, once the patience has passed again, or eight seconds.
 pub fn an_order_comes_in_time(awaited: &Awaited)
     ensures { IsOrderedInTime awaited.now }
+{}
+
+/// While the front stands, a seat is waited for anew at most once at a node, however often a bot takes it there.
+pub fn a_seating_counts_once(_earlier: Option<u64>, _moved: u64, _first: u64, _second: u64)
+    ensures { IsSeatedOnce _earlier _moved _first _second }
 {}

@@ -29,7 +29,7 @@ mod waits;
 mod watch;
 mod work;
 
-pub use action_timeout::{Awaited, away_due};
+pub use action_timeout::{Awaited, away_due, seated_after};
 pub use answer::Due;
 pub use clock::due;
 pub use known::{Known, Link, OpenLink, Peer, PeerReport, Ticks};

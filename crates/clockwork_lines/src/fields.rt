@@ -13,6 +13,9 @@ const OF_A_PEER: usize = 13;
 /// How many words a line has that tells of the seat to act.
 pub const OF_A_SEAT: usize = 11;
 
+/// How many words a line has that tells when a bot took a seat.
+pub const OF_A_SEATING: usize = 3;
+
 /// The numbers of a line; what is none stands as none.
 pub fn numbers_of(alloc: Global, line: &str) -> Result<Vec<Option<u64>>, AllocError> {
     let mut numbers = Vec::new(alloc);
@@ -28,7 +31,7 @@ pub fn is_whole(words: usize) -> bool {
 }
 
 /// The number at a place, where there is one.
-fn optional(numbers: &[Option<u64>], place: usize) -> Option<u64> {
+pub fn optional(numbers: &[Option<u64>], place: usize) -> Option<u64> {
     match numbers.get(place) {
         Some(number) => *number,
         None => None,
@@ -36,7 +39,7 @@ fn optional(numbers: &[Option<u64>], place: usize) -> Option<u64> {
 }
 
 /// The number at a place; 0 where there is none.
-fn number(numbers: &[Option<u64>], place: usize) -> u64 {
+pub fn number(numbers: &[Option<u64>], place: usize) -> u64 {
     optional(numbers, place).unwrap_or(0)
 }
 

@@ -11,7 +11,10 @@
 //!
 //! A line of eleven words says what is known of the seat to act, as the fields of `Awaited`: `time patience over hand_runs quorate
 //! replays sits_here sits_elsewhere rank since ordered`. The answer is `tick` where it is to be ordered that the seat is played for, or
-//! `nothing` and until when. A line of another length is answered by `-`.
+//! `nothing` and until when.
+//!
+//! A line of three words, `earlier moved now`, is answered by the moment of `seated_after`. A line of another length is
+//! answered by `-`.
 #![tactic(auto)]
 
 mod fields;
@@ -22,8 +25,11 @@ ghost use Rattle.clockwork.specs.declared.limits.TheConstants.{LATEST, MOST_PEER
 use clockwork::limits::MOST_PEERS;
 use clockwork::{
     Awaited, Due, Known, Peer, away_due, due, has_work, is_behind, is_quorate, pace, replays,
+    seated_after,
 };
-use fields::{OF_A_SEAT, awaited_of, is_whole, known_of, numbers_of, peers_of};
+use fields::{
+    OF_A_SEAT, OF_A_SEATING, awaited_of, is_whole, known_of, number, numbers_of, optional, peers_of,
+};
 use std::io;
 
 fn main(rt: HostRuntime) -> io::Result<()> {
@@ -36,7 +42,14 @@ fn main(rt: HostRuntime) -> io::Result<()> {
 /// Answers a line; one of another length or with too many peers by `-`.
 fn print_answer(rt: &(impl Print + AllocGlobal), line: &str) -> io::Result<()> {
     let numbers = numbers_of(rt.alloc(), line)?;
-    if numbers.len() == OF_A_SEAT {
+    if numbers.len() == OF_A_SEATING {
+        let since = seated_after(
+            optional(&numbers, 0),
+            number(&numbers, 1),
+            number(&numbers, 2),
+        );
+        println!(rt; "{since}")
+    } else if numbers.len() == OF_A_SEAT {
         print_awaited(rt, &awaited_of(&numbers))
     } else {
         print_of_process(rt, &numbers)
