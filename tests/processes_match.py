@@ -176,9 +176,19 @@ class Match:
         self.let_bots_come()
         return self
 
-    def let_bots_come(self):
+    def let_bots_come(self, seats=None):
+        """Bots of these seats, or of all, go from node to node from now on."""
         self.has_ended.clear()
-        self.bots += [Bot(self, seat, lambda line, seat=seat: self.choice(seat, line)) for seat in range(self.players)]
+        self.may_act.set()
+        seats = range(self.players) if seats is None else seats
+        self.bots += [Bot(self, seat, lambda line, seat=seat: self.choice(seat, line)) for seat in seats]
+
+    def send_bots_away(self):
+        """All bots end, once no process runs."""
+        self.has_ended.set()
+        self.may_act.set()
+        for bot in self.bots:
+            bot.join(patience())
 
     def set_up(self, *nodes):
         """Makes all stores, and starts these nodes, or all."""

@@ -13,7 +13,7 @@ use Rattle.clockwork.specs.Presence.{trip, slowest, pace_of, lag_of, soon_of, to
 use Rattle.clockwork.specs.Ranks.{is_before, rank_by_number, turn, comes_sooner, rank_behind, is_as_far, rank_as_far}
 use Rattle.clockwork.specs.Helping.{lag_within, lagging, has_passed, lagging_left, least_left, help_left, one_lags}
 use Rattle.clockwork.specs.Standings.{idle_since, gone_since, standing_over, standing_behind, standing_to}
-use Rattle.clockwork.specs.Work.{has_work, is_reopened, steps_by_number, steps_behind, is_untold, idle_wait, row_left, work_left}
+use Rattle.clockwork.specs.Work.{has_work, is_reopened, steps_by_number, steps_behind, is_untold, idle_wait, row_left, one_campaigns, campaigns_by, yield_left, work_left}
 use Rattle.clockwork.specs.Dues.{due_in, behind_left, awaited, due_of}
 use Rattle.clockwork.specs.ActionTimeout.{is_ours, away_left, away_due_of, seated_after, HasWaitedFor, IsOrderedLongAgo}
 use Rattle.clockwork.specs.Laws.{replays, LongAgo, HasWaited, IsReason, to_catch_up, for_a_peer, to_work, to_be_heard, IsLinkPast, heard_again}
@@ -366,12 +366,24 @@ and_soon_again : (any : Known) → work_left (record (overtaken any) { ticks = S
 unfolding work_left is_untold soon_of slowest trip times
 and_soon_again any = refl
 
+a_vote_is_left_to_one_that_campaigns : (any : Known) → yield_left (record (among_two any (heard_at 5000000 (Some (record (beat_of 7) { campaigns = true })))) { work_since = 4500000 }) 1000000 ≡ 530000
+unfolding among_two yield_left one_campaigns campaigns_by told steps_by_number rank_by_number is_before times
+a_vote_is_left_to_one_that_campaigns any = refl
+
+but_not_an_act : (any : Known) → yield_left (record (among_two any (heard_at 5000000 (Some (record (beat_of 7) { campaigns = true })))) { act_waits = true }) 1000000 ≡ 0
+unfolding yield_left
+but_not_an_act any = refl
+
+nor_where_nobody_campaigns : (any : Known) → yield_left (among_two any (heard_at 5000000 (Some (beat_of 7)))) 1000000 ≡ 0
+unfolding among_two yield_left one_campaigns campaigns_by told
+nor_where_nobody_campaigns any = refl
+
 nothing_without_work : (any : Known) → due_of (lost any) ≡ Nothing 6000000
 unfolding due_of slowest trip pace_of is_quorate present told awaited is_behind is_above has_work help_left lag_of least_left lagging_left lagging rank_as_far is_as_far due_in
 nothing_without_work any = refl
 
 a_lost_leader_is_followed_at_once : (any : Known) → due_of (record (lost any) { act_waits = true }) ≡ Now
-unfolding due_of slowest trip pace_of is_quorate present told awaited is_behind is_above has_work help_left lag_of least_left lagging_left lagging rank_as_far is_as_far due_in work_left standing_to standing_behind standing_over gone_since row_left
+unfolding due_of slowest trip pace_of is_quorate present told awaited is_behind is_above has_work help_left lag_of least_left lagging_left lagging rank_as_far is_as_far due_in work_left standing_to standing_behind standing_over gone_since row_left yield_left
 a_lost_leader_is_followed_at_once any = refl
 
 not_without_a_quorum : (any : Known) → due_of (record (with_peers any (peer_at 0 (Closed 4999000) ∷ peer_at 2 (Closed 4999000) ∷ [])) { act_waits = true }) ≡ Nothing 6000000

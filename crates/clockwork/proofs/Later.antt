@@ -1,6 +1,6 @@
 -- Ten seconds later each wait has passed.
 use Rattle.std.proofs.Common.{ℕ, ◌≡◌, ◌⊎◌, ◌+◌, ◌-◌, ◌*◌, ◌≤◌, Bool, true, false, List, length, Option, Some, None, inl, inr, refl, ap, ◌∙◌, arith}
-use Rattle.std.specs.Prelude.{map, min, max, if◌then◌else◌, not, ◌&&◌, ◌==◌, nat_lt, is_some, find, IfSome}
+use Rattle.std.specs.Prelude.{map, min, max, if◌then◌else◌, not, ◌&&◌, ◌||◌, ◌==◌, nat_lt, is_some, find, IfSome}
 use Rattle.std.proofs.lemmas.Bool.{cases_Bool, ltb-false, lt-ltb, le-ltb}
 use Rattle.std.proofs.lemmas.List.{length-map}
 use Rattle.std.proofs.lemmas.List.Sums.{count_by-le-length}
@@ -20,7 +20,7 @@ use Rattle.clockwork.specs.Presence.{told, slowest, pace_of, lag_of, soon_of, pr
 use Rattle.clockwork.specs.Ranks.{is_before, rank_by_number, comes_sooner, rank_behind, is_as_far, rank_as_far}
 use Rattle.clockwork.specs.Helping.{lag_within, waits_since, lagging, has_passed, lagging_left, least_left, help_left, one_lags}
 use Rattle.clockwork.specs.Standings.{idle_since, gone_since, standing_by, standing_over, standing_behind, standing_to, standing, is_campaign, is_follower}
-use Rattle.clockwork.specs.Work.{has_work, one_reopened, steps_by_number, steps_behind, is_untold, soon_in, idle_wait, row_left, work_left}
+use Rattle.clockwork.specs.Work.{has_work, one_reopened, steps_by_number, steps_behind, is_untold, soon_in, idle_wait, row_left, votes_alone, one_campaigns, yield_left, work_left}
 use Rattle.clockwork.specs.Dues.{behind_left, awaited, pace_in, due_of}
 use Rattle.clockwork.specs.Laws.{behind, IsBeatPast, IsLinkPast, IsPast, ten_seconds, heard_again, peer_later, later, IsNeeded, ComesInTime}
 use Rattle.clockwork.proofs.Lists.{each_of_all, each_changed, count_alike, any_alike, found_of_each, least_is_none}
@@ -299,12 +299,20 @@ module _ (known : Known) (past : IsPast known) (few : length known.peers.now ≤
       (both_past known.work_since (max known.moved known.promised_since) known.time past.work_since (both_past known.moved known.promised_since known.time past.moved past.promised_since))
       (sum_most (doubled after (in_vain known.ticks) LONGEST) (steps_behind (later known) after leader) long (by_leader leader))
 
+  yield_none : yield_left (later known) after ≡ 0
+  unfolding yield_left
+  yield_none =
+      either_none (votes_alone known && (not known.was_led || one_campaigns (later known).time after (later known).peers.now)) _ 0
+      (left_none known.time (max known.work_since known.moved) (doubled after (in_vain known.ticks) LONGEST + steps_by_number (later known) after)
+      (both_past known.work_since known.moved known.time past.work_since past.moved) (sum_most (doubled after (in_vain known.ticks) LONGEST) (steps_by_number (later known) after) long by_number))
+      refl
+
   work_none : (standing : Standing) → IsLate known.time standing → work_left (later known) after standing ≡ 0
   unfolding work_left
   work_none standing late =
       either_none (is_campaign standing && one_reopened (later known)) 0 _ refl
       (either_none (is_follower standing && is_untold (later known)) _ _ (again_none known.time known.ticks (soon_in (later known)) LONGEST past.ticks soon_short (omega arith))
-      (max_none _ _ (row_none standing late) (again_none known.time known.ticks after LONGEST past.ticks most (omega arith))))
+      (max_none _ _ (max_none _ _ (row_none standing late) yield_none) (again_none known.time known.ticks after LONGEST past.ticks most (omega arith))))
 
   behind_none : behind_left (later known) after ≡ 0
   unfolding behind_left

@@ -15,7 +15,7 @@ use Rattle.clockwork.specs.Presence.{told, is_quorate}
 use Rattle.clockwork.specs.Ranks.{rank_as_far}
 use Rattle.clockwork.specs.Helping.{lagging, has_passed, lagging_left, least_left, help_left, one_lags}
 use Rattle.clockwork.specs.Standings.{standing, is_campaign, is_follower}
-use Rattle.clockwork.specs.Work.{has_work, one_reopened, steps_by_number, is_untold, soon_in, row_left, work_left}
+use Rattle.clockwork.specs.Work.{has_work, one_reopened, steps_by_number, is_untold, soon_in, row_left, yield_left, work_left}
 use Rattle.clockwork.specs.Dues.{due_in, behind_left, awaited, pace_in, due_by, due_of}
 use Rattle.clockwork.specs.Laws.{quorate, behind, LongAgo, HasWaited, behind_wait_in, lag_in, IsReason, to_catch_up, for_a_peer, to_work, to_be_heard}
 use Rattle.clockwork.proofs.Lists.{one_is_none}
@@ -112,12 +112,12 @@ WhyWork known = (HasWaited known known.ticks (pace_in known) LONGEST ⊎ (one_re
 
 rest_of_none : (known : Known) (stance : Standing)
     → (if is_follower stance && is_untold known then again known.time known.ticks (soon_in known) LONGEST
-    else max (row_left known (pace_in known) stance) (again known.time known.ticks (pace_in known) LONGEST)) ≡ 0
+    else max (max (row_left known (pace_in known) stance) (yield_left known (pace_in known))) (again known.time known.ticks (pace_in known) LONGEST)) ≡ 0
     → WhyWork known
 rest_of_none known stance none = elim (cases_Bool (is_follower stance && is_untold known)) [
   | inl so ↦ inr ((and_parts (is_follower stance) (is_untold known) so).1, has_waited known known.ticks (soon_in known) LONGEST (rw so at none))
   | inr not_so ↦
-      let both = max_parts (row_left known (pace_in known) stance) (again known.time known.ticks (pace_in known) LONGEST) (rw not_so at none) in
+      let both = max_parts (max (row_left known (pace_in known) stance) (yield_left known (pace_in known))) (again known.time known.ticks (pace_in known) LONGEST) (rw not_so at none) in
       inl (inl (has_waited known known.ticks (pace_in known) LONGEST both.1))
 ]
 

@@ -1,12 +1,12 @@
 ghost use Rattle.std.specs.Prelude.{◌≡◌, ◌≤◌, length};
 ghost use Rattle.clockwork.specs.declared.limits.TheConstants.{SHORTEST, LONGEST, LATEST, MOST_PEERS};
-ghost use Rattle.clockwork.specs.Work.{has_work, opened_since, is_reopened, one_reopened, steps_by_number, steps_behind, is_untold, idle_wait, row_left, work_left};
+ghost use Rattle.clockwork.specs.Work.{has_work, opened_since, is_reopened, one_reopened, steps_by_number, steps_behind, is_untold, idle_wait, row_left, campaigns_by, one_campaigns, yield_left, work_left};
 ghost use Rattle.clockwork.specs.Standings.{standing};
 ghost use Rattle.clockwork.specs.Laws.{replays};
 
-use crate::known::{Known, Link, Ticks};
+use crate::known::{Known, Link, Peer, PeerReport, Ticks};
 use crate::limits::{LONGEST, STEP};
-use crate::presence::{is_behind, slowest, soon_of};
+use crate::presence::{is_behind, slowest, soon_of, told};
 use crate::ranks::{rank_behind, rank_by_number};
 use crate::standing::{Standing, is_campaign, is_follower, standing_of};
 use crate::waits::{again, doubled, in_vain, left};
@@ -141,9 +141,53 @@ fn steps_behind(known: &Known<'_>, pace: u64, leader: u8) -> u64
     STEP * rank_behind(known.time, pace, leader, known.number, known.peers) as u64
 }
 
+/// Whether a present peer told that it campaigns.
+#[tactic(auto, unfolding(crate::specs::Work::campaigns_by))]
+fn campaigns_by(told: Option<PeerReport>) -> bool
+    ensures { result ≡ campaigns_by told }
+{
+    match told {
+        Some(beat) => beat.campaigns,
+        None => false,
+    }
+}
+
+/// Whether some present peer told that it campaigns.
+#[tactic(auto, unfolding(crate::specs::Work::one_campaigns))]
+fn one_campaigns(time: u64, pace: u64, peers: &[Peer]) -> bool
+    ensures { result ≡ one_campaigns time pace peers.now }
+{
+    peers
+        .iter()
+        .any(|peer| campaigns_by(told(time, pace, peer.link)))
+}
+
+/// What is left until a node ticks whose only work is a vote of its own, where a present peer campaigns, or none was heard of
+/// since the process began: that one is told of the vote, and is left as much time as a leader.
+#[tactic(auto, unfolding(crate::specs::Work::yield_left))]
+fn yield_left(known: &Known<'_>, pace: u64) -> u64
+    requires peers { length known.now.peers.now ≤ MOST_PEERS }
+    requires pace { pace ≤ LONGEST }
+    ensures { result ≡ yield_left known.now pace }
+{
+    if !known.act_waits
+        && known.hand_runs
+        && (!known.was_led || one_campaigns(known.time, pace, known.peers))
+    {
+        left(
+            known.time,
+            known.work_since.max(known.moved),
+            doubled(pace, in_vain(known.ticks), LONGEST) + steps_by_number(known, pace),
+        )
+    } else {
+        0
+    }
+}
+
 /// What is left until a node with work is to tick: at once where it campaigns and a connection opened since its last tick
 /// to a peer that owes an answer from before; where its act never went on to the one that leads, at once too, and after a
-/// tick in vain soon again; else by how it stands to its leader, and after a tick in vain not before the doubled wait.
+/// tick in vain soon again; else by how it stands to its leader, where a vote is all its work not while a peer that
+/// campaigns may still go on, and after a tick in vain not before the doubled wait.
 #[tactic(auto, unfolding(crate::specs::Work::work_left))]
 pub(crate) fn work_left(known: &Known<'_>, pace: u64) -> u64
     requires time { known.now.time ≤ LATEST }
@@ -159,5 +203,7 @@ pub(crate) fn work_left(known: &Known<'_>, pace: u64) -> u64
     if is_follower(standing) && is_untold(known) {
         return again(known.time, known.ticks, soon_of(slowest(known)), LONGEST);
     }
-    row_left(known, pace, standing).max(again(known.time, known.ticks, pace, LONGEST))
+    row_left(known, pace, standing)
+        .max(yield_left(known, pace))
+        .max(again(known.time, known.ticks, pace, LONGEST))
 }

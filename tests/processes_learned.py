@@ -1,0 +1,60 @@
+"""What tests/processes tries of matches that their nodes learn again: all processes were killed, and are started."""
+import time
+
+from serving import waited, want
+
+from processes_keys import League
+from processes_match import test
+
+# How many commands the match has when all are killed, and how long a seat may hold the table, in seconds.
+COMMANDS, LONG_COMMANDS, PATIENCE = 2000, 30_000, 1
+# How long it may take until all logs are as long as the longest one was, in seconds, on a machine that does much else.
+LEARNT, LONG_LEARNT = 2, 20
+
+
+def is_played_for(match):
+    """Whether some note tells that a seat was played for."""
+    return any("played for" in note for node in range(match.count) for note in match.notes(node))
+
+
+def killed_after(commands):
+    """A match that stands after so many commands, and whose processes were killed then; how long its longest log was."""
+    match = League(hands=commands // 9 + 60, wait=PATIENCE)
+    match.stop_at = commands
+    match.begin()
+    waited(lambda: match.is_alive() and len(match.seen) >= commands, "commands", match.last_notes)
+    match.kill(*range(match.count))
+    match.send_bots_away()
+    return match, max(len(match.log(node)) for node in range(match.count))
+
+
+def learned(match, length, most, seats, think):
+    """Starts all, with bots at these seats that think for so long; how long it took until each log was as long as this, in
+    seconds. Then all are killed again."""
+    match.pace = think
+    started = time.monotonic()
+    match.start(*range(match.count))
+    match.let_bots_come(seats)
+    files = [match.home(node) / f"logs/node{node}.log" for node in range(match.count)]
+    waited(lambda: match.is_alive() and all(file.exists() and file.stat().st_size >= length for file in files), "logs", match.last_notes)
+    took = time.monotonic() - started
+    want(took <= most, f"it took {took:.2f} s to learn the match again")
+    want(not is_played_for(match), f"a seat was played for: {match.last_notes()}")
+    match.kill(*range(match.count))
+    match.send_bots_away()
+    return took
+
+
+@test()
+def learned_again(seed, is_long):
+    """Nodes that were all killed learn their match by themselves, with no bot, with one and with bots that think for a
+    second, and nobody is played for meanwhile."""
+    commands, most = (LONG_COMMANDS, LONG_LEARNT) if is_long else (COMMANDS, LEARNT)
+    match, length = killed_after(commands)
+    kinds = (("no bot", [], 0.0), ("one bot", [0], 0.0), ("bots that think", [0, 1], 1.0))
+    told = [f"{learned(match, length, most, seats, think):.2f} s with {name}" for name, seats, think in kinds]
+    match.pace = 0.0
+    match.start(*range(match.count))
+    match.let_bots_come()
+    match.ends()
+    return f"{commands} commands: {', '.join(told)}"
