@@ -12,9 +12,9 @@ COMMANDS, LONG_COMMANDS, PATIENCE = 2000, 30_000, 1
 LEARNT, LONG_LEARNT = 2, 20
 
 
-def is_played_for(match):
-    """Whether some note tells that a seat was played for."""
-    return any("played for" in note for node in range(match.count) for note in match.notes(node))
+def orders(match):
+    """How many notes tell that a seat was played for."""
+    return sum("played for" in note for node in range(match.count) for note in match.notes(node))
 
 
 def killed_after(commands):
@@ -31,7 +31,7 @@ def killed_after(commands):
 def learned(match, length, most, seats, think):
     """Starts all, with bots at these seats that think for so long; how long it took until each log was as long as this, in
     seconds. Then all are killed again."""
-    match.pace = think
+    match.pace, ordered = think, orders(match)
     started = time.monotonic()
     match.start(*range(match.count))
     match.let_bots_come(seats)
@@ -39,7 +39,7 @@ def learned(match, length, most, seats, think):
     waited(lambda: match.is_alive() and all(file.exists() and file.stat().st_size >= length for file in files), "logs", match.last_notes)
     took = time.monotonic() - started
     want(took <= most, f"it took {took:.2f} s to learn the match again")
-    want(not is_played_for(match), f"a seat was played for: {match.last_notes()}")
+    want(orders(match) == ordered, f"a seat was played for: {match.last_notes()}")
     match.kill(*range(match.count))
     match.send_bots_away()
     return took

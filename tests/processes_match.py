@@ -184,7 +184,8 @@ class Match:
         self.bots += [Bot(self, seat, lambda line, seat=seat: self.choice(seat, line)) for seat in seats]
 
     def send_bots_away(self):
-        """All bots end, once no process runs."""
+        """All bots end, once no process runs; what was told to them before they go by without a thought."""
+        self.pace = 0.0
         self.has_ended.set()
         self.may_act.set()
         for bot in self.bots:
