@@ -26,6 +26,7 @@ pub(crate) fn seen_of<D: Disk + Drop>(member: &LocalNode<D>) -> Seen {
         over: table.over(),
         hand_runs: table.running(),
         act_waits: node.pending().is_some(),
+        vote_waits: node.vote_waits(),
     }
 }
 
@@ -156,19 +157,19 @@ impl<D: Disk + Drop, W: Wire + Drop> NodeServer<D, W> {
         self.desk.speak(told, now);
     }
 
-    /// Tells for which seat all wait, where nothing has gone on for a while. It is told where that seat sits, and where it
-    /// sits nowhere.
+    /// Tells for which seat all wait, where nothing has gone on for a while. It is told where that seat sits, of several such
+    /// nodes by the one of the lowest number, and where it sits nowhere.
     pub(crate) fn note_waiting(&mut self, now: u64)
         ensures { IsKept W.Wire self.old.desk self.new.desk }
     {
         let seen = self.watch.seen;
-        if seen.over || seen.act_waits || !seen.hand_runs || self.lasting.is_apart {
+        if seen.over || seen.act_waits || !seen.hand_runs || self.replays || self.lasting.is_apart {
             return;
         }
         let Some(seat) = seat_to_act(self.desk.member.node().table()) else {
             return;
         };
-        if !self.sits_here(seat) && self.sits_elsewhere(seat, now) {
+        if self.comes_behind(seat, now) {
             return;
         }
         if self.lasting.tells_waiting(self.watch.moved, now) {

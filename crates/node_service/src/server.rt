@@ -59,6 +59,8 @@ pub struct NodeServer<D: Disk + Drop, W: Wire + Drop> {
     pub(crate) rate: Rate,
     /// How long a peer may be silent and still counts as present.
     pub(crate) pace: u64,
+    /// The node learns what was chosen before, as it was when it was last asked what is due.
+    pub(crate) replays: bool,
     pub(crate) nodes: u8,
     /// When the process began, and when it last left a turn.
     pub(crate) began: u64,
@@ -83,6 +85,7 @@ impl<D: Disk + Drop, W: Wire + Drop> Drop for NodeServer<D, W> {
             turn_timer: _,
             rate: _,
             pace: _,
+            replays: _,
             nodes: _,
             began: _,
             left: _,
@@ -173,6 +176,7 @@ impl<D: Disk + Drop, W: Wire + Drop> NodeServer<D, W> {
             turn_timer: TurnTimer::new(terms.patience, now),
             rate: Rate::new(seen.front, now),
             pace: SHORTEST,
+            replays: false,
             nodes: terms.nodes.min(NODES as u8),
             began: now,
             left: now,

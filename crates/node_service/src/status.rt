@@ -22,16 +22,32 @@ impl<D: Disk + Drop, W: Wire + Drop> NodeServer<D, W> {
         seat < SEATS && self.desk.seats.bits() & (1 << seat) != 0
     }
 
-    /// Whether one does at another node, as far as those that are there have told.
-    pub(crate) fn sits_elsewhere(&self, seat: u8, now: u64) -> bool {
-        for number in 0..self.nodes {
+    /// At how many of the other nodes with numbers below this one does, as far as those that are there have told.
+    pub(crate) fn sits_below(&self, below: u8, seat: u8, now: u64) -> usize {
+        let mut count = 0usize;
+        for number in 0..below {
             if let Some(view) = self.desk.company.peers.view(number) {
                 if self.is_present(&view, now) && self.reports.has_seat(number, seat) {
-                    return true;
+                    count = count.saturating_add(1);
                 }
             }
         }
-        false
+        count
+    }
+
+    /// Whether one does at another node, as far as those that are there have told.
+    pub(crate) fn sits_elsewhere(&self, seat: u8, now: u64) -> bool {
+        self.sits_below(self.nodes, seat, now) > 0
+    }
+
+    /// Whether a node where a bot sits at a seat comes before this one: another one does where none sits here, and where one
+    /// sits here too another one of a lower number.
+    pub(crate) fn comes_behind(&self, seat: u8, now: u64) -> bool {
+        if self.sits_here(seat) {
+            self.sits_below(self.desk.member.number(), seat, now) > 0
+        } else {
+            self.sits_elsewhere(seat, now)
+        }
     }
 
     /// How the peers are.
@@ -95,6 +111,7 @@ impl<D: Disk + Drop, W: Wire + Drop> NodeServer<D, W> {
                 front: seen.front,
                 hand: node.table().dealt().checked_sub(1),
                 over: seen.over,
+                replaying: self.replays,
                 promised: node.promised(),
                 leads: node.leads(),
                 quorum: self.turn_timer.is_quorate,

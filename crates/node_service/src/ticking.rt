@@ -16,6 +16,7 @@ use crate::server_notice::ServerNotice;
 use clockwork::limits::{LATEST, LOOK, MOST_PEERS};
 use clockwork::{
     Awaited, Due, Known, Watch, away_due, due, has_work, is_behind, is_quorate, pace, rank,
+    replays,
 };
 use dealer_world::Event;
 use node_peers::{Peers, View};
@@ -89,6 +90,7 @@ impl<D: Disk + Drop, W: Wire + Drop> NodeServer<D, W> {
         let known = self.watch.known(number, others.as_slice(), now);
         let (work, behind, quorate) = (has_work(&known), is_behind(&known), is_quorate(&known));
         self.pace = pace(&known);
+        self.replays = replays(&known);
         self.desk.set_silence(self.pace);
         self.watch.stand(work, behind, now);
         self.note_quorum(quorate, now);
@@ -113,6 +115,16 @@ impl<D: Disk + Drop, W: Wire + Drop> NodeServer<D, W> {
         }
     }
 
+    /// How many present nodes come before this one where a seat is to be played for: where it sits here, those of a lower
+    /// number at which it sits too; else `rank`, as many as have one.
+    fn rank_for(&self, seat: u8, rank: usize, now: u64) -> usize {
+        if self.sits_here(seat) {
+            self.sits_below(self.desk.member.number(), seat, now)
+        } else {
+            rank
+        }
+    }
+
     /// The seat to act, and what is known of it; none where no hand runs, nobody is played for, or the process is to end.
     fn awaited(&self, rank: usize, now: u64) -> Option<(u8, Awaited)>
         ensures time { IfSome result (λ found. found.1.time ≤ LAST) }
@@ -131,9 +143,10 @@ impl<D: Disk + Drop, W: Wire + Drop> NodeServer<D, W> {
             over: seen.over,
             hand_runs: seen.hand_runs,
             quorate: self.turn_timer.is_quorate,
+            replays: self.replays,
             sits_here: self.sits_here(seat),
             sits_elsewhere: self.sits_elsewhere(seat, now),
-            rank: rank.min(MOST_PEERS),
+            rank: self.rank_for(seat, rank, now).min(MOST_PEERS),
             since: self.turn_timer.since(seat, self.watch.moved),
             ordered: self.turn_timer.ordered_since(self.watch.moved),
         };
@@ -183,7 +196,7 @@ impl<D: Disk + Drop, W: Wire + Drop> NodeServer<D, W> {
     pub(crate) fn note_quorum(&mut self, is_quorate: bool, now: u64)
         ensures { IsKept W.Wire self.old.desk self.new.desk }
     {
-        self.turn_timer.stand(is_quorate, now);
+        self.turn_timer.stand(is_quorate, self.watch.moved, now);
         match self.lasting.stand(is_quorate, now) {
             Turned::Stays => (),
             Turned::Had => self.tell(ServerNotice::Quorum),

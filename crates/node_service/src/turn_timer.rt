@@ -1,6 +1,26 @@
 //! Since when the seat to act has been waited for.
 
 use crate::limits::PLACES;
+use clockwork::seated_after;
+
+/// When a bot took a seat here.
+#[derive(Clone, Copy)]
+struct Seating {
+    /// One took it since it was last looked at.
+    is_new: bool,
+    /// Since when it is waited for because one took it, where one did.
+    since: Option<u64>,
+}
+
+impl Seating {
+    /// Who took the seat since it was last looked at did so now, where the front last moved at that moment.
+    fn stand(&mut self, moved: u64, now: u64) {
+        if self.is_new {
+            self.since = Some(seated_after(self.since, moved, now));
+            self.is_new = false;
+        }
+    }
+}
 
 /// Since when a seat is waited for, and when it was last played for. Moments are whole microseconds since one that stays the
 /// same as long as the process lives.
@@ -11,8 +31,8 @@ pub(crate) struct TurnTimer {
     /// The node has a quorum, and since when; where it hadn't one yet, when the process began.
     pub(crate) is_quorate: bool,
     quorate_since: u64,
-    /// When a bot last took each seat here, and where none did, when the process began; none where that was just now.
-    seated: [Option<u64>; PLACES],
+    /// Of each seat.
+    seatings: [Seating; PLACES],
     /// When it was last ordered that a seat is played for.
     ordered: Option<u64>,
 }
@@ -24,28 +44,30 @@ impl TurnTimer {
             most,
             is_quorate: false,
             quorate_since: now,
-            seated: [Some(now); PLACES],
+            seatings: [Seating {
+                is_new: false,
+                since: None,
+            }; PLACES],
             ordered: None,
         }
     }
 
     /// A bot took a seat here.
     pub(crate) fn seat(&mut self, seat: u8) {
-        if let Some(moment) = self.seated.get_mut(seat as usize) {
-            *moment = None;
+        if let Some(seating) = self.seatings.get_mut(seat as usize) {
+            seating.is_new = true;
         }
     }
 
-    /// The node has a quorum at this moment, or hasn't; who took a seat since it was last looked at did so now.
-    pub(crate) fn stand(&mut self, is_quorate: bool, now: u64) {
+    /// The node has a quorum at this moment, or hasn't, and its front last moved at that one; who took a seat since it was
+    /// last looked at did so now.
+    pub(crate) fn stand(&mut self, is_quorate: bool, moved: u64, now: u64) {
         if is_quorate && !self.is_quorate {
             self.quorate_since = now;
         }
         self.is_quorate = is_quorate;
-        for moment in self.seated.iter_mut() {
-            if moment.is_none() {
-                *moment = Some(now);
-            }
+        for seating in self.seatings.iter_mut() {
+            seating.stand(moved, now);
         }
     }
 
@@ -57,9 +79,9 @@ impl TurnTimer {
     /// Since when a seat is waited for, where the front last moved at that moment.
     pub(crate) fn since(&self, seat: u8, moved: u64) -> u64 {
         let begun = moved.max(self.quorate_since);
-        match self.seated.get(seat as usize) {
-            Some(Some(moment)) => begun.max(*moment),
-            _ => begun,
+        match self.seatings.get(seat as usize) {
+            Some(seating) => begun.max(seating.since.unwrap_or(0)),
+            None => begun,
         }
     }
 

@@ -9,7 +9,7 @@ use std::test::Fail;
 
 /// How node 1 is while the first player of the first hand is waited for: node 0 leads in the first ballot.
 const STATUS: &[u8] =
-    b"node 1 front 1 hand 0 over no promised 1.0 leads no quorum yes peers 0:1:campaigns,2:1 seats alice:away,bob:away pending no backlog 0,0 commands 0/s
+    b"node 1 front 1 hand 0 over no replaying no promised 1.0 leads no quorum yes peers 0:1:campaigns,2:1 seats alice:away,bob:away pending no backlog 0,0 commands 0/s
 ";
 
 /// How node 0 is once it has begun a ballot of which nobody has heard: it leads nobody.
