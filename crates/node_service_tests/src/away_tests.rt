@@ -14,12 +14,12 @@ const STATUS: &[u8] =
 
 /// How node 0 is once it has begun a ballot of which nobody has heard: it leads nobody.
 const UNHEARD: &[u8] =
-    b"node 0 front 0 hand - over no promised 1.0 leads no quorum yes peers 1:0,2:0 seats alice:away,bob:away pending no backlog 0,0 commands 0/s
+    b"node 0 front 0 hand - over no replaying no promised 1.0 leads no quorum yes peers 1:0,2:0 seats alice:away,bob:away pending no backlog 0,0 commands 0/s
 ";
 
 /// The same once the others have promised it the ballot, and the first hand runs.
 const HEARD: &[u8] =
-    b"node 0 front 1 hand 0 over no promised 1.0 leads yes quorum yes peers 1:1,2:1 seats alice:away,bob:away pending no backlog 0,0 commands 0/s
+    b"node 0 front 1 hand 0 over no replaying no promised 1.0 leads yes quorum yes peers 1:1,2:1 seats alice:away,bob:away pending no backlog 0,0 commands 0/s
 ";
 
 /// A match of two hands by three nodes, which nobody comes to, with this patience.
