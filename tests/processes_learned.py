@@ -22,7 +22,8 @@ def killed_after(commands):
     match = League(hands=commands // 9 + 60, wait=PATIENCE)
     match.stop_at = commands
     match.begin()
-    waited(lambda: match.is_alive() and len(match.seen) >= commands, "commands", match.last_notes)
+    while len(match.seen) < commands:
+        match.goes_on(min(20, commands - len(match.seen)))
     match.kill(*range(match.count))
     match.send_bots_away()
     return match, max(len(match.log(node)) for node in range(match.count))
@@ -32,10 +33,12 @@ def learned(match, length, most, seats, think):
     """Starts all, with bots at these seats that think for so long; how long it took until each log was as long as this, in
     seconds. Then all are killed again."""
     match.pace, ordered = think, orders(match)
+    files = [match.home(node) / f"logs/node{node}.log" for node in range(match.count)]
+    for file in files:
+        file.unlink()
     started = time.monotonic()
     match.start(*range(match.count))
     match.let_bots_come(seats)
-    files = [match.home(node) / f"logs/node{node}.log" for node in range(match.count)]
     waited(lambda: match.is_alive() and all(file.exists() and file.stat().st_size >= length for file in files), "logs", match.last_notes)
     took = time.monotonic() - started
     want(took <= most, f"it took {took:.2f} s to learn the match again")
