@@ -113,7 +113,56 @@ def five_groups_are_enough():
         figures = three(meetings, ab=[1] * meetings, ac=[2] * meetings, bc=[3] * meetings).figures()
         want({it["unit"] for it in figures["cells"] + figures["standings"]} == {unit}, f"{meetings} groups: {figures['cells'][0]}")
         want(figures["cells"][0]["half"] == 0 and figures["cells"][0]["freedom"] is None, "equal units have an interval")
-        want([it["told_apart"] for it in figures["neighbours"]] == [True, True], "what is certain isn't told apart")
+        want({it["unit"] for it in figures["neighbours"]} == {unit}, f"{meetings} groups: neighbours by another unit")
+        want([it["told_apart"] for it in figures["neighbours"]] == [False, False], "units that never varied tell players apart")
+
+
+@test
+def neighbours_are_told_apart_by_units_that_vary():
+    """x of a against b: 10 20 30 40 50, m 30, v 50; against c always 10, and b against c always 10. M are 20, -10 and -10.
+    D of a and b is 30, V = 4 x 50 / 4 = 50, nu 4, 2.7764 x 7.0711 = 19.6321: told apart. D of b and c is 0, V = 50 / 4,
+    2.7764 x 3.5355 = 9.8161."""
+    league = three(5, ab=[1, 2, 3, 4, 5], ac=[1] * 5, bc=[1] * 5)
+    found = league.figures()["neighbours"]
+    for it, (mean, half, told) in zip(found, ((30, 19.6321, True), (0, 9.8161, False))):
+        near(it["mean"], mean, "D")
+        near(it["half"], half, "its interval")
+        want(it["told_apart"] is told, f"told apart: {it}")
+    want("a - b: +30.0 ± 19.6\nb - c: 0.0 ± 9.8, not told apart\n" in league.table(), "the table says it otherwise")
+    page = (league.does("page"), (league.kept / "page.html").read_text())[1]
+    want('<td class="won">+30.0 ± 19.6</td>' in page and '"won">+10.0 ± 0.0' not in page, "the page colours units that never varied")
+
+
+@test
+def opponents_who_were_not_met():
+    """a met b (x 10 30, m 20, v 100) and c (30 70, m 50, v 400), who haven't met each other: k of a is 2, of b and c 1. M are
+    35, -20, -50. D of a and b is 55, V = 400 / 2^2 + (1/2 + 1/1)^2 x 100 = 100 + 225 = 325, nu = 325^2 / (100^2 + 225^2) =
+    1.7423, 12.7062 x 18.0278 = 229.0643. D of b and c is 30, V = 100 + 400, nu = 500^2 / (100^2 + 400^2) = 1.4706,
+    12.7062 x 22.3607 = 284.1193."""
+    league = three(2, ab=[1, 3], ac=[3, 7])
+    figures, text = league.figures("--unit", "group", status=1), league.table("--unit", "group", status=1)
+    want([(it["player"], it["met"], it["planned"]) for it in figures["standings"]] == [("a", 2, 2), ("b", 1, 2), ("c", 1, 2)], "met others")
+    for it, (mean, half, freedom) in zip(figures["neighbours"], ((55, 229.0643, 1.7423), (30, 284.1193, 1.4706))):
+        near(it["mean"], mean, "D")
+        near(it["half"], half, "its interval")
+        near(it["freedom"], freedom, "its nu")
+    marked = [line.split()[1] for line in text.splitlines() if line.endswith("  met 1 of 2")]
+    want(marked == ["b", "c"], f"the table is {text}")
+    by_hands = league.table(status=1)
+    want("met 1 of 2; by hands: too small where bots learn" in by_hands, f"the table is {by_hands}")
+    want("b - c: +30.0 ± 284.1, not told apart, by hands: too small where bots learn" in by_hands, f"the table is {by_hands}")
+
+
+@test
+def files_with_other_numbers_of_hands():
+    """A result, or a log, that has two hands where each match has three: no figure is printed."""
+    for broken, file in (([[1, 1, 1], [1, 1]], "result.json"), ([[1, 1, 1], [1, 1, 1]], "a.b.1.1.log")):
+        league = League({"a": CALLS, "b": CALLS}, hands=3)
+        league.invent(dict(zip(("a.b.1.0", "a.b.1.1"), broken)))
+        log = league.kept / "matches/a.b.1.1/a.b.1.1.log"
+        log.write_text("".join(line for line in log.read_text().splitlines(True) if not line.startswith("STATE:2:")))
+        printed, said = league.does("table", status=1)
+        want(f"{file} has 2 hands, and a match of this league has 3" in said and not printed, f"{file}: {printed}{said}")
 
 
 @test
@@ -124,6 +173,16 @@ def winners_by_bankroll_and_by_run_off():
     want(figures["standings"][0]["half"] is None and "+20.0 ± ?" in three(1, ab=[2], ac=[-1], bc=[6]).table(), "one unit has an interval")
     equal = three(1, ab=[2], ac=[-2], bc=[2]).figures()
     want([(it["player"], it["rank"], it["run_off"]) for it in equal["standings"]] == [("a", 1, 1), ("b", 1, 2), ("c", 1, 3)], "equal ones")
+
+
+@test
+def a_run_off_of_equal_players_goes_by_their_names():
+    """Nobody won a chip. The last by name goes first, also where one name begins another: b, then ab."""
+    league = League({"ab": CALLS, "b": CALLS, "a": CALLS}, hands=1)
+    league.does("plan")
+    league.invent({line.split(" ")[0]: [0] for line in league.plan()})
+    found = [(it["player"], it["rank"], it["run_off"]) for it in league.figures()["standings"]]
+    want(found == [("a", 1, 1), ("ab", 1, 2), ("b", 1, 3)], f"the standings are {found}")
 
 
 @test

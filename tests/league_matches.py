@@ -187,7 +187,7 @@ def a_player_runs_at_most_so_often_at_once():
 def players_are_tried_before_a_league():
     league = League({"good": command("calls"), "mended": command("wrong")})
     printed = league.does("try")[0].splitlines()
-    want(re.fullmatch(r"good: came within \d+\.\d s; \d+ responses of .* ms, the longest .* ms; no mended action", printed[0]), f"{printed}")
+    want(re.fullmatch(r"good: connected after \d+\.\d s; \d+ responses of .* ms, the longest .* ms; no mended action", printed[0]), f"{printed}")
     want("; 1 mended action, see " in printed[1], f"{printed}")
     league.add("bad", command("quits"))
     league.add("none", "false {port}")

@@ -31,6 +31,11 @@ class Interval(NamedTuple):
     def covers(self, value):
         return self.half is not None and abs(value - self.value) <= self.half
 
+    def leaves_out(self, value):
+        """Whether the value is outside the interval. An interval of no width leaves nothing out: its units were all equal,
+        which only says that nothing rare has happened yet."""
+        return bool(self.half) and not self.covers(value)
+
 
 def estimate(units):
     """The estimate from a sample's units, which are whole numbers or fractions, so that nothing is lost by rounding."""

@@ -21,6 +21,13 @@ class Played(NamedTuple):
     def log(self, league):
         return league.result_of(self.planned.name) / f"{self.planned.name}.log"
 
+    def by_hands(self, league):
+        """By name the chips of each hand, by the log."""
+        chips = dict(zip(self.planned.seats, hand_chips(self.log(league), self.planned.seats)))
+        for name, hands in chips.items():
+            see_hands(self.log(league), len(hands), league)
+        return chips
+
 
 class Group(NamedTuple):
     """All seatings of one meeting, all finished. Chips are whole."""
@@ -34,8 +41,14 @@ class Group(NamedTuple):
 
     def by_hands(self, league):
         """By name the chips of hand h of all seatings together, in the order of the hands."""
-        seatings = [dict(zip(it.planned.seats, hand_chips(it.log(league), it.planned.seats))) for it in self.matches]
+        seatings = [it.by_hands(league) for it in self.matches]
         return {name: [sum(hands) for hands in zip(*(seating[name] for seating in seatings))] for name in self.players}
+
+
+def see_hands(path, hands, league):
+    """Stops where a file has another number of hands than each match of the league: its figures would be wrong."""
+    if hands != league.hands:
+        raise Unfinished(f"{path} has {hands} hands, and a match of this league has {league.hands}")
 
 
 def played(league, plan):
@@ -43,11 +56,13 @@ def played(league, plan):
     for it in plan:
         path = league.result_of(it.name) / "result.json"
         try:
-            yield Played(it, json.loads(path.read_text()))
+            result = json.loads(path.read_text())
         except FileNotFoundError:
             continue
         except (OSError, ValueError) as why:
             raise Unfinished(f"{path} can't be read: {why}") from why
+        see_hands(path, result.get("hands"), league)
+        yield Played(it, result)
 
 
 def grouped(plan, finished):

@@ -9,7 +9,7 @@ from . import deals
 from .files import write_whole
 from .replays import make_replays
 from .standings import FEWEST_GROUPS, INCIDENTS
-from .table import BY_HANDS, counted, half, head, place, shown, trust
+from .table import BY_HANDS, counted, half, head, marks, neighbour_marks, place, shown, trust
 
 HERE = Path(__file__).resolve().parent
 PAGE = """<!DOCTYPE html>
@@ -26,16 +26,34 @@ PAGE = """<!DOCTYPE html>
 </body>
 </html>
 """
-MEANING = "mbb/hand are thousandths of the greatest blind won a hand, and the interval behind ± is one of 95\u00a0%. {unit}"
-DUPLICATE = (
-    "The mean of all seatings of one meeting is one result, so that the luck of the cards, which all seatings share, is taken "
-    "out. “plain” is the interval that one would have if each hand were counted by itself."
+MEANING = (
+    "mbb/hand are thousandths of the greatest blind won a hand. The interval behind ± is one of 95\u00a0%. The true value is the "
+    "player’s mean against these opponents over all cards that could be dealt."
 )
-SINGLE = "Each match is one result. “plain” is the interval that one would have if each hand were counted by itself."
+DUPLICATE = (
+    "The mean of all seatings of one meeting is one result. All seatings have the same cards, so part of their luck cancels."
+)
+SINGLE = "Each match is one result."
 FEW_GROUPS = (
-    "Against some opponents fewer than {fewest} meetings are finished. There the interval counts each hand of all seatings "
+    "Against {which} opponents fewer than {fewest} meetings are finished. There the interval counts each hand of all seatings "
     "together as one result ({mark})."
 )
+SELECTED = (
+    "The leader’s mean is too high by selection. Two players whom you picked by their results need more than an interval "
+    "that leaves 0 out. ± 0.0 means that nothing rare has happened yet."
+)
+WORDS = (
+    "Green and red: the interval leaves 0 out. In the graph the dot is the mean, and the dashed line is 0. “plain” is the "
+    "interval if each hand were counted by itself. “run-off”: again and again the player goes whose mean over those who are "
+    "left is the least. “restarts” counts how often a player’s program was started again, “defaults” the actions that were "
+    "taken for it, and “mended” its actions that weren’t allowed and were replaced."
+)
+NEIGHBOURS = "The difference has an interval of its own: hands that two neighbours played against each other count for both."
+HOSTILE = (
+    "Bots run without a sandbox. A log has all cards, also one of a meeting that isn’t finished. docs/LEAGUE.md says what isn’t "
+    "kept from a hostile bot."
+)
+REMEMBERED = " A bot that remembers one seating of a meeting knows its opponent’s cards in the next."
 # With no more matches than this all lists of matches are open.
 FEW_MATCHES = 40
 # The graph of an interval: its width and height.
@@ -89,8 +107,14 @@ def valued(interval):
     """An interval as a table's cell, green or red where it leaves 0 out."""
     if interval is None:
         return "quiet", "–"
-    kind = "" if interval.half is None or interval.covers(0) else "won" if interval.value > 0 else "lost"
+    kind = ("won" if interval.value > 0 else "lost") if interval.leaves_out(0) else ""
     return kind, shown(interval)
+
+
+def noted(cell, notes):
+    """A cell with notes in small letters below it."""
+    kind, text = cell
+    return kind, text + "".join(f"<small>{escape(note)}</small>" for note in notes)
 
 
 def heading(standings):
@@ -100,14 +124,14 @@ def heading(standings):
 
 
 def scale_of(standings):
-    """Where a value is drawn: a function from values to pixels."""
+    """Where a value is drawn: a function from values to pixels; and the least and the greatest value."""
     ends = [0.0]
     for it in standings.standings:
         if it.interval:
             ends += [float(it.interval.value) + sign * (it.interval.half or 0) for sign in (-1, 1)]
     least, most = min(ends), max(ends)
     width = (most - least) or 1.0
-    return lambda value: MARGIN + (float(value) - least) / width * (WIDTH - 2 * MARGIN)
+    return lambda value: MARGIN + (float(value) - least) / width * (WIDTH - 2 * MARGIN), least, most
 
 
 def graph(interval, at):
@@ -131,26 +155,39 @@ def times(standings, name):
 
 
 def standing_table(standings):
-    at, rows = scale_of(standings), []
+    (at, least, most), rows = scale_of(standings), []
     for it in standings.standings:
+        small = [note.partition(":")[0] for note in marks(it)]
         rows.append(row([
-            place(it.rank), ("left", escape(it.name)), valued(it.interval), ("left", graph(it.interval, at)), half(it.plain), place(it.run_off),
-            *[str(it.incidents[key]) for key in INCIDENTS], *times(standings, it.name),
+            place(it.rank), ("left", escape(it.name)), noted(valued(it.interval), small), ("left", graph(it.interval, at)), half(it.plain),
+            place(it.run_off), *[str(it.incidents[key]) for key in INCIDENTS], *times(standings, it.name),
         ]))
-    header = ["rank", ("left", "player"), "mbb/hand", "", "plain", "run-off", *INCIDENTS, "a hand", "longest response"]
-    meaning = MEANING.format(unit=DUPLICATE if standings.league.duplicate else SINGLE)
-    notes = [paragraph(meaning, "quiet")] + ([paragraph(trust(standings), "quiet")] if standings.finished_groups else [])
-    if standings.is_by_hands:
-        notes.insert(1, paragraph(FEW_GROUPS.format(fewest=FEWEST_GROUPS, mark=BY_HANDS)))
-    return section("Standings", table(header, rows), *notes)
+    scale = ("left", f"from {least:+.0f} to {most:+.0f}") if most > least else ""
+    header = ["rank", ("left", "player"), "mbb/hand", scale, "plain", "run-off", *INCIDENTS, "time a hand", "longest response"]
+    return section("Standings", table(header, rows), *meaning(standings))
+
+
+def meaning(standings):
+    """What the figures of the standings mean."""
+    cells = [cell for found in standings.cells.values() for cell in found]
+    by_hands = [cell.is_by_hands for cell in cells]
+    yield paragraph(MEANING, "quiet")
+    if not cells or not all(by_hands):
+        yield paragraph(DUPLICATE if standings.league.duplicate else SINGLE, "quiet")
+    if any(by_hands):
+        yield paragraph(FEW_GROUPS.format(which="all" if all(by_hands) else "some", fewest=FEWEST_GROUPS, mark=BY_HANDS))
+    if cells:
+        yield paragraph(f"{trust(standings)} {SELECTED}", "quiet")
+    yield paragraph(WORDS, "quiet")
 
 
 def neighbours(standings):
     rows = [
-        row([("left", f"{escape(it.better)} – {escape(it.worse)}"), valued(it.ahead), ("left", "" if it.are_told_apart else "not told apart")])
+        row([("left", f"{escape(it.better)} – {escape(it.worse)}"), valued(it.ahead), ("left", escape(", ".join(neighbour_marks(it))))])
         for it in standings.neighbours
     ]
-    return section("Neighbours in rank", table([("left", "players"), "the first is ahead by", ""], rows))
+    found = table([("left", "players"), "the first is ahead by", ""], rows)
+    return section("Neighbours in rank", found, paragraph(NEIGHBOURS, "quiet"))
 
 
 def names_of(players):
@@ -214,13 +251,19 @@ def changed_files(standings):
     for name in sorted(standings.league.players):
         digests = {it.result["files"][name]["sha256"] for it in standings.matches if name in it.planned.players}
         if len(digests) > 1:
-            yield f"The files of {name} weren't the same before each match ({len(digests)} different states)."
+            found = f"The files of {name} weren't the same before each match ({len(digests)} different states)."
+            yield found + (REMEMBERED if standings.league.duplicate else "")
 
 
 def matches(standings, replays, is_revealed):
     """All finished matches by their players, with links."""
     parts = [match_list(standings, players, replays, is_revealed) for players in sorted({it.planned.players for it in standings.matches})]
-    return section("Matches", *(parts or [paragraph("None is finished.")]))
+    return section("Matches", paragraph(HOSTILE), *(parts or [paragraph("None is finished.")]))
+
+
+def has_notes(league, planned):
+    """Whether something happened in a match that its notes tell."""
+    return (league.result_of(planned.name) / "notes").stat().st_size > 0
 
 
 def match_list(standings, players, replays, is_revealed):
@@ -230,7 +273,8 @@ def match_list(standings, players, replays, is_revealed):
     for it in sorted((it for it in standings.matches if it.planned.players == players), key=lambda it: it.planned.number):
         meeting, planned = it.planned.meeting, it.planned
         seed = deals.seed(secret, players, meeting) if is_revealed and meeting in whole else None
-        links = [link(place_of(planned, f"{planned.name}.log"), "log"), link(place_of(planned, "notes"), "notes")]
+        links = [link(place_of(planned, f"{planned.name}.log"), "log")]
+        links += [link(place_of(planned, "notes"), "notes")] if has_notes(standings.league, planned) else []
         links += [link(replays[planned.name], "hands")] if planned.name in replays else []
         cells = [str(planned.number), ("left", escape(planned.name)), ("left", escape(", ".join(planned.seats)))]
         cells += [f"{it.of('chips', name):+d}" for name in players]

@@ -33,6 +33,9 @@ class Standing(NamedTuple):
     interval: Optional[Interval]
     plain: Optional[Interval]
     is_by_hands: bool
+    # Against how many sets of opponents the player has finished groups, and how many the plan has.
+    met: int
+    planned: int
     incidents: Dict[str, int]
 
 
@@ -42,10 +45,11 @@ class Neighbours(NamedTuple):
     better: str
     worse: str
     ahead: Interval
+    is_by_hands: bool
 
     @property
     def are_told_apart(self):
-        return self.ahead.half is not None and not self.ahead.covers(0)
+        return self.ahead.leaves_out(0)
 
 
 class Standings:
@@ -54,7 +58,7 @@ class Standings:
 
     def __init__(self, league, plan, finished, unit=None, tell=lambda text: None):
         self.league, self.unit, self.matches = league, unit, list(finished)
-        self.planned = len(plan)
+        self.planned, self.tables = len(plan), {it.players for it in plan}
         self.groups, self.planned_groups = grouped(plan, self.matches)
         self.finished_groups = sum(map(len, self.groups.values()))
         self.samples = {}
@@ -85,23 +89,33 @@ class Standings:
         order, run_off, incidents = sorted(have, key=lambda name: (-have[name], name)), self.run_off(means), self.incidents()
         ranks = {name: 1 + sum(mean > have[name] for mean in have.values()) for name in order}
         ranked = [self.standing(name, ranks[name], run_off.index(name) + 1, incidents[name]) for name in order]
-        return ranked + [Standing(name, None, None, None, None, False, incidents[name]) for name in sorted(means.keys() - have.keys())]
+        return ranked + [self.unranked(name, incidents[name]) for name in sorted(means.keys() - have.keys())]
 
     def standing(self, name, rank, run_off, incidents):
         """A player who has a finished group."""
         cells = self.cells[name]
         interval, plain = mean_of([it.estimate for it in cells]), mean_of([it.plain_estimate for it in cells])
-        return Standing(name, rank, run_off, interval, plain, any(it.is_by_hands for it in cells), incidents)
+        is_by_hands = any(it.is_by_hands for it in cells)
+        return Standing(name, rank, run_off, interval, plain, is_by_hands, len(cells), self.sets_of_opponents(name), incidents)
+
+    def unranked(self, name, incidents):
+        """A player who has none."""
+        return Standing(name, None, None, None, None, False, 0, self.sets_of_opponents(name), incidents)
+
+    def sets_of_opponents(self, name):
+        """How many sets of opponents the plan has for a player."""
+        return sum(name in players for players in self.tables)
 
     def run_off(self, means):
         """The players by instant run-off, the winner first: again and again the one goes whose mean over those who are left
         is the least. Among equal ones the one goes whose mean over all is less, then the last by name. The last table is
         ordered by its own means."""
         left, order = set(self.league.players), []
+        places = {name: at for at, name in enumerate(sorted(left))}
 
         def strength(name):
             here = self.mean(name, left)
-            return here is not None, here or 0, means[name] or 0, [-ord(letter) for letter in name]
+            return here is not None, here or 0, means[name] or 0, -places[name]
 
         while len(left) > self.league.seats:
             gone = min(left, key=strength)
@@ -118,7 +132,8 @@ class Standings:
         return {name: dict(found) for name, found in counts.items()}
 
     def side_by_side(self, better, worse):
-        """By how much a player is ahead of another. Where both sat the difference of the two in each unit is one sample."""
+        """By how much a player is ahead of another. Where both sat the difference of the two in each unit is one sample. Each
+        one's results weigh by how many sets of opponents he met, which differs while groups are unfinished."""
         first, second = better.name, worse.name
         weights = {name: Fraction(1, len(self.cells[name])) for name in (first, second)}
         terms = []
@@ -129,7 +144,7 @@ class Standings:
                 terms.append((weights[first], sample.estimate(first)))
             elif second in players:
                 terms.append((-weights[second], sample.estimate(second)))
-        return Neighbours(first, second, combined(terms))
+        return Neighbours(first, second, combined(terms), better.is_by_hands or worse.is_by_hands)
 
 
 class Sample:

@@ -5,8 +5,10 @@ import json
 
 BY_HANDS = "by hands: too small where bots learn"
 TRUST = (
-    "Each interval by itself misses the true value in 1 of 20 leagues; of {cells} cells about {misses} miss."
+    "Each interval by itself misses the true value in 1 of 20 leagues; of {cells} cells (a player against opponents) about "
+    "{misses} miss."
 )
+TRUST_BY_HANDS = " Intervals by hands miss more often where bots learn or fail."
 
 
 def shown(interval):
@@ -60,13 +62,29 @@ def standing_rows(standings):
     for it in standings.standings:
         yield (
             place(it.rank), it.name, shown(it.interval), half(it.plain), place(it.run_off), *map(str, it.incidents.values()),
-            BY_HANDS if it.is_by_hands else "",
+            "; ".join(marks(it)),
         )
+
+
+def marks(standing):
+    """What a reader of a standing has to know besides: opponents that weren't met, and a unit that is too small."""
+    if standing.met < standing.planned:
+        yield f"met {standing.met} of {standing.planned}"
+    if standing.is_by_hands:
+        yield BY_HANDS
+
+
+def neighbour_marks(it):
+    """The same of neighbours."""
+    if not it.are_told_apart:
+        yield "not told apart"
+    if it.is_by_hands:
+        yield BY_HANDS
 
 
 def neighbour_lines(standings):
     for it in standings.neighbours:
-        yield f"{it.better} - {it.worse}: {shown(it.ahead)}" + ("" if it.are_told_apart else ", not told apart")
+        yield ", ".join([f"{it.better} - {it.worse}: {shown(it.ahead)}", *neighbour_marks(it)])
 
 
 def cell_rows(standings):
@@ -80,7 +98,7 @@ def cell_rows(standings):
 
 def trust(standings):
     cells = sum(map(len, standings.cells.values())) // (2 if standings.league.seats == 2 else 1)
-    return TRUST.format(cells=cells, misses=f"{cells / 20:.1f}")
+    return TRUST.format(cells=cells, misses=f"{cells / 20:.1f}") + (TRUST_BY_HANDS if standings.is_by_hands else "")
 
 
 def text(standings):
@@ -103,22 +121,28 @@ def interval_values(interval, prefix=""):
     return {prefix + "mean": number(interval.value), prefix + "half": number(interval.half), prefix + "freedom": number(interval.freedom)}
 
 
+def unit(it):
+    return "hand" if it.is_by_hands else "group"
+
+
 def standing_values(it):
     return {
         "player": it.name, "rank": it.rank, "run_off": it.run_off, **interval_values(it.interval),
-        "plain_half": interval_values(it.plain)["half"], "unit": "hand" if it.is_by_hands else "group", **it.incidents,
+        "plain_half": interval_values(it.plain)["half"], "unit": unit(it), "met": it.met, "planned": it.planned, **it.incidents,
     }
 
 
 def cell_values(name, it):
     return {
         "player": name, "against": " ".join(it.opponents), **interval_values(it.interval), "plain_half": number(it.plain.half),
-        "groups": it.groups, "unit": "hand" if it.is_by_hands else "group",
+        "groups": it.groups, "unit": unit(it),
     }
 
 
 def neighbour_values(it):
-    return {"player": it.better, "against": it.worse, **interval_values(it.ahead), "told_apart": it.are_told_apart}
+    return {
+        "player": it.better, "against": it.worse, **interval_values(it.ahead), "told_apart": it.are_told_apart, "unit": unit(it),
+    }
 
 
 def values(standings):

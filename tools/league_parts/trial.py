@@ -52,7 +52,7 @@ def try_player(league, player, keeper):
     mean = result.used[0] / max(1, table.answers) / MILLISECOND
     mended = f"{counted(result.mended[0], 'mended action')}, see {folder / 'notes'}" if result.mended[0] else "no mended action"
     return None, (
-        f"came within {table.all_there - table.begun:.1f} s; {table.answers} responses of {mean:.1f} ms, "
+        f"connected after {table.all_there - table.begun:.1f} s; {table.answers} responses of {mean:.1f} ms, "
         f"the longest {result.worst[0] / MILLISECOND:.1f} ms; {mended}"
     )
 
