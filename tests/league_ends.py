@@ -134,15 +134,18 @@ def an_interrupt_ends_all_and_leaves_all_to_go_on():
 
 @test
 def a_match_that_another_one_plays():
-    """A second `match` and a second `run` end with status 4; a `run` beside a `match` waits for it and finishes the rest."""
+    """A second `match` and a second `run` end with status 4; a `run` beside a `match` waits for it and finishes the rest. The
+    first match stands still meanwhile, so that it can't end before them on a busy machine."""
     league = slow_league()
     match = league.start("match", "1")
     played_now(league, match)
+    match.send_signal(signal.SIGSTOP)
     want("another process plays calls.slow.1.0" in league.does("match", "1", status=4)[1], "the second match says something else")
     want("another process plays" in league.does("match", "1", "--again", status=4)[1], "the match is taken away")
     run = league.start("run", "--jobs", "2")
     awaited(lambda: (league.kept / "running/calls.slow.1.1").exists(), "the run's match")
     want("another process runs this league" in league.does("run", status=4)[1], "the second run says something else")
+    match.send_signal(signal.SIGCONT)
     want(match.wait(WAIT) == 0, "the match failed")
     said = run.communicate(timeout=WAIT)[1]
     want(run.returncode == 0 and len(league.logs()) == 2, f"the run ended with {run.returncode}: {said}")
