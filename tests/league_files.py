@@ -200,5 +200,6 @@ def the_page_leads_to_what_is_there():
         hands = [it for it in links.to if it.startswith("revealed/")]
         want(hands == [f"revealed/{pair}.1.html#{place}/0" for pair in ("a.b", "a.c") for place in (1, 2)], f"hands are at {hands}")
     want(text.count("not yet") == 1 and "1 group with an unfinished part" in text, "the unfinished meeting is revealed, or isn't told")
+    want(text.count(">notes</a>") == 3 and "A log has all cards" in text, "notes without a word are linked, or nobody is warned of logs")
     found = re.findall(r'notes">([\w.]+)</a></th><td class="left">(\w)</td><td>0</td><td>0</td><td>(\d)</td>', text)
     want(sorted(found) == [("a.b.1.0", "b", "1"), ("a.b.1.1", "b", "1"), ("b.c.1.0", "b", "1")], f"incidents are {found}")
