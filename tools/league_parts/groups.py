@@ -24,7 +24,7 @@ class Played(NamedTuple):
     def by_hands(self, league):
         """By name the chips of each hand, by the log."""
         chips = dict(zip(self.planned.seats, hand_chips(self.log(league), self.planned.seats)))
-        for name, hands in chips.items():
+        for hands in chips.values():
             see_hands(self.log(league), len(hands), league)
         return chips
 
