@@ -15,8 +15,7 @@ use crate::server::NodeServer;
 use crate::server_notice::ServerNotice;
 use clockwork::limits::{LATEST, LOOK, MOST_PEERS};
 use clockwork::{
-    Awaited, Due, Known, Watch, away_due, due, has_work, is_behind, is_quorate, pace, rank,
-    replays,
+    Awaited, Due, Known, Watch, away_due, due, has_work, is_behind, is_quorate, pace, rank, replays,
 };
 use dealer_world::Event;
 use node_peers::{Peers, View};
