@@ -228,9 +228,9 @@ def told_statuses(seed, is_long):
 @test()
 def table_of_statuses(seed, is_long):
     """tools/status where one node hangs, one can't be asked, and something else answers."""
-    rows = status.printed([["1", "37", "4", "no", "4.0", "no", "yes", "0:37:campaigns,2:gone", "alice:seated,bob:away", "no", "0,812", "412/s"], "not reached"])
+    rows = status.printed([["1", "37", "4", "no", "yes", "4.0", "no", "yes", "0:37:campaigns,2:gone", "alice:seated,bob:away", "no", "0,812", "412/s"], "not reached"])
     want([*rows] == [
-        "node  front  hand  over  promised  leads  quorum  peers                  seats                  pending  backlog  commands",
-        "1     37     4     no    4.0       no     yes     0:37:campaigns,2:gone  alice:seated,bob:away  no       0,812    412/s",
+        "node  front  hand  over  replaying  promised  leads  quorum  peers                  seats                  pending  backlog  commands",
+        "1     37     4     no    yes        4.0       no     yes     0:37:campaigns,2:gone  alice:seated,bob:away  no       0,812    412/s",
         "1     not reached",
     ], f"the table is {rows}")
