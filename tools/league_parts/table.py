@@ -5,8 +5,8 @@ import json
 
 BY_HANDS = "by hands: too small where bots learn"
 TRUST = (
-    "Each interval by itself misses the true value in 1 of 20 leagues; of {cells} cells (a player against opponents) about "
-    "{misses} miss."
+    "Each interval behind a mean, by itself, misses the true value in 1 of 20 leagues; of {cells} cells (a player against "
+    "opponents) about {misses} miss."
 )
 TRUST_BY_HANDS = " Intervals by hands miss more often where bots learn or fail."
 
