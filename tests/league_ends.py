@@ -20,8 +20,10 @@ def six_bots():
 
 
 def slow_league(**entries):
-    """A league of two matches, of which each takes some seconds."""
-    return League({"calls": command("calls"), "slow": command("slow")}, hands=6, **entries)
+    """A league of two matches, of which each takes some seconds. Its limits are beyond what a busy machine takes, and a match
+    that a test has stand still."""
+    players = {"calls": command("calls"), "slow": command("slow")}
+    return League(players, hands=6, t_per_hand=1000 * WAIT, start_timeout=1000 * WAIT, **entries)
 
 
 def played_now(league, process):

@@ -154,6 +154,27 @@ def opponents_who_were_not_met():
 
 
 @test
+def neighbours_who_met_different_opponents():
+    """a met b (x 10 30) and c (3000 3070, m 3035, v 1225), b and c met a alone: apart from each other a met c and b nobody, b
+    and c the same. D of a and b is 1527.5 - -20, V = 1225 / 4 + (1/2 + 1/1)^2 x 100 = 531.25, nu = 531.25^2 / (306.25^2 +
+    225^2) = 1.9543, 12.7062 x 23.0489 = 292.8641: 0 is left out, which is no difference of strength. D of b and c is -20 +
+    3035, V = 100 + 1225, 12.7062 x 36.4005 = 462.5127. In the finished league all met the same."""
+    league = three(2, ab=[1, 3], ac=[300, 307])
+    found, text = league.figures("--unit", "group", status=1)["neighbours"], league.table("--unit", "group", status=1)
+    for it, (mean, half, same) in zip(found, ((1547.5, 292.8641, False), (3015, 462.5127, True))):
+        near(it["mean"], mean, "D")
+        near(it["half"], half, "its interval")
+        want((it["same_opponents"], it["told_apart"]) == (same, same), f"the neighbours are {it}")
+    want("a - b: +1547.5 ± 292.9, not told apart, met different opponents\nb - c: +3015.0 ± 462.5\n" in text, f"the table is {text}")
+    page = (league.does("page"), (league.kept / "page.html").read_text())[1]
+    want("<td>+1547.5 ± 292.9</td>" in page and page.count("met different opponents") == 2, "the page colours or doesn't mark them")
+    whole = three(2, ab=[1, 3], ac=[300, 307], bc=[1, 1])
+    want(all(it["same_opponents"] for it in whole.figures()["neighbours"]), "a finished league has different opponents")
+    whole.does("page")
+    want("different opponents" not in (whole.kept / "page.html").read_text(), "the page warns of a finished league")
+
+
+@test
 def files_with_other_numbers_of_hands():
     """A result, or a log, that has two hands where each match has three: no figure is printed."""
     for broken, file in (([[1, 1, 1], [1, 1]], "result.json"), ([[1, 1, 1], [1, 1, 1]], "a.b.1.1.log")):

@@ -1,4 +1,5 @@
 """Tests of matches that go right, or whose players do wrong."""
+import json
 import os
 import re
 import shutil
@@ -11,6 +12,12 @@ sys.dont_write_bytecode = True
 from dealer_runs import NOLIMIT_3P
 from league_runs import Bots, League, command, test
 from serving import TOP, want
+
+sys.path.insert(0, str(TOP / "tools"))
+
+from league_parts import league_file, one_match
+from league_parts.plan import Planned
+from match_engine.match import Result
 
 RAISER = f"{sys.executable} {TOP / 'examples/bots/raiser'} {TOP / 'examples' / NOLIMIT_3P} {{seed}} {{port}}"
 
@@ -172,6 +179,18 @@ def what_a_result_says():
     want(result["files"]["b"]["files"] == 0 and result["seats"] == ["b", "a"] and result["number"] == 2, f"it is {result}")
     want(all(used >= worst > 0 for used, worst in zip(result["used"], result["worst"])), "no times")
     want({"host", "load", "versions", "limits", "began", "ended", "squares"} <= set(result), f"it has {set(result)}")
+
+
+@test
+def a_result_has_the_hands_of_its_log():
+    """A log of two hands in a league of three: the result says two, so that `table` stops at it."""
+    league = League({"a": "true {port}", "b": "true {port}"}, hands=3)
+    (league.folder / "a.b.1.0.log").write_text("# head\nSTATE:0:f:x:7|-7:a|b\nSTATE:1:f:x:2|-2:b|a\nSCORE:5|-5:a|b\n")
+    result, nothing = Result("SCORE:5|-5:a|b", *([0, 0] for _ in range(5))), {}
+    planned = Planned(1, "a.b.1.0", ("a", "b"), 1, ("a", "b"))
+    text = one_match.result_text(league_file.read(league.file), planned, result, nothing, 0.0, league.folder)
+    found = json.loads(text)
+    want((found["hands"], found["chips"], found["squares"]) == (2, [5, -5], [53, 53]), f"it is {text}")
 
 
 @test

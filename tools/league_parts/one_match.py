@@ -183,10 +183,10 @@ def to_the_end(league, planned, folder):
 
 
 def result_text(league, planned, result, files, begun, folder):
-    """What a result says; lists are by seat, times in microseconds."""
+    """What a result says; lists are by seat, times in microseconds. Hands and chips are the log's."""
     chips = hand_chips(folder / f"{planned.name}.log", planned.seats)
     return json.dumps({
-        "match": planned.name, "number": planned.number, "seats": planned.seats, "hands": league.hands,
+        "match": planned.name, "number": planned.number, "seats": planned.seats, "hands": len(chips[0]),
         "score": result.score, "chips": [sum(hands) for hands in chips], "squares": [sum(it * it for it in hands) for hands in chips],
         "used": result.used, "worst": result.worst, "restarts": result.restarts, "defaults": result.defaults, "mended": result.mended,
         "limits": league.limits._asdict(), "restarts_allowed": league.restarts,

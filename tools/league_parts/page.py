@@ -40,15 +40,26 @@ FEW_GROUPS = (
 )
 SELECTED = (
     "The leader’s mean is too high by selection. Two players whom you picked by their results need more than an interval "
-    "that leaves 0 out. ± 0.0 means that nothing rare has happened yet."
+    "that leaves 0 out. Rare large losses that haven’t happened yet are in no interval; ± 0.0 means that no result varied yet. "
+    "No interval here holds if a bot learns from match to match, or if meetings were added because a result wasn’t clear."
 )
 WORDS = (
     "Green and red: the interval leaves 0 out. In the graph the dot is the mean, and the dashed line is 0. “plain” is the "
-    "interval if each hand were counted by itself. “run-off”: again and again the player goes whose mean over those who are "
-    "left is the least. “restarts” counts how often a player’s program was started again, “defaults” the actions that were "
-    "taken for it, and “mended” its actions that weren’t allowed and were replaced."
+    "interval if each hand were counted by itself."
+)
+ORDERS = (
+    "“rank” orders players by their mean over all opponents that they met; equal means share a rank. “run-off”: again and "
+    "again the player goes whose mean over those who are left is the least; of equal ones the one goes whose mean over all is "
+    "less, then the last by name."
+)
+COUNTS = (
+    "“restarts” counts how often a player’s program was started again, “defaults” the actions that were taken for it, and "
+    "“mended” its actions that weren’t allowed and were replaced: in all finished matches, also of meetings that aren’t finished."
 )
 NEIGHBOURS = "The difference has an interval of its own: hands that two neighbours played against each other count for both."
+DIFFERENT = (
+    "Means over different opponents say nothing of who is better: no neighbours who met different opponents are told apart."
+)
 HOSTILE = (
     "Bots run without a sandbox. A log has all cards, also one of a meeting that isn’t finished. docs/LEAGUE.md says what isn’t "
     "kept from a hostile bot."
@@ -77,7 +88,7 @@ def write(standings, is_revealed):
 
 
 def row(cells, tag="td"):
-    """A line of a table; cells are HTML, or pairs of a class and HTML. The first one names the line."""
+    """A line of a table; cells are HTML, or pairs of classes and HTML. The first one names the line."""
     made = []
     for at, cell in enumerate(cells):
         kind, text = cell if isinstance(cell, tuple) else ("", cell)
@@ -159,11 +170,11 @@ def standing_table(standings):
     for it in standings.standings:
         small = [note.partition(":")[0] for note in marks(it)]
         rows.append(row([
-            place(it.rank), ("left", escape(it.name)), noted(valued(it.interval), small), ("left", graph(it.interval, at)), half(it.plain),
-            place(it.run_off), *[str(it.incidents[key]) for key in INCIDENTS], *times(standings, it.name),
+            place(it.rank), ("left stays", escape(it.name)), noted(valued(it.interval), small), ("graph", graph(it.interval, at)),
+            half(it.plain), place(it.run_off), *[str(it.incidents[key]) for key in INCIDENTS], *times(standings, it.name),
         ]))
-    scale = ("left", f"from {least:+.0f} to {most:+.0f}") if most > least else ""
-    header = ["rank", ("left", "player"), "mbb/hand", scale, "plain", "run-off", *INCIDENTS, "time a hand", "longest response"]
+    scale = "graph", f"from {least:+.0f} to {most:+.0f}" if most > least else ""
+    header = ["rank", ("left stays", "player"), "mbb/hand", scale, "plain", "run-off", *INCIDENTS, "time a hand", "longest response"]
     return section("Standings", table(header, rows), *meaning(standings))
 
 
@@ -178,16 +189,21 @@ def meaning(standings):
         yield paragraph(FEW_GROUPS.format(which="all" if all(by_hands) else "some", fewest=FEWEST_GROUPS, mark=BY_HANDS))
     if cells:
         yield paragraph(f"{trust(standings)} {SELECTED}", "quiet")
-    yield paragraph(WORDS, "quiet")
+    for words in (WORDS, ORDERS, COUNTS):
+        yield paragraph(words, "quiet")
 
 
 def neighbours(standings):
     rows = [
-        row([("left", f"{escape(it.better)} – {escape(it.worse)}"), valued(it.ahead), ("left", escape(", ".join(neighbour_marks(it))))])
+        row([
+            ("left words", f"{escape(it.better)} – {escape(it.worse)}"), valued(it.ahead) if it.have_same_opponents else shown(it.ahead),
+            ("left words", escape(", ".join(neighbour_marks(it)))),
+        ])
         for it in standings.neighbours
     ]
-    found = table([("left", "players"), "the first is ahead by", ""], rows)
-    return section("Neighbours in rank", found, paragraph(NEIGHBOURS, "quiet"))
+    found = table([("left", "players"), ("words", "the first is ahead by"), ""], rows)
+    words = [NEIGHBOURS] if all(it.have_same_opponents for it in standings.neighbours) else [NEIGHBOURS, DIFFERENT]
+    return section("Neighbours in rank", found, *[paragraph(it, "quiet") for it in words])
 
 
 def names_of(players):
@@ -209,8 +225,8 @@ def cross_table(standings):
     for name in order:
         found = {it.opponents[0]: it for it in standings.cells[name]}
         cells = [cell_link(name, found[other]) if other in found else ("own", "") if other == name else ("quiet", "–") for other in order]
-        rows.append(row([("left", escape(name)), *cells]))
-    return section("Each against each", table([("left", "mbb/hand of"), *map(escape, order)], rows))
+        rows.append(row([("left stays", escape(name)), *cells]))
+    return section("Each against each", table([("left stays", "mbb/hand of"), *map(escape, order)], rows))
 
 
 def sets_table(standings):
@@ -219,8 +235,9 @@ def sets_table(standings):
     for players in sorted(standings.groups):
         found = {name: next(it for it in standings.cells[name] if set(it.opponents) == set(players) - {name}) for name in players}
         for name in players:
-            rows.append(row([("left", escape(name)), ("left", escape(", ".join(found[name].opponents))), cell_link(name, found[name])]))
-    return section("Each against each", table([("left", "player"), ("left", "against"), "mbb/hand"], rows))
+            against = "left words", escape(", ".join(found[name].opponents))
+            rows.append(row([("left stays", escape(name)), against, cell_link(name, found[name])]))
+    return section("Each against each", table([("left stays", "player"), ("left", "against"), "mbb/hand"], rows))
 
 
 def place_of(planned, file):
@@ -276,11 +293,11 @@ def match_list(standings, players, replays, is_revealed):
         links = [link(place_of(planned, f"{planned.name}.log"), "log")]
         links += [link(place_of(planned, "notes"), "notes")] if has_notes(standings.league, planned) else []
         links += [link(replays[planned.name], "hands")] if planned.name in replays else []
-        cells = [str(planned.number), ("left", escape(planned.name)), ("left", escape(", ".join(planned.seats)))]
+        cells = [str(planned.number), ("left", escape(planned.name)), ("left", " · ".join(links)), ("left", escape(", ".join(planned.seats)))]
         cells += [f"{it.of('chips', name):+d}" for name in players]
-        cells += [("left", " · ".join(links)), *([f"<code>{seed or 'not yet'}</code>"] if is_revealed else [])]
+        cells += [f"<code>{seed or 'not yet'}</code>"] if is_revealed else []
         rows.append(row(cells))
-    header = ["number", ("left", "match"), ("left", "seats"), *[f"chips of {escape(name)}" for name in players], ""]
+    header = ["number", ("left", "match"), "", ("left", "seats"), *[f"chips of {escape(name)}" for name in players]]
     header += ["seed"] if is_revealed else []
     title = f"{', '.join(map(escape, players))}: {len(rows)} finished"
     is_open = " open" if len(standings.matches) <= FEW_MATCHES else ""

@@ -46,10 +46,13 @@ class Neighbours(NamedTuple):
     worse: str
     ahead: Interval
     is_by_hands: bool
+    # Whether both met the same opponents, apart from each other.
+    have_same_opponents: bool
 
     @property
     def are_told_apart(self):
-        return self.ahead.leaves_out(0)
+        """Means over different opponents tell nobody apart, whatever their difference."""
+        return self.have_same_opponents and self.ahead.leaves_out(0)
 
 
 class Standings:
@@ -144,7 +147,13 @@ class Standings:
                 terms.append((weights[first], sample.estimate(first)))
             elif second in players:
                 terms.append((-weights[second], sample.estimate(second)))
-        return Neighbours(first, second, combined(terms), better.is_by_hands or worse.is_by_hands)
+        is_by_hands = better.is_by_hands or worse.is_by_hands
+        is_same = self.met_without(first, second) == self.met_without(second, first)
+        return Neighbours(first, second, combined(terms), is_by_hands, is_same)
+
+    def met_without(self, name, other):
+        """The sets of opponents that a player met where another one didn't sit."""
+        return {it.opponents for it in self.cells[name] if other not in it.opponents}
 
 
 class Sample:

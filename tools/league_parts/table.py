@@ -78,6 +78,8 @@ def neighbour_marks(it):
     """The same of neighbours."""
     if not it.are_told_apart:
         yield "not told apart"
+    if not it.have_same_opponents:
+        yield "met different opponents"
     if it.is_by_hands:
         yield BY_HANDS
 
@@ -141,7 +143,8 @@ def cell_values(name, it):
 
 def neighbour_values(it):
     return {
-        "player": it.better, "against": it.worse, **interval_values(it.ahead), "told_apart": it.are_told_apart, "unit": unit(it),
+        "player": it.better, "against": it.worse, **interval_values(it.ahead), "told_apart": it.are_told_apart,
+        "same_opponents": it.have_same_opponents, "unit": unit(it),
     }
 
 
