@@ -21,7 +21,7 @@ TOP = Path(__file__).resolve().parent.parent
 sys.path.insert(0, str(TOP / "examples/bots"))
 
 import player
-from player import dial, play
+from player import play
 from table import Game, turn_of
 
 # The longest wait for anything that has to happen, and how long is waited for what must not, in seconds.
@@ -34,7 +34,7 @@ END = [None]
 FAST = "/dev/shm" if os.access("/dev/shm", os.W_OK) else None
 NAMES = ["alice", "bob", "carol", "dave", "erin", "frank", "grace", "heidi", "ivan", "judy"]
 # The players of tests go home soon after a match; those of examples/bots, run by their commands, take their time.
-player.PAUSE, player.ROUNDS = 0.01, 10
+player.PAUSE, player.GIVE_UP = 0.01, 0.1
 
 
 def loaded(path):
@@ -77,6 +77,14 @@ def is_free(port):
         except OSError:
             return False
     return True
+
+
+def dial(port):
+    """A connection to a port of this machine, over which nothing is waited for too long; none where it is refused."""
+    connection = player.dial(("127.0.0.1", port))
+    if connection is not None:
+        connection.settimeout(WAIT)
+    return connection
 
 
 def free_ports(count):
@@ -208,13 +216,12 @@ class Player(threading.Thread):
     def run(self):
         until = time.monotonic() + FIRST_LINE
         while not self.lines and time.monotonic() < until:
-            play(self.ports, self.take, self.node)
+            play(self.ports, self.answer, self.see, first=self.node)
 
-    def take(self, line):
+    def see(self, line):
         self.lines.append(line)
         if len(self.lines) == self.after:
             self.then()
-        return self.answer(line)
 
     def ends(self):
         """All lines that he got, where he has gone home."""

@@ -1,47 +1,276 @@
-"""A player's way to the dealer, whatever he plays. docs/BOTS.md says why it goes so."""
+"""A bot's way to the dealer, whatever it plays. docs/BOTS.md says why it goes so.
+
+`play` does all of it. Given ports, it plays at `serve`: it is connected to one node at a time, and goes on to the next node
+when that connection ends. Given HOST:PORT, it plays at `node`: it is connected to all nodes at once, and loses nothing with
+one of them. Either way it reads all that has come, and answers the newest line only.
+"""
 import argparse
 import os
+import queue
 import re
+import select
 import socket
 import sys
+import threading
 import time
 from pathlib import Path
 from typing import NamedTuple
 
-# How long the player pauses after a round in which all nodes turned him away, in seconds, and how many such rounds in a
-# row he takes for the end of the match: some ten seconds where they all refuse him.
-PAUSE, ROUNDS = 0.2, 50
-# How long a node in a process of its own may take to be reached, and then for the line that follows what was said to
-# it, in seconds.
-LIMIT = 2.0
+# How long a bot pauses before it dials again, and how long a node of `node` may take to be reached, in seconds.
+PAUSE, REACHED = 0.2, 2.0
+# For how long all nodes of `serve` turn a bot away before it gives up, in seconds, if nothing else is said.
+GIVE_UP = 10.0
+# How long a node of `node` has for the line that follows an answer, before another node gets the answer too, in seconds:
+# the first node, the second and so on.
+WAITS = [0.5, 1.0, 2.0, 4.0]
+# For how long no newer line comes until a bot takes the newest one for that, after a node has begun with news, in seconds.
+SETTLED = 0.2
+# How often a bot looks what is due, in seconds.
+LOOK = 0.05
+# The most bytes of a dealer's line, and its form.
+LONGEST = 4096
+LINE = re.compile(rb"MATCHSTATE:[0-9]{1,9}:[0-9]{1,9}:[!-9;-~]*:[!-9;-~]*")
 
 
-class Process(NamedTuple):
-    """Where a node that runs in a process of its own, on whatever machine, takes in the player's seat."""
+class Address(NamedTuple):
+    """Where a node that runs in a process of its own takes the bot's seat."""
 
     host: str
     port: int
 
 
-def dial(node):
-    """A connection to a node: a process, or by its port at this machine; none where it is refused."""
-    try:
-        if isinstance(node, Process):
-            connection = socket.create_connection(node, timeout=LIMIT)
-            watch(connection)
+class Record:
+    """What a bot got and sent, each line as SECONDS.MICROS TO LINE or SECONDS.MICROS FROM LINE. It shows who was wrong."""
+
+    def __init__(self, file=None):
+        self.file = file
+
+    def keep(self, way, line):
+        """Writes a line behind the others. A full disk ends the record, and not the match."""
+        try:
+            if self.file is not None:
+                self.file.write(f"{time.time():.6f} {way} {line}\n".encode())
+        except OSError as why:
+            self.file = None
+            print(f"the record ends: {why.strerror}", file=sys.stderr)
+
+
+def ignore(line):
+    """Does nothing with a line."""
+
+
+def play(places, choose, see=ignore, token=None, give_up=None, record=Record(), first=0):
+    """Plays a match at the seat that has these places, one at each node. Returns whether any line came.
+
+    `see` gets each line. `choose` returns an action for the newest line, or none if the bot isn't to act there. The match is
+    over, or the nodes are lost, when all of them have turned the bot away for `give_up` seconds: 10 for ports, while an
+    `Address` is dialled without end. `first` is the node of `serve` at which the bot begins."""
+    if isinstance(places[0], Address):
+        return play_at_all(places, choose, see, token, give_up, record)
+    return play_at_one(places, choose, see, GIVE_UP if give_up is None else give_up, record, first)
+
+
+# At one node after the other, of `serve`.
+
+
+def play_at_one(ports, choose, see, give_up, record, node):
+    """Plays where the seat is expected at one node at a time: the next one, when a connection has ended."""
+    came, turned_away, rounds = False, 0, round(give_up / PAUSE)
+    while turned_away < rounds * len(ports):
+        if turned_away and turned_away % len(ports) == 0:
+            time.sleep(PAUSE)
+        if sit(ports[node], choose, see, record):
+            came, turned_away = True, 0
         else:
-            connection = socket.create_connection(("127.0.0.1", node))
+            turned_away += 1
+        node = (node + 1) % len(ports)
+    return came
+
+
+def sit(port, choose, see, record):
+    """Answers the lines of a node until the connection ends. Returns whether any came: if none did, the bot was turned away."""
+    connection = dial(("127.0.0.1", port))
+    if connection is None:
+        return False
+    came = False
+    with connection:
+        send(connection, "VERSION:2.0.0")
+        for lines in batches(connection):
+            came = True
+            for line in lines:
+                record.keep("TO", line)
+                see(line)
+            action = choose(lines[-1])
+            if action is not None:
+                answer = f"{lines[-1]}:{action}"
+                record.keep("FROM", answer)
+                send(connection, answer)
+    return came
+
+
+# At all nodes at once, of `node`.
+
+
+def play_at_all(addresses, choose, see, token, give_up, record):
+    """Plays where each node takes the seat and sends it every line."""
+    came, seat = queue.Queue(), Seat(see, record)
+    nodes = [Node(address, token, came) for address in addresses]
+    while not all(node.turns_away(give_up) for node in nodes):
+        newest = seat.line
+        seat.take(came, 0.0 if seat.is_due() else LOOK)
+        if seat.line != newest:
+            # While it chooses further lines may come: they are read before the answer is sent.
+            action = choose(seat.line)
+            seat.answer = None if action is None else f"{seat.line}:{action}"
+        elif seat.is_due():
+            seat.send_answer()
+    return seat.line is not None
+
+
+class Node(threading.Thread):
+    """Stays connected to a node: dials it, hands on what comes, and dials it again when the connection has ended."""
+
+    def __init__(self, address, token, came):
+        super().__init__(daemon=True)
+        self.address, self.token, self.came = address, token, came
+        # Since when the node turns the bot away; none while the bot is connected to it.
+        self.since = time.monotonic()
+        self.start()
+
+    def run(self):
+        while True:
+            connection = dial(self.address, REACHED)
+            if connection is not None:
+                with connection:
+                    self.hand_on(connection)
+            time.sleep(PAUSE)
+
+    def hand_on(self, connection):
+        """Hands on the lines of a connection, with whether they are its first ones, and at last that it has ended."""
+        since, self.since = self.since, None
+        send(connection, *([f"#TOKEN {self.token}"] if self.token else []), "VERSION:2.0.0")
+        for lines in batches(connection):
+            self.came.put((connection, lines, since is not None))
+            since = None
+        self.came.put((connection, [], False))
+        self.since = time.monotonic() if since is None else since
+
+    def turns_away(self, seconds):
+        """Whether the node has turned the bot away for so long, by refusing it or closing its connections before any line."""
+        since = self.since
+        return seconds is not None and since is not None and time.monotonic() - since >= seconds
+
+
+class Seat:
+    """A seat at several nodes. Each line counts once, in order, whichever node sends it first."""
+
+    def __init__(self, see, record):
+        self.see, self.record = see, record
+        # The newest line, and the bot's answer to it.
+        self.line, self.answer = None, None
+        # The connections over which that line came and the answer didn't go yet, and those over which it went.
+        self.ready, self.told = [], []
+        # When the answer goes to another node.
+        self.due = 0.0
+
+    def take(self, came, wait):
+        """Takes all that has come, and waits so many seconds if nothing has.
+
+        A node begins with the newest line that it knows. If that is news, lines before it may be on their way from other
+        nodes. Lines behind it may follow too, from a node that was just started. So both are awaited."""
+        pieces = drained(came, wait)
+        if any(is_first and self.is_news(lines[-1]) for _, lines, is_first in pieces):
+            pieces += settled(came, newest_place(pieces))
+        told = [(line, connection) for connection, lines, _ in pieces for line in lines]
+        for line, connection in sorted(told, key=lambda pair: place_of(pair[0])):
+            self.take_line(line, connection)
+        for connection, lines, _ in pieces:
+            if not lines:
+                self.lose(connection)
+
+    def is_news(self, line):
+        """Whether a line is behind the newest one in the match."""
+        return self.line is None or place_of(line) > place_of(self.line)
+
+    def take_line(self, line, connection):
+        if self.is_news(line):
+            self.record.keep("TO", line)
+            self.see(line)
+            self.line, self.answer, self.ready, self.told, self.due = line, None, [], [], 0.0
+        if line == self.line and connection not in self.ready + self.told:
+            self.ready.append(connection)
+
+    def lose(self, connection):
+        """A connection has ended: if the answer went there last, another node gets it now."""
+        if connection in self.ready:
+            self.ready.remove(connection)
+        if self.told and self.told[-1] is connection:
+            self.due = 0.0
+
+    def is_due(self):
+        """Whether the answer is to go to a node now."""
+        return self.answer is not None and self.ready != [] and time.monotonic() >= self.due
+
+    def send_answer(self):
+        """Sends the answer to the next node that sent the line. Over each connection it goes once."""
+        self.due = time.monotonic() + WAITS[min(len(self.told), len(WAITS) - 1)]
+        self.told.append(self.ready.pop(0))
+        self.record.keep("FROM", self.answer)
+        send(self.told[-1], self.answer)
+
+
+def place_of(line):
+    """Where a line stands in the match: its hand, and how long its betting is, which grows with each action."""
+    _, _, hand, betting, _ = line.split(":")
+    return int(hand), len(betting)
+
+
+def newest_place(pieces):
+    """Where the newest line of all these stands."""
+    return max((place_of(lines[-1]) for _, lines, _ in pieces if lines), default=(0, -1))
+
+
+def drained(came, wait):
+    """All that has come; if nothing has, what comes first within so many seconds, and all behind it."""
+    pieces = []
+    try:
+        while True:
+            pieces.append(came.get(timeout=0.0 if pieces else wait))
+    except queue.Empty:
+        return pieces
+
+
+def settled(came, newest):
+    """All that comes until for a while no line came that is behind the newest one."""
+    pieces, until = [], time.monotonic() + SETTLED
+    while time.monotonic() < until:
+        more = drained(came, max(0.0, until - time.monotonic()))
+        if newest_place(more) > newest:
+            newest, until = newest_place(more), time.monotonic() + SETTLED
+        pieces += more
+    return pieces
+
+
+# Connections.
+
+
+def dial(address, seconds=None):
+    """Returns a connection that was made, within so many seconds; none if it is refused."""
+    try:
+        connection = socket.create_connection(address, timeout=seconds)
     except OSError:
         return None
     if is_with_itself(connection):
         connection.close()
         return None
+    connection.settimeout(None)
     connection.setsockopt(socket.IPPROTO_TCP, socket.TCP_NODELAY, 1)
+    watch(connection)
     return connection
 
 
 def is_with_itself(connection):
-    """Whether the system has connected a socket to itself, as it may where nobody listens; so counts one that ended at once."""
+    """Whether the system connected a socket to itself, as it may if nobody listens; so counts one that ended at once."""
     try:
         return connection.getsockname() == connection.getpeername()
     except OSError:
@@ -49,68 +278,40 @@ def is_with_itself(connection):
 
 
 def watch(connection):
-    """Has the system ask whether the other machine is there: where it is lost the connection ends, though nothing is said."""
+    """Lets the system end the connection five seconds after the other machine was lost, though nothing is said."""
     connection.setsockopt(socket.SOL_SOCKET, socket.SO_KEEPALIVE, 1)
-    for option, value in (("TCP_KEEPIDLE", 2), ("TCP_KEEPINTVL", 1), ("TCP_KEEPCNT", 3)):
+    for option, value in (("TCP_KEEPIDLE", 2), ("TCP_KEEPINTVL", 1), ("TCP_KEEPCNT", 3), ("TCP_USER_TIMEOUT", 5000)):
         if hasattr(socket, option):
             connection.setsockopt(socket.IPPROTO_TCP, getattr(socket, option), value)
 
 
-def send(connection, line):
-    """Sends a line. That it can't be sent is no end yet: lines that came before may still be there to be read."""
+def send(connection, *lines):
+    """Sends lines. If they can't be sent, what came before may still be there to be read, so that is no end yet."""
     try:
-        connection.sendall(line.encode() + b"\r\n")
+        connection.sendall("".join(line + "\r\n" for line in lines).encode())
     except OSError:
         pass
 
 
-def received(connection):
-    """The lines that come, without their ends, until the connection ends in whatever way, or one is too late."""
-    try:
-        for line in connection.makefile("rb"):
-            if line.endswith(b"\n"):
-                yield line.decode("ascii").rstrip("\r\n")
-    except OSError:
-        pass
+def batches(connection):
+    """Yields the lines that have come, all of them at a time and without their ends, until the connection ends."""
+    rest, lines = b"", []
+    while True:
+        try:
+            piece = connection.recv(65536)
+        except OSError:
+            piece = b""
+        *whole, rest = (rest + piece).split(b"\n")
+        lines += [line.strip().decode() for line in whole if LINE.fullmatch(line.strip())]
+        has_ended = not piece or len(rest) > LONGEST
+        if lines and (has_ended or not (rest or select.select([connection], [], [], 0)[0])):
+            yield lines
+            lines = []
+        if has_ended:
+            return
 
 
-def sit(node, answer, token=None):
-    """Answers the lines that come from a node until the connection ends. It says whether any came: where none did, the
-    node has turned the player away. A token is shown first; to a node that wants none it is a comment. A process shows whoever comes the newest line that it knows, also when the match is
-    over: there it says whether any line came behind that.
-
-    A process that says nothing for a while after the player has said something is left: it hangs, or can't go on alone.
-    While others are to act no line is late."""
-    connection = dial(node)
-    if connection is None:
-        return False
-    count = 0
-    with connection:
-        if token is not None:
-            send(connection, f"#TOKEN {token}")
-        send(connection, "VERSION:2.0.0")
-        for line in received(connection):
-            count += 1
-            action = answer(line)
-            if action is not None:
-                send(connection, f"{line}:{action}")
-            if isinstance(node, Process):
-                connection.settimeout(None if action is None else LIMIT)
-    return count > isinstance(node, Process)
-
-
-def play(nodes, answer, node=0, token=None):
-    """Plays a match at a seat of these nodes. Begins at node 0, and goes on at the next node, round the table of nodes,
-    where the connection has ended or the node has turned the player away. Where all nodes do so, round after round, the
-    match is over, or the dealer isn't running. To processes he goes on dialling for ever: they come back one by one.
-
-    `answer` gives an action for a line, or none; it is asked again for a line that comes again."""
-    turned_away, is_patient = 0, any(isinstance(place, Process) for place in nodes)
-    while is_patient or turned_away < ROUNDS * len(nodes):
-        if turned_away and turned_away % len(nodes) == 0:
-            time.sleep(PAUSE)
-        turned_away = 0 if sit(nodes[node], answer, token) else turned_away + 1
-        node = (node + 1) % len(nodes)
+# The command line.
 
 
 def place(word):
@@ -120,7 +321,7 @@ def place(word):
     found = re.fullmatch(r"(?:\[(.+)\]|([^:]+)):([0-9]+)", word)
     if found is None:
         raise argparse.ArgumentTypeError(f"{word!r} is neither PORT nor HOST:PORT")
-    return Process(found[1] or found[2], int(found[3]))
+    return Address(found[1] or found[2], int(found[3]))
 
 
 def secret(word):
@@ -130,18 +331,50 @@ def secret(word):
     return word
 
 
+def secret_in(word):
+    """The token in the first line of a file."""
+    return secret(opened(word, "r").readline().strip())
+
+
+def record(word):
+    """A record that goes on at the end of a file."""
+    return Record(opened(word, "ab", buffering=0))
+
+
+def opened(word, *how, **more):
+    try:
+        return open(word, *how, **more)
+    except OSError as why:
+        raise argparse.ArgumentTypeError(f"{word}: {why.strerror}")
+
+
 def arguments(about, *more):
-    """The words of the command line: the game, what more the player takes, and where its seat is, by node."""
+    """The words of the command line: the game, what more the bot takes, and where its seat is, by node."""
     words = argparse.ArgumentParser(description=about)
     words.add_argument("game", type=Path, metavar="GAME", help="the game file of the match")
     for name, about_it in more:
         words.add_argument(name, type=int, metavar=name.upper(), help=about_it)
     words.add_argument(
-        "ports", type=place, nargs="+", metavar="PORT",
-        help="the port of the player's seat at each node, node 0 first; HOST:PORT where the nodes run in processes of their own",
+        "places", type=place, nargs="+", metavar="PLACE",
+        help="where the bot's seat is at each node, node 0 first: PORT for `serve` on this machine, HOST:PORT for `node`",
     )
+    words.add_argument("--token-file", type=secret_in, metavar="FILE", help="a file whose first line is the token of the bot's seat, for HOST:PORT")
     words.add_argument(
         "--token", type=secret, metavar="HEX", default=os.environ.get("HOLDEM_TOKEN") or None,
-        help="the token of the player's seat, where the match has tokens; by default what HOLDEM_TOKEN says, which others on this machine don't see",
+        help="the token itself, which others on this machine can see; without both it is what HOLDEM_TOKEN says",
     )
-    return words.parse_args(sys.argv[1:])
+    words.add_argument("--record", type=record, default=Record(), metavar="FILE", help="adds each line that the bot gets or sends to this file")
+    words.add_argument(
+        "--give-up", type=float, metavar="S",
+        help="ends when all nodes have turned the bot away for so many seconds: 10 for PORT; HOST:PORT is dialled without end",
+    )
+    found = words.parse_args(sys.argv[1:])
+    if len({isinstance(one, Address) for one in found.places}) > 1:
+        words.error("PORT is for `serve` and HOST:PORT for `node`: give the one or the other")
+    return found
+
+
+def run(words, choose, see=ignore):
+    """Plays a match by the words of the command line. Exits with status 1 if no line came at all."""
+    if not play(words.places, choose, see, words.token_file or words.token, words.give_up, words.record):
+        sys.exit("no node sent a line: see whether the nodes run, and whether places and token are right")
