@@ -3,5 +3,7 @@ pub mod Adding
 pub mod Hearing
 pub mod Saying
 pub mod Growing
+pub mod Noticing
 pub mod Sending
 pub mod Peering
+pub mod Viewing

@@ -1,9 +1,11 @@
 //! The connections over which nodes speak, by the places of their lines, and what is told of them.
 
 ghost use Rattle.std.specs.Prelude.{◌≡◌, ◌<◌, ◌++◌, ◌∷◌, [], IfOk, IfSome, Some};
-ghost use Rattle.node_wires.specs.Passages.{Began};
+ghost use Rattle.node_wires.specs.Passages.{Began, Wrote};
+ghost use Rattle.node_wires.specs.declared.line.Line.TheVariants.{Peer};
 ghost use Rattle.node_links.specs.Going.{IsOfKey};
 ghost use Rattle.node_peers.specs.Lines.{line_at};
+ghost use Rattle.node_peers.specs.Noticing.{heard_of, heard_by};
 ghost use Rattle.node_peers.specs.Hearing.{Fits, fits_prop, IsTold, AreTold, are_told_prop, IsFresh, IsOpened};
 
 use crate::limits::{BACKLOG, LINKS};
@@ -28,8 +30,10 @@ pub(crate) struct Lines {
     pub(crate) own: Own,
     links: Vec<Option<Link>>,
     notices: VecDeque<Notice>,
-    /// What passed over these lines, for clauses alone.
+    /// What passed over these lines, which frames were handed to the peers, and what was told of them, for clauses alone.
     passed: Passages,
+    sent: Passages,
+    heard: Passages,
     ghost fits: { Fits own passed.items links.items } by { fits_prop own passed.items links.items },
     ghost told: { AreTold own passed.items notices.items } by { are_told_prop own passed.items notices.items },
 }
@@ -55,13 +59,39 @@ pub(crate) enum Came {
     Nothing,
 }
 
+/// Puts down what a notice tells: a frame, or that a peer is there whose life is to be kept.
+fn note_told(notice: &Notice, heard: &mut Passages)
+    ensures { heard.new.items ≡ heard.old.items ++ heard_of notice.now }
+{
+    match notice {
+        Notice::Frame { from, frame } => heard.came(Line::Peer(*from), frame.bytes.as_slice()),
+        Notice::Joined { peer, life } => match life {
+            Some(_) => heard.began(Line::Peer(*peer)),
+            None => (),
+        },
+        Notice::Gone { .. } | Notice::Refused { .. } | Notice::Strangers { .. } => (),
+    }
+}
+
+/// The same of what is told next.
+fn note_next(notice: &Option<Notice>, heard: &mut Passages)
+    ensures { heard.new.items ≡ heard.old.items ++ heard_by notice.now }
+{
+    match notice {
+        Some(notice) => note_told(notice, heard),
+        None => (),
+    }
+}
+
 impl Lines {
-    ghost use Rattle.node_peers.specs.Growing.{Grew, Stays};
+    ghost use Rattle.node_peers.specs.Growing.{Grew, IsSilent, Keeps, Stays};
 
     /// No connection is there, and nothing passed.
     pub(crate) fn new(alloc: Global, own: Own) -> Result<Lines, AllocError>
         ensures own { IfOk result (λ lines. lines.own ≡ own) }
         ensures passed { IfOk result (λ lines. lines.passed.items ≡ []) }
+        ensures sent { IfOk result (λ lines. lines.sent.items ≡ []) }
+        ensures heard { IfOk result (λ lines. lines.heard.items ≡ []) }
     {
         let links = no_links(alloc)?;
         let notices = VecDeque::new(alloc);
@@ -72,15 +102,30 @@ impl Lines {
             links,
             notices,
             passed,
+            sent: Passages::new(),
+            heard: Passages::new(),
         })
     }
 
     /// What is told next. A frame is one that came over a line, behind the Hello of that node.
     pub(crate) fn pop(&mut self) -> Option<Notice>
-        ensures stays { Stays self.old self.new }
+        ensures keeps { Keeps self.old self.new }
+        ensures sent { self.new.sent ≡ self.old.sent }
+        ensures heard { self.new.heard.items ≡ self.old.heard.items ++ heard_by result }
         ensures told { IfSome result (λ notice. IsTold self.old.own self.old.passed.items notice) }
     {
-        self.notices.pop_front()
+        let notice = self.notices.pop_front();
+        note_next(&notice, &mut self.heard);
+        notice
+    }
+
+    /// A frame is handed to this peer.
+    pub(crate) fn note_sent(&mut self, to: u8, frame: &[u8])
+        ensures keeps { Keeps self.old self.new }
+        ensures sent { self.new.sent.items ≡ self.old.sent.items ++ Wrote (Peer to) frame.now ∷ [] }
+        ensures heard { self.new.heard ≡ self.old.heard }
+    {
+        self.sent.wrote(Line::Peer(to), frame);
     }
 
     /// Whether so much waits to be told that nothing more is read.
@@ -157,6 +202,7 @@ impl Lines {
         requires line { line ≡ line_at place }
         requires fresh { IsFresh self.old.own line (Some link) }
         ensures own { self.new.own ≡ self.old.own }
+        ensures silent { IsSilent self.old self.new }
         ensures passed { self.new.passed.items ≡ self.old.passed.items ++ Began line ∷ [] }
     {
         self.passed.began(line);

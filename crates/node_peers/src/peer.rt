@@ -1,3 +1,4 @@
+ghost use Rattle.std.specs.Prelude.{◌≡◌};
 ghost use Rattle.node_peers.specs.Growing.{Stays};
 ghost use Rattle.node_peers.specs.Sending.{IsSent};
 
@@ -43,6 +44,8 @@ pub(crate) struct Peer {
 }
 
 impl Peer {
+    ghost use Rattle.node_peers.specs.Viewing.{seen_as};
+
     /// Nothing is known but the life that is kept of its store.
     pub(crate) fn new(alloc: Global, kept: Option<Life>) -> Peer {
         Peer {
@@ -144,7 +147,9 @@ impl Peer {
     }
 
     /// How the peer is seen.
-    pub(crate) fn view(&self) -> View {
+    pub(crate) fn view(&self) -> View
+        ensures { result ≡ seen_as self.now }
+    {
         View {
             is_open: self.open.is_some(),
             since: self.since,

@@ -1,9 +1,9 @@
 //! A process's connections to its peers.
 
-ghost use Rattle.std.specs.Prelude.{◌≡◌, ℕ, [], IfOk, IfSome};
+ghost use Rattle.std.specs.Prelude.{◌≡◌, ℕ, [], ◌∷◌, ◌++◌, IfOk, IfSome};
 ghost use Rattle.node_peers.specs.Hearing.{IsTold};
-ghost use Rattle.node_wires.specs.Passages.{seats_in, wrote_over, logged_in};
-ghost use Rattle.node_wires.specs.declared.line.Line.TheVariants.{Seat};
+ghost use Rattle.node_wires.specs.Passages.{Wrote, seats_in, wrote_over, logged_in};
+ghost use Rattle.node_wires.specs.declared.line.Line.TheVariants.{Seat, Peer as ToPeer};
 
 use crate::lines::Lines;
 use crate::notice::Notice;
@@ -64,8 +64,10 @@ fn unmet(alloc: Global, nodes: u8, kept: &[Option<Life>]) -> Result<Vec<Peer>, A
 }
 
 impl Peers {
-    ghost use Rattle.node_peers.specs.Peering.{own_of, passed_of, Grew, Stays};
+    ghost use Rattle.node_peers.specs.Peering.{own_of, passed_of, frames_of, heard_of, Grew, Keeps, Stays};
+    ghost use Rattle.node_peers.specs.Noticing.{heard_by};
     ghost use Rattle.node_peers.specs.Sending.{Sends};
+    ghost use Rattle.node_peers.specs.Viewing.{view_of};
 
     /// No connection is there. Of each node `kept` has the life that is kept of its store, if one is.
     pub fn new(
@@ -76,6 +78,8 @@ impl Peers {
     ) -> Result<Peers, AllocError>
         ensures own { IfOk result (λ peers. own_of peers ≡ own) }
         ensures passed { IfOk result (λ peers. passed_of peers ≡ []) }
+        ensures frames { IfOk result (λ peers. frames_of peers ≡ []) }
+        ensures heard { IfOk result (λ peers. heard_of peers ≡ []) }
     {
         Ok(Peers {
             lines: Lines::new(alloc, own)?,
@@ -116,7 +120,9 @@ impl Peers {
     /// proof under the key, over it and this node's own, which is the first that was written to the line. A node is told to be
     /// there, and its life to be kept, only by a Hello that opened a connection: with a key behind its proof.
     pub fn next(&mut self) -> Option<Notice>
-        ensures stays { Stays self.old self.new }
+        ensures keeps { Keeps self.old self.new }
+        ensures frames { frames_of self.new ≡ frames_of self.old }
+        ensures heard { heard_of self.new ≡ heard_of self.old ++ heard_by result }
         ensures told { IfSome result (λ notice. IsTold (own_of self.old) (passed_of self.old) notice) }
     {
         self.lines.pop()
@@ -198,9 +204,12 @@ impl Peers {
     /// Ask that comes too soon behind another, where it is none by its length, and where there is no memory.
     #[tactic(auto, using(crate::proofs::Sending::sent_at, crate::proofs::Sending::nobody_sent))]
     pub fn send(&mut self, to: u8, frame: &[u8], now: u64)
-        ensures stays { Stays self.old self.new }
+        ensures keeps { Keeps self.old self.new }
+        ensures frames { frames_of self.new ≡ frames_of self.old ++ Wrote (ToPeer to) frame.now ∷ [] }
+        ensures heard { heard_of self.new ≡ heard_of self.old }
         ensures sends { Sends to frame.now self.old.peers.items self.new.peers.items }
     {
+        self.lines.note_sent(to, frame);
         if let Some(peer) = self.peers.get_mut(to as usize) {
             peer.send(frame, now);
         }
@@ -224,7 +233,9 @@ impl Peers {
     }
 
     /// How a peer is seen; none of a number that no node has.
-    pub fn view(&self, number: u8) -> Option<View> {
+    pub fn view(&self, number: u8) -> Option<View>
+        ensures { result ≡ view_of self.now number }
+    {
         match self.peers.get(number as usize) {
             Some(peer) => Some(peer.view()),
             None => None,

@@ -222,13 +222,15 @@ comes_on notice a b c x y z one two = record {
       (subst (λ (t : Option (List TokenDigest)). Passes t notice (passed_in b.guests) (passed_in c.guests) y z) one.tokens two.passes);
   tokens = two.tokens ∙ one.tokens;
   waits = follows_on notice a.seats.items b.seats.items c.seats.items one.waits two.waits;
+  told = two.told ∙ one.told;
   sits = changes_on notice a.seats.items b.seats.items c.seats.items one.sits two.sits;
 }
 
-pub comes_of : (old new : Seats) (wired_old wired_new : List Passage) → new.guests ≡ old.guests → new.seats.items ≡ old.seats.items → wired_new ≡ wired_old → Comes None old new wired_old wired_new
-comes_of old new wired_old wired_new guests seats wired = record {
+pub comes_of : (old new : Seats) (wired_old wired_new : List Passage) → new.guests ≡ old.guests → new.seats.items ≡ old.seats.items → new.told ≡ old.told → wired_new ≡ wired_old → Comes None old new wired_old wired_new
+comes_of old new wired_old wired_new guests seats told wired = record {
   passes = nothing_passes (tokens_in old.guests) (passed_in old.guests) (passed_in new.guests) wired_old wired_new (ap passed_in guests) wired;
   tokens = ap tokens_in guests;
   waits = λ seat. ap (λ (s : List SeatOf). waits_at s seat) seats;
+  told = told;
   sits = λ seat. ap (λ (s : List SeatOf). sits_at s seat) seats;
 }

@@ -1,9 +1,11 @@
 pub mod Lists
 pub mod Tokens
 pub mod Passing
+pub mod Others
 pub mod Writing
 pub mod Guesting
 pub mod Seating
 pub mod SeatBits
 pub mod Coming
+pub mod Telling
 mod Examples

@@ -1,5 +1,5 @@
 -- What waits for a seat, and who sits there, where one of the seats is another.
-use Rattle.std.proofs.Common.{◌≡◌, ◌≢◌, ◌⊎◌, inl, inr, ℕ, ◌<◌, true, false, eqb, List, set, length, ap, sym, ◌∙◌}
+use Rattle.std.proofs.Common.{◌≡◌, ◌≢◌, ◌⊎◌, inl, inr, ℕ, ◌<◌, true, false, eqb, List, [], ◌∷◌, ◌++◌, zero, suc, refl, set, length, ap, sym, ◌∙◌}
 use Rattle.std.proofs.lemmas.Bool.Decides.{eqb_tells}
 use Rattle.std.proofs.lemmas.List.{get_or-set_same, get_or-set_other}
 use Rattle.node_seats.specs.declared.seat.Seat.{Seat}
@@ -19,3 +19,10 @@ sits_by seats number q seat within same (inr elsewhere) = ap (λ (s : Seat). s.s
 
 pub sits_alike : (seats : List Seat) (number : ℕ) (seat : Seat) → number < length seats → seat.sits ≡ sits_at seats number → (q : ℕ) → sits_at (set seats number seat) q ≡ sits_at seats q
 sits_alike seats number seat within same q = sits_by seats number q seat within same (eqb_tells q number)
+
+-- one seat more for which nothing waits
+pub one_empty : (seats : List Seat) (one : Seat) → one.waiting.waiting ≡ [] → ((seat : ℕ) → waits_at seats seat ≡ []) → (seat : ℕ) → waits_at (seats ++ one ∷ []) seat ≡ []
+one_empty [] one empty none zero = empty
+one_empty [] one empty none (suc seat) = refl
+one_empty (first ∷ seats) one empty none zero = none 0
+one_empty (first ∷ seats) one empty none (suc seat) = one_empty seats one empty (λ other. none (suc other)) seat

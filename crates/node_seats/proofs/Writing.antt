@@ -6,6 +6,7 @@ use Rattle.node_wires.specs.declared.line.Line.{Line}
 use Rattle.node_wires.specs.declared.line.Line.TheVariants.{Seat}
 use Rattle.node_wires.specs.Passages.{Passage, Began, Came, Wrote, Gave, Logged, of_seat, seats_in, wrote_by, wrote_behind, wrote_over, logged_in}
 use Rattle.node_seats.specs.Writing.{Writes}
+use Rattle.node_seats.proofs.Others.{keeps_same, keeps_on, keeps_written}
 
 -- ---- behind what passed, one passage more
 
@@ -40,6 +41,7 @@ nothing_written number old new passed_old passed_new e f = record {
   said = cc (ap (λ (ps : List Passage). wrote_over ps (Seat number)) f, e);
   others = λ seat differs. ap (λ (ps : List Passage). wrote_over ps (Seat seat)) f;
   seats = ap seats_in f;
+  left = keeps_same passed_old passed_new f;
   log = ap logged_in f;
 }
 
@@ -48,6 +50,7 @@ written_on number a b c x y z one two = record {
   said = two.said ∙ one.said;
   others = λ seat differs. two.others seat differs ∙ one.others seat differs;
   seats = two.seats ∙ one.seats;
+  left = keeps_on x y z one.left two.left;
   log = two.log ∙ one.log;
 }
 
@@ -65,5 +68,6 @@ some_written number count old bytes new passed_old passed_new same e wrote =
       others = λ seat differs.
           ap (λ (ps : List Passage). wrote_over ps (Seat seat)) f ∙ (write_behind (Seat seat) [] passed_old (Wrote (Seat number) piece) ∙ to_another (number == seat) (wrote_over passed_old (Seat seat)) piece (ne_eqb number seat (λ same. differs (sym same))));
       seats = ap seats_in f ∙ seats_and_write passed_old (Seat number) piece;
+      left = keeps_written number piece passed_old passed_new f;
       log = ap logged_in f ∙ log_and_write passed_old (Seat number) piece;
     }

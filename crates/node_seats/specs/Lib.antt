@@ -1,7 +1,9 @@
 pub mod Lines
 pub mod Tokens
 pub mod Passing
+pub mod Others
 pub mod Writing
 pub mod Guesting
 pub mod Seating
+pub mod Telling
 pub mod Coming

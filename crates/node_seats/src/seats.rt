@@ -1,10 +1,12 @@
-ghost use Rattle.std.specs.Prelude.{◌≡◌, ◌≢◌, ◌++◌, ◌<◌, ℕ, [], true, length, IfOk, option_map, Some, None};
+ghost use Rattle.std.specs.Prelude.{◌≡◌, ◌≢◌, ◌++◌, ◌∷◌, ◌<◌, ℕ, List, [], true, length, IfOk, option_map, Some, None};
 ghost use Rattle.std.specs.Int.{bit_at};
-ghost use Rattle.node_wires.specs.declared.line.Line.TheVariants.{Guest as GuestAt};
-ghost use Rattle.node_wires.specs.Passages.{came_over, seats_in, logged_in};
-ghost use Rattle.node_seats.specs.Passing.{Passed, passed_by};
+ghost use Rattle.node_wires.specs.declared.line.Line.TheVariants.{Guest as GuestAt, Seat as SeatOf};
+ghost use Rattle.node_wires.specs.Passages.{Passage, Wrote, came_over, seats_in, logged_in};
+ghost use Rattle.node_seats.specs.Passing.{Passed, TakesNobody, passed_by};
 ghost use Rattle.node_seats.specs.Guesting.{IsToldOf, Passes};
-ghost use Rattle.node_seats.specs.Seating.{Follows, Changes, bit_of};
+ghost use Rattle.node_seats.specs.Others.{KeepsOthers};
+ghost use Rattle.node_seats.specs.Seating.{Follows, Changes, bit_of, waits_at};
+ghost use Rattle.node_seats.specs.Telling.{lines_of, AreSaid, Loses};
 ghost use Rattle.node_seats.specs.Coming.{passed_in, tokens_in};
 
 use crate::guest::Found;
@@ -13,8 +15,8 @@ use crate::limits::BACKLOG;
 use crate::seat::Seat;
 use crate::seat_notice::SeatNotice;
 use crate::token_digest::TokenDigest;
-use node_wires::Wire;
 use node_wires::limits::GUESTS;
+use node_wires::{Line, Passages, Wire};
 use std::alloc::{AllocError, Global};
 
 /// The seats of a node.
@@ -29,10 +31,15 @@ pub struct Seats {
     /// The seat that is looked at next, or behind all seats the place of a guest, so that none is passed over while others
     /// send much.
     turn: u8,
+    /// The lines that were told, for clauses alone.
+    told: Passages,
 }
 
 /// So many seats, where nobody sits.
-fn empty_seats(alloc: Global, count: u8) -> Result<Vec<Seat>, AllocError> {
+#[tactic(auto, using(crate::proofs::Seating::one_empty))]
+fn empty_seats(alloc: Global, count: u8) -> Result<Vec<Seat>, AllocError>
+    ensures { IfOk result (λ seats. (seat : ℕ) → waits_at seats.items seat ≡ []) }
+{
     let mut seats = Vec::with_capacity(alloc, count as usize)?;
     for _ in 0..count {
         seats.push(Seat::new(alloc))?;
@@ -87,12 +94,13 @@ fn hear_guest<W: Wire>(
 }
 
 impl Seats {
-    ghost use Rattle.node_seats.specs.Seating.{waits_at, sits_at, Tells, Flushes};
+    ghost use Rattle.node_seats.specs.Seating.{sits_at, Tells, Flushes};
     ghost use Rattle.node_seats.specs.declared.limits.TheConstants.{BACKLOG as MOST};
     ghost use Rattle.node_seats.specs.Coming.{tokens_of, passed_of, Comes};
 
     /// So many seats, where nobody sits. With tokens, of each seat by its number, a seat takes nobody but who shows its own,
     /// and one for which there is none takes nobody.
+    #[tactic(auto, using(crate::proofs::Telling::said_first))]
     pub fn new(
         alloc: Global,
         count: u8,
@@ -100,6 +108,8 @@ impl Seats {
     ) -> Result<Seats, AllocError>
         ensures tokens { IfOk result (λ seats. tokens_of seats ≡ option_map (λ t. t.items) tokens) }
         ensures passed { IfOk result (λ seats. passed_of seats ≡ []) }
+        ensures told { IfOk result (λ seats. lines_of seats ≡ []) }
+        ensures said { IfOk result (λ seats. AreSaid [] [] seats.seats.items) }
     {
         let seats = empty_seats(alloc, count)?;
         let guests = no_guests(alloc, tokens)?;
@@ -109,6 +119,7 @@ impl Seats {
             seats,
             guests,
             turn: 0,
+            told: Passages::new(),
         })
     }
 
@@ -166,6 +177,7 @@ impl Seats {
     fn take_turn(&mut self) -> u8
         ensures seats { self.new.seats ≡ self.old.seats }
         ensures guests { self.new.guests ≡ self.old.guests }
+        ensures told { self.new.told ≡ self.old.told }
     {
         let at = self.turn;
         self.turn = if at.saturating_add(1) < self.looks() {
@@ -195,20 +207,22 @@ impl Seats {
     ///
     /// With tokens who was taken in was a guest who showed the token of that seat, and nothing else had come of him; who sat
     /// there is told to be gone before. Nothing that came of a guest is told.
-    #[tactic(auto, using(crate::proofs::Coming::plain_passed, crate::proofs::Coming::seats_come, crate::proofs::Coming::log_stays))]
+    #[tactic(auto, using(crate::proofs::Coming::plain_passed, crate::proofs::Coming::seats_come, crate::proofs::Coming::log_stays, crate::proofs::Others::keeps_coming, crate::proofs::Telling::said_coming))]
     pub fn next<W: Wire>(&mut self, wire: &mut W, now: u64) -> Option<SeatNotice>
         ensures comes { Comes result self.old self.new (W.passed wire.old) (W.passed wire.new) }
         ensures plain { tokens_of self.old ≡ None → Passed result (W.passed wire.old) (W.passed wire.new) }
         ensures seats { seats_in (W.passed wire.new) ≡ seats_in (W.passed wire.old) ++ seats_in (passed_by result) }
         ensures log { logged_in (W.passed wire.new) ≡ logged_in (W.passed wire.old) }
+        ensures others { KeepsOthers (W.passed wire.old) (W.passed wire.new) }
+        ensures said { AreSaid (W.passed wire.old) (lines_of self.old) self.old.seats.items → AreSaid (W.passed wire.new) (lines_of self.old) self.new.seats.items }
     {
         self.next_in_turn(wire, now)
     }
 
-    /// Puts a line behind those that wait for a seat. Nothing waits for one where nobody sits. False where he is to be let
-    /// go of: too much waits for him already, or there is no memory.
+    /// Puts a line behind those that wait for a seat, as `tell` does.
     #[tactic(auto, using(crate::proofs::Seating::waits_here, crate::proofs::Seating::waits_elsewhere, crate::proofs::Seating::sits_alike))]
-    pub fn tell(&mut self, seat: u8, line: &[u8]) -> bool
+    fn keep(&mut self, seat: u8, line: &[u8]) -> bool
+        ensures told { self.new.told ≡ self.old.told }
         ensures tells { Tells seat line.now result self.old.seats.items self.new.seats.items }
         ensures bound { result ≡ true → sits_at self.old.seats.items seat ≡ true → length (waits_at self.old.seats.items seat) < MOST }
         ensures sits { (seat : ℕ) → sits_at self.new.seats.items seat ≡ sits_at self.old.seats.items seat }
@@ -224,6 +238,20 @@ impl Seats {
         }
     }
 
+    /// Tells a line to a seat: it waits behind the others. Nothing waits for a seat where nobody sits. False where he is to
+    /// be let go of: too much waits for him already, or there is no memory.
+    #[tactic(auto, using(crate::proofs::Telling::said_telling))]
+    pub fn tell(&mut self, seat: u8, line: &[u8]) -> bool
+        ensures told { lines_of self.new ≡ lines_of self.old ++ Wrote (SeatOf seat) line.now ∷ [] }
+        ensures tells { Tells seat line.now result self.old.seats.items self.new.seats.items }
+        ensures bound { result ≡ true → sits_at self.old.seats.items seat ≡ true → length (waits_at self.old.seats.items seat) < MOST }
+        ensures sits { (seat : ℕ) → sits_at self.new.seats.items seat ≡ sits_at self.old.seats.items seat }
+        ensures said { (passed : List Passage) → AreSaid passed (lines_of self.old) self.old.seats.items → AreSaid passed (lines_of self.new) self.new.seats.items }
+    {
+        self.told.wrote(Line::Seat(seat), line);
+        self.keep(seat, line)
+    }
+
     /// How many bytes wait for a seat; 0 where nobody sits.
     pub fn backlog(&self, seat: u8) -> usize
         ensures { result ≡ length (waits_at self.now.seats.items seat) }
@@ -235,8 +263,22 @@ impl Seats {
     }
 
     /// Lets go of who sits at a seat, if anybody does.
-    #[tactic(auto, using(crate::proofs::Lists::nothing_more, crate::proofs::Lists::nothing_passed))]
+    #[tactic(auto, using(crate::proofs::Telling::said_leaving))]
     pub fn hang_up<W: Wire>(&mut self, wire: &mut W, seat: u8) -> Option<SeatNotice>
+        ensures passed { W.passed wire.new ≡ W.passed wire.old }
+        ensures told { lines_of self.new ≡ lines_of self.old }
+        ensures waits { Follows result self.old.seats.items self.new.seats.items }
+        ensures sits { Changes result self.old.seats.items self.new.seats.items }
+        ensures said { AreSaid (W.passed wire.old) (lines_of self.old) self.old.seats.items → AreSaid (W.passed wire.new) (lines_of self.old) self.new.seats.items }
+    {
+        self.let_go(wire, seat)
+    }
+
+    /// Lets go of him, as `hang_up` does.
+    #[tactic(auto, using(crate::proofs::Lists::nothing_more, crate::proofs::Lists::nothing_passed))]
+    fn let_go<W: Wire>(&mut self, wire: &mut W, seat: u8) -> Option<SeatNotice>
+        ensures nobody { TakesNobody result }
+        ensures told { self.new.told ≡ self.old.told }
         ensures passed { W.passed wire.new ≡ W.passed wire.old }
         ensures waits { Follows result self.old.seats.items self.new.seats.items }
         ensures sits { Changes result self.old.seats.items self.new.seats.items }
@@ -256,11 +298,16 @@ impl Seats {
 
     /// Writes what waits for a seat. It answers whether its connection ended, where somebody sits there: then he is let go
     /// of.
+    #[tactic(auto, using(crate::proofs::Others::keeps_same))]
     fn flush_one<W: Wire>(&mut self, wire: &mut W, number: u8) -> Option<SeatNotice>
         ensures said { Flushes result self.old.seats.items self.new.seats.items (W.passed wire.old) (W.passed wire.new) }
         ensures sits { Changes result self.old.seats.items self.new.seats.items }
         ensures seats { seats_in (W.passed wire.new) ≡ seats_in (W.passed wire.old) }
         ensures log { logged_in (W.passed wire.new) ≡ logged_in (W.passed wire.old) }
+        ensures nobody { TakesNobody result }
+        ensures loses { Loses result self.old.seats.items self.new.seats.items (W.passed wire.old) (W.passed wire.new) }
+        ensures others { KeepsOthers (W.passed wire.old) (W.passed wire.new) }
+        ensures told { self.new.told ≡ self.old.told }
     {
         let seat = self.seats.get_mut(number as usize)?;
         if seat.sits && !seat.flush(wire, number) {
@@ -271,11 +318,30 @@ impl Seats {
 
     /// Writes what waits for all seats. It answers a seat whose connection ended, if one did: that one is let go of, and
     /// the others behind it are written to by the next call.
+    #[tactic(auto, using(crate::proofs::Telling::said_flushed))]
     pub fn flush<W: Wire>(&mut self, wire: &mut W) -> Option<SeatNotice>
+        ensures flushes { Flushes result self.old.seats.items self.new.seats.items (W.passed wire.old) (W.passed wire.new) }
+        ensures sits { Changes result self.old.seats.items self.new.seats.items }
+        ensures seats { seats_in (W.passed wire.new) ≡ seats_in (W.passed wire.old) }
+        ensures log { logged_in (W.passed wire.new) ≡ logged_in (W.passed wire.old) }
+        ensures others { KeepsOthers (W.passed wire.old) (W.passed wire.new) }
+        ensures told { lines_of self.new ≡ lines_of self.old }
+        ensures said { AreSaid (W.passed wire.old) (lines_of self.old) self.old.seats.items → AreSaid (W.passed wire.new) (lines_of self.old) self.new.seats.items }
+    {
+        self.flush_all(wire)
+    }
+
+    /// Writes what waits for all seats, as `flush` does.
+    #[tactic(auto, using(crate::proofs::Others::keeps_same, crate::proofs::Others::keeps_on))]
+    fn flush_all<W: Wire>(&mut self, wire: &mut W) -> Option<SeatNotice>
         ensures said { Flushes result self.old.seats.items self.new.seats.items (W.passed wire.old) (W.passed wire.new) }
         ensures sits { Changes result self.old.seats.items self.new.seats.items }
         ensures seats { seats_in (W.passed wire.new) ≡ seats_in (W.passed wire.old) }
         ensures log { logged_in (W.passed wire.new) ≡ logged_in (W.passed wire.old) }
+        ensures nobody { TakesNobody result }
+        ensures loses { Loses result self.old.seats.items self.new.seats.items (W.passed wire.old) (W.passed wire.new) }
+        ensures others { KeepsOthers (W.passed wire.old) (W.passed wire.new) }
+        ensures told { self.new.told ≡ self.old.told }
     {
         for number in 0..self.count {
             if let Some(notice) = self.flush_one(wire, number) {
@@ -286,7 +352,7 @@ impl Seats {
     }
 
     /// Whether somebody sits at a seat.
-    fn sits(&self, number: usize) -> bool
+    pub fn sits(&self, number: usize) -> bool
         ensures { result ≡ sits_at self.now.seats.items number }
     {
         match self.seats.get(number) {

@@ -4,7 +4,7 @@ use Rattle.node_peers.proofs.peers.Peers.hear_each.Goals as goal
 
 pub loop-init : goal.loop-init
 loop-init g c =
-    stayed c.args.self.now.lines c.args.self.now.lines (g.W.Wire.passed c.args.wire.now) (g.W.Wire.passed c.args.wire.now) (refl, refl) refl
+    stayed c.args.self.now.lines c.args.self.now.lines (g.W.Wire.passed c.args.wire.now) (g.W.Wire.passed c.args.wire.now) (refl, (refl, (refl, refl))) refl
 
 pub returns-then-not-hear_next : goal.returns-then-not-hear_next
 returns-then-not-hear_next g c =

@@ -4,7 +4,7 @@ use Rattle.node_peers.proofs.peers.Peers.write_all.Goals as goal
 
 pub loop-place-init : goal.loop-place-init
 loop-place-init g c =
-    stayed c.args.self.now.lines c.args.self.now.lines (g.W.Wire.passed c.args.wire.now) (g.W.Wire.passed c.args.wire.now) (refl, refl) refl
+    stayed c.args.self.now.lines c.args.self.now.lines (g.W.Wire.passed c.args.wire.now) (g.W.Wire.passed c.args.wire.now) (refl, (refl, (refl, refl))) refl
 
 pub loop-place-preserved : goal.loop-place-preserved
 loop-place-preserved g c =

@@ -1,7 +1,8 @@
-use Rattle.std.specs.Prelude.{Some}
-use Rattle.node_seats.proofs.Coming.{changes_on}
+use Rattle.node_seats.specs.Telling.{lines_of}
+use Rattle.node_seats.proofs.Telling.{said_flushed}
 use Rattle.node_seats.proofs.seats.Seats.flush.Goals as goal
 
-pub returns-in-Some-clause-sits : goal.returns-in-Some-clause-sits
-returns-in-Some-clause-sits g c =
-    changes_on (Some c.in-Some.notice) c.args.self.now.seats.items c.loop-number.self.seats.items c.flush_one.new.self.seats.items c.loop-number.invariant.sits c.in-Some.ensures.sits
+pub returns-clause-said : goal.returns-clause-said
+returns-clause-said g c =
+    said_flushed c.flush_all.result (lines_of c.args.self.now) (g.W.Wire.passed c.args.wire.now) (g.W.Wire.passed c.flush_all.new.wire) c.args.self.now.seats.items c.flush_all.new.self.seats.items c.flush_all.ensures.nobody
+    c.flush_all.ensures.said c.flush_all.ensures.sits c.flush_all.ensures.loses
