@@ -36,11 +36,24 @@ def edits(folder):
     return sorted(folder.glob("*.edit"))
 
 
+def struck(edit):
+    """The file that strikes out the clause for which an edit is refused, beside that edit."""
+    return edit.with_suffix(".struck")
+
+
+def text_of(file):
+    """The text of an edit; of a file that strikes out a clause, behind that of its edit."""
+    text = file.read_text(encoding="utf-8", errors="replace")
+    return text if file.suffix == ".edit" else f"{text_of(file.with_suffix('.edit'))}\n{text}"
+
+
 def stale(edit):
     """Why an edit can't be applied to its crate, none if it can: as the kit reads it, a pair of lines after another."""
     crate = TOP / "crates" / (edit.parent.parent.name if edit.parent.name == "must-fail" else edit.parent.name)
     texts, path, old, pairs = {}, None, None, 0
-    for line in edit.read_text(encoding="utf-8", errors="replace").split("\n"):
+    if not edit.with_suffix(".edit").is_file():
+        return "no edit of this name is beside it"
+    for line in text_of(edit).split("\n"):
         if line.startswith("file: "):
             path = line[len("file: ") :].strip()
             if not path.startswith(("src/", "specs/", "proofs/")) or not (crate / path).is_file():
@@ -62,8 +75,8 @@ def stale(edit):
 def faults(folder):
     """The files in a folder of a crate's refused edits that can't be applied or are no edits, each with why."""
     for file in sorted(folder.iterdir()) if folder.is_dir() else []:
-        is_edit = file.is_file() and re.fullmatch(r"[\w-][\w.-]*\.edit", file.name, re.A)
-        why = stale(file) if is_edit else "no name of an edit: letters, digits, _, - and ., and .edit at the end"
+        is_edit = file.is_file() and re.fullmatch(r"[\w-][\w.-]*\.(edit|struck)", file.name, re.A)
+        why = stale(file) if is_edit else "no name of an edit: letters, digits, _, - and ., and .edit or .struck at the end"
         if why:
             yield file.relative_to(TOP), why
 

@@ -1,13 +1,14 @@
 -- Definitions on values, each beside a near miss.
-use Rattle.std.proofs.Common.{◌≡◌, ℕ, true, false, [], ◌∷◌, None, inl, inr, refl}
+use Rattle.std.proofs.Common.{◌≡◌, ℕ, Bool, true, false, List, [], ◌∷◌, ◌++◌, None, inl, inr, refl, ap, ◌∙◌}
 use Rattle.protocol_model.specs.Dealers.{Seat, Log}
 use Rattle.node_wires.specs.declared.line.Line.TheVariants as line
-use Rattle.node_wires.specs.Passages.{Began, Came as PieceCame}
+use Rattle.node_wires.specs.Passages.{Began, Came as PieceCame, Wrote}
 use Rattle.dealer_world.specs.Records.{Delivered, Came, Connected}
 use Rattle.stations.specs.Deeds.{Deed}
 use Rattle.node_service.specs.Parts.{IsPartOf}
 use Rattle.node_service.specs.Showing.{shown_log, LogGains}
-use Rattle.node_service.specs.Handed.{ToPeer, ToSeat, handed_by}
+use Rattle.node_service.specs.Logging.{HasNoStart, StartedOnce}
+use Rattle.node_service.specs.Handed.{frames_by, lines_by}
 use Rattle.node_service.specs.Arriving.{OfSeat, OfPeer, incoming_in, came_by}
 use Rattle.node_service.specs.Sessions.{Without, With, Astray, session_of, IsBeginning, AreGiven}
 use Rattle.node_service.specs.Fitting.{FitsAt}
@@ -43,13 +44,17 @@ no_line_of_a_seat : shown_log (later ∷ first ∷ []) ≡ 1 ∷ 5 ∷ 2 ∷ 3 �
 unfolding first later
 no_line_of_a_seat is = cc
 
--- frames go to the peers before lines go to the seats
-handed_on : handed_by (later ∷ first ∷ []) ≡ ToPeer 2 (6 ∷ []) ∷ ToSeat 0 (5 ∷ []) ∷ []
+-- frames go to the peers, and lines to the seats
+handed_on : frames_by (later ∷ first ∷ []) ≡ Wrote (line.Peer 2) (6 ∷ []) ∷ []
 unfolding first later
 handed_on = refl
 
+told_on : lines_by (later ∷ first ∷ []) ≡ Wrote (line.Seat 0) (5 ∷ []) ∷ []
+unfolding first later
+told_on = refl
+
 -- a frame isn't handed on for another node
-for_its_own_node : handed_by (later ∷ first ∷ []) ≡ ToPeer 1 (6 ∷ []) ∷ ToSeat 0 (5 ∷ []) ∷ [] → ⊥
+for_its_own_node : frames_by (later ∷ first ∷ []) ≡ Wrote (line.Peer 1) (6 ∷ []) ∷ [] → ⊥
 unfolding first later
 for_its_own_node is = cc
 
@@ -169,3 +174,33 @@ told_a_second_later = refl
 -- and behind that note nobody is to be told, however late it is
 none_told_again : due_of (told_at 1005000) 9000000 ≡ 0
 none_told_again = refl
+
+-- ---- starts
+
+abbrev begun : Deed
+begun = record { arrived = []; made = record { frames = []; texts = []; began = true } }
+
+abbrev quiet : Deed
+quiet = record { arrived = []; made = record { frames = []; texts = []; began = false } }
+
+abbrev newest_began : List Deed → Bool
+newest_began [] = false
+newest_began (deed ∷ before) = deed.made.began
+
+started_once : StartedOnce (quiet ∷ begun ∷ [])
+started_once = record { later = quiet ∷ []; first = begun; deeds_are = refl; begins = refl; no_other = (refl, tt) }
+
+-- not twice, and not behind other deeds
+not_started_twice : StartedOnce (begun ∷ begun ∷ []) → ⊥
+not_started_twice once = by once.later once.first once.deeds_are once.no_other
+  where
+    by : (later : List Deed) (first : Deed) → begun ∷ begun ∷ [] ≡ later ++ first ∷ [] → HasNoStart later → ⊥
+    by [] first is none = cc
+    by (deed ∷ later) first is none = let never : true ≡ false = ap newest_began is ∙ none.0 in absurd (cc)
+
+not_started_behind : StartedOnce (begun ∷ quiet ∷ []) → ⊥
+not_started_behind once = by once.later once.first once.deeds_are once.no_other
+  where
+    by : (later : List Deed) (first : Deed) → begun ∷ quiet ∷ [] ≡ later ++ first ∷ [] → HasNoStart later → ⊥
+    by [] first is none = cc
+    by (deed ∷ later) first is none = let never : true ≡ false = ap newest_began is ∙ none.0 in absurd (cc)

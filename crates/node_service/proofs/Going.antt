@@ -9,30 +9,37 @@ use Rattle.stations.specs.Deeds.{Deed}
 use Rattle.stations.specs.Stations.{Look}
 use Rattle.node_service.specs.Parts.{IsPartOf}
 use Rattle.node_service.specs.Showing.{shown_log, LogGains}
-use Rattle.node_service.specs.Handed.{Handover, handed_by}
-use Rattle.node_service.specs.Arriving.{Incoming, seats_of, frames_of, came_by}
+use Rattle.node_service.specs.Handed.{frames_by, lines_by}
+use Rattle.node_service.specs.Arriving.{Incoming, seats_of, peers_of, came_by}
 use Rattle.node_service.specs.Served.{Served}
-use Rattle.node_service.specs.Going.{GoesOn, Takes}
+use Rattle.node_service.specs.Going.{GoesOn, Does, GoesOnToLife, GoesOnWithoutLife, Takes}
 use Rattle.node_service.specs.Sittings.{Loosens}
 use Rattle.node_service.specs.Fitting.{FitsFor, Fits, FitsBut}
 use Rattle.node_service.proofs.Fitting.{fits_moved}
 use Rattle.node_service.specs.Company.{Hears}
+use Rattle.node_service.specs.Asking.{GivesOnly, IsReply}
+use Rattle.node_service.specs.Crossing.{Carries, HasNoLife, EndsAtLife}
+use Rattle.node_service.specs.Taking.{StopsAtLife, TakesNext}
+use Rattle.node_service.specs.declared.taking.Taken.{Taken}
+use Rattle.node_service.specs.declared.taking.Taken.TheVariants as kind
+use Rattle.node_service.proofs.Asking.{gives_on, none_gives_on}
+use Rattle.node_service.proofs.Crossing.{heard_both, heard_further, no_life_both, ends_both, no_life_ends}
 use Rattle.node_service.proofs.Hearing.{hears_none, hears_on}
 use Rattle.node_service.proofs.Parts.{both, left_out}
-use Rattle.node_service.proofs.Showing.{shown_by_both, came_by_both, handed_by_both, seats_of_more, frames_of_more, nothing_shown, shown_on}
+use Rattle.node_service.proofs.Showing.{shown_by_both, came_by_both, frames_by_both, lines_by_both, seats_of_more, peers_of_more, nothing_shown, shown_on}
 
 -- where nothing was taken it fits
-but_nothing : {N : Type 0} (served : Served N) → FitsBut [] served → Fits served
+pub but_nothing : {N : Type 0} (served : Served N) → FitsBut [] served → Fits served
 but_nothing served but = subst (λ (m : List Passage). FitsFor served.look.deeds served.sittings m) (sym (but.1.0 ∙ append-nil but.0)) but.1.1
 
-all_but_nothing : {N : Type 0} (served : Served N) → Fits served → FitsBut [] served
+pub all_but_nothing : {N : Type 0} (served : Served N) → Fits served → FitsBut [] served
 all_but_nothing served fits = (seats_in served.passed, (sym (append-nil (seats_in served.passed)), fits))
 
 -- and where none of it was of seats
-but_none_of_seats : {N : Type 0} (taken : List Incoming) (served : Served N) → seats_of taken ≡ [] → FitsBut taken served → FitsBut [] served
+pub but_none_of_seats : {N : Type 0} (taken : List Incoming) (served : Served N) → seats_of taken ≡ [] → FitsBut taken served → FitsBut [] served
 but_none_of_seats taken served none but = (but.0, (but.1.0 ∙ ap (λ (m : List Passage). but.0 ++ m) none, but.1.1))
 
-fits_kept : {N : Type 0} (old new : Served N) → new.look ≡ old.look → seats_in new.passed ≡ seats_in old.passed → Loosens old.sittings new.sittings → Fits old → Fits new
+pub fits_kept : {N : Type 0} (old new : Served N) → new.look ≡ old.look → seats_in new.passed ≡ seats_in old.passed → Loosens old.sittings new.sittings → Fits old → Fits new
 fits_kept {N} old new look seats loosened fits =
     subst (λ (l : Look N). FitsFor l.deeds new.sittings (seats_in new.passed)) (sym look)
     (subst (λ (m : List Passage). FitsFor old.look.deeds new.sittings m) (sym seats) (fits_moved old.look.deeds old.sittings new.sittings (seats_in old.passed) loosened fits))
@@ -50,9 +57,9 @@ taken_fits {N} taken old new look seats loosened fits = (
 
 module _ {D : Type 0} {g : Ghosts D} where
   -- where nothing is done
-  pub still : (old new : Served (Node D)) → new.look ≡ old.look → new.log_failed ≡ old.log_failed → new.handed ≡ old.handed → new.heard ≡ old.heard → logged_in new.passed ≡ logged_in old.passed → seats_in new.passed ≡ seats_in old.passed
-      → Loosens old.sittings new.sittings → Hears old.own new.own old.lines new.lines → GoesOn g [] old new
-  still old new look log_failed handed heard log seats loosened hears = record {
+  unfoldable pub still : (old new : Served (Node D)) → new.look ≡ old.look → new.log_failed ≡ old.log_failed → new.sent ≡ old.sent → new.told ≡ old.told → new.heard ≡ old.heard → logged_in new.passed ≡ logged_in old.passed → seats_in new.passed ≡ seats_in old.passed
+      → Loosens old.sittings new.sittings → Hears old.own new.own old.lines new.lines → GivesOnly (IsReply new.look.number) old.askers new.askers → (Carries old → Carries new) → GoesOn g [] old new
+  still old new look log_failed sent told heard log seats loosened hears asked carried = record {
     config = ap (λ (l : Look (Node D)). l.config) look;
     number = ap (λ (l : Look (Node D)). l.number) look;
     begun = ap (λ (l : Look (Node D)). begun_of g l.node) look;
@@ -60,17 +67,21 @@ module _ {D : Type 0} {g : Ghosts D} where
     deeds = ap (λ (l : Look (Node D)). l.deeds) look;
     log = subst (λ (b : Bool). LogGains old.log_failed b [] (logged_in old.passed) (logged_in new.passed)) (sym log_failed)
         (subst (λ (m : List ℕ). LogGains old.log_failed old.log_failed [] (logged_in old.passed) m) (sym log) (nothing_shown old.log_failed (logged_in old.passed)));
-    handed = handed ∙ sym (append-nil old.handed);
+    sent = sent ∙ sym (append-nil old.sent);
+    told = told ∙ sym (append-nil old.told);
     gained = [];
     seats = seats ∙ sym (append-nil (seats_in old.passed));
     heard = heard ∙ sym (append-nil old.heard);
+    were = tt;
     came = tt;
     given = λ but. fits_kept old new look seats loosened (but_nothing old but);
     hears = hears;
+    asked = asked;
+    carried = carried;
   }
 
   -- one after the other
-  pub on : {taken : List Incoming} {one two three : Served (Node D)} → GoesOn g taken one two → GoesOn g [] two three → GoesOn g taken one three
+  unfoldable pub on : {taken : List Incoming} {one two three : Served (Node D)} → GoesOn g taken one two → GoesOn g [] two three → GoesOn g taken one three
   on {taken} {one} {two} {three} first then_on = record {
     config = then_on.config ∙ first.config;
     number = then_on.number ∙ first.number;
@@ -80,22 +91,27 @@ module _ {D : Type 0} {g : Ghosts D} where
     log = subst (λ (m : List ℕ). LogGains one.log_failed three.log_failed m (logged_in one.passed) (logged_in three.passed)) (sym (shown_by_both then_on.since first.since))
         (shown_on one.log_failed two.log_failed three.log_failed (shown_log first.since) (shown_log then_on.since) (logged_in one.passed) (logged_in two.passed) (logged_in three.passed)
         first.log then_on.log);
-    handed = subst (λ (m : List Handover). three.handed ≡ one.handed ++ m) (sym (handed_by_both then_on.since first.since))
-        (then_on.handed ∙ (ap (λ (m : List Handover). m ++ handed_by then_on.since) first.handed ∙ append_assoc one.handed (handed_by first.since) (handed_by then_on.since)));
+    sent = subst (λ (m : List Passage). three.sent ≡ one.sent ++ m) (sym (frames_by_both then_on.since first.since))
+        (then_on.sent ∙ (ap (λ (m : List Passage). m ++ frames_by then_on.since) first.sent ∙ append_assoc one.sent (frames_by first.since) (frames_by then_on.since)));
+    told = subst (λ (m : List Passage). three.told ≡ one.told ++ m) (sym (lines_by_both then_on.since first.since))
+        (then_on.told ∙ (ap (λ (m : List Passage). m ++ lines_by then_on.since) first.told ∙ append_assoc one.told (lines_by first.since) (lines_by then_on.since)));
     gained = first.gained ++ then_on.gained;
     seats = subst (λ (m : List Passage). seats_in three.passed ≡ seats_in one.passed ++ m) (sym (seats_of_more first.gained then_on.gained))
         (then_on.seats ∙ (ap (λ (m : List Passage). m ++ seats_of then_on.gained) first.seats ∙ append_assoc (seats_in one.passed) (seats_of first.gained) (seats_of then_on.gained)));
-    heard = subst (λ (m : List Handover). three.heard ≡ one.heard ++ m) (sym (frames_of_more first.gained then_on.gained))
-        (then_on.heard ∙ (ap (λ (m : List Handover). m ++ frames_of then_on.gained) first.heard ∙ append_assoc one.heard (frames_of first.gained) (frames_of then_on.gained)));
+    heard = subst (λ (m : List Passage). three.heard ≡ one.heard ++ m) (sym (peers_of_more first.gained then_on.gained))
+        (then_on.heard ∙ (ap (λ (m : List Passage). m ++ peers_of then_on.gained) first.heard ∙ append_assoc one.heard (peers_of first.gained) (peers_of then_on.gained)));
     came = subst (λ (m : List Incoming). IsPartOf m (taken ++ (first.gained ++ then_on.gained))) (sym (came_by_both then_on.since first.since))
         (subst (λ (m : List Incoming). IsPartOf (came_by first.since ++ came_by then_on.since) m) (append_assoc taken first.gained then_on.gained)
         (both (came_by first.since) (came_by then_on.since) (taken ++ first.gained) then_on.gained first.came then_on.came));
+    were = heard_both three.own three.lines first.gained then_on.gained (heard_further two.own three.own two.lines three.lines first.gained then_on.hears first.were) then_on.were;
     given = λ but. then_on.given (all_but_nothing two (first.given but));
     hears = hears_on one.own two.own three.own one.lines two.lines three.lines first.hears then_on.hears;
+    asked = gives_on two.look.number three.look.number one.askers two.askers three.askers then_on.number first.asked then_on.asked;
+    carried = λ is. then_on.carried (first.carried is);
   }
 
   -- what was taken comes to the node then
-  pub taken_up : {taken : List Incoming} {one two three : Served (Node D)} → Takes g taken one two → GoesOn g taken two three → GoesOn g [] one three
+  unfoldable pub taken_up : {taken : List Incoming} {one two three : Served (Node D)} → Takes g taken one two → GoesOn g taken two three → GoesOn g [] one three
   taken_up {taken} {one} {two} {three} takes then_on = record {
     config = then_on.config ∙ ap (λ (l : Look (Node D)). l.config) takes.look;
     number = then_on.number ∙ ap (λ (l : Look (Node D)). l.number) takes.look;
@@ -104,19 +120,23 @@ module _ {D : Type 0} {g : Ghosts D} where
     deeds = then_on.deeds ∙ ap (λ (l : Look (Node D)). then_on.since ++ l.deeds) takes.look;
     log = subst (λ (b : Bool). LogGains b three.log_failed (shown_log then_on.since) (logged_in one.passed) (logged_in three.passed)) takes.log_failed
         (subst (λ (m : List ℕ). LogGains two.log_failed three.log_failed (shown_log then_on.since) m (logged_in three.passed)) takes.log then_on.log);
-    handed = then_on.handed ∙ ap (λ (m : List Handover). m ++ handed_by then_on.since) takes.handed;
+    sent = then_on.sent ∙ ap (λ (m : List Passage). m ++ frames_by then_on.since) takes.sent;
+    told = then_on.told ∙ ap (λ (m : List Passage). m ++ lines_by then_on.since) takes.told;
     gained = taken ++ then_on.gained;
     seats = subst (λ (m : List Passage). seats_in three.passed ≡ seats_in one.passed ++ m) (sym (seats_of_more taken then_on.gained))
         (then_on.seats ∙ (ap (λ (m : List Passage). m ++ seats_of then_on.gained) takes.seats ∙ append_assoc (seats_in one.passed) (seats_of taken) (seats_of then_on.gained)));
-    heard = subst (λ (m : List Handover). three.heard ≡ one.heard ++ m) (sym (frames_of_more taken then_on.gained))
-        (then_on.heard ∙ (ap (λ (m : List Handover). m ++ frames_of then_on.gained) takes.heard ∙ append_assoc one.heard (frames_of taken) (frames_of then_on.gained)));
+    heard = subst (λ (m : List Passage). three.heard ≡ one.heard ++ m) (sym (peers_of_more taken then_on.gained))
+        (then_on.heard ∙ (ap (λ (m : List Passage). m ++ peers_of then_on.gained) takes.heard ∙ append_assoc one.heard (peers_of taken) (peers_of then_on.gained)));
+    were = heard_both three.own three.lines taken then_on.gained (heard_further two.own three.own two.lines three.lines taken then_on.hears takes.were) then_on.were;
     came = then_on.came;
     given = λ but. then_on.given (taken_fits taken one two takes.look takes.seats takes.sittings (but_nothing one but));
     hears = hears_on one.own two.own three.own one.lines two.lines three.lines takes.hears then_on.hears;
+    asked = none_gives_on three.look.number one.askers two.askers three.askers takes.asked then_on.asked;
+    carried = λ is. then_on.carried (takes.carried is);
   }
 
   -- and may be left out, where nothing of it is of seats
-  pub let_go : {taken : List Incoming} {old new : Served (Node D)} → seats_of taken ≡ [] → GoesOn g [] old new → GoesOn g taken old new
+  unfoldable pub let_go : {taken : List Incoming} {old new : Served (Node D)} → seats_of taken ≡ [] → GoesOn g [] old new → GoesOn g taken old new
   let_go {taken} {old} none goes = record {
     config = goes.config;
     number = goes.number;
@@ -124,15 +144,82 @@ module _ {D : Type 0} {g : Ghosts D} where
     since = goes.since;
     deeds = goes.deeds;
     log = goes.log;
-    handed = goes.handed;
+    sent = goes.sent;
+    told = goes.told;
     gained = goes.gained;
     seats = goes.seats;
     heard = goes.heard;
+    were = goes.were;
     came = left_out (came_by goes.since) taken goes.gained goes.came;
     given = λ but. goes.given (but_none_of_seats taken old none but);
     hears = goes.hears;
+    asked = goes.asked;
+    carried = goes.carried;
   }
+
+  -- nothing happens
+  unfoldable nothing_done : (here : Served (Node D)) → GoesOn g [] here here
+  nothing_done here = still here here refl refl refl refl refl refl refl (λ seat. inl refl) (hears_none here.own here.own here.lines here.lines refl refl) (λ place within. inl refl) (λ is. is)
 
   -- what was taken and isn't given
   pub not_given : {taken : List Incoming} {one two : Served (Node D)} → seats_of taken ≡ [] → Takes g taken one two → GoesOn g [] one two
-  not_given {two = two} none takes = taken_up takes (let_go none (still two two refl refl refl refl refl refl (λ seat. inl refl) (hears_none two.own two.own two.lines two.lines refl refl)))
+  not_given {two = two} none takes = taken_up takes (let_go none (nothing_done two))
+
+  -- ---- where nothing comes meanwhile
+
+  pub does_on : {taken : List Incoming} {one two three : Served (Node D)} → Does g taken one two → Does g [] two three → Does g taken one three
+  unfolding on
+  does_on first then_on = (on first.0 then_on.0, ap (λ (m : List Incoming). m ++ then_on.0.gained) first.1 ∙ then_on.1)
+
+  pub let_go_so : {taken : List Incoming} {old new : Served (Node D)} → seats_of taken ≡ [] → Does g [] old new → Does g taken old new
+  unfolding let_go
+  let_go_so none does = (let_go none does.0, does.1)
+
+  -- ---- lives that are to be kept
+
+  pub without_life : {one two : Served (Node D)} → Does g [] one two → GoesOnWithoutLife g one two
+  without_life does = (does.0, subst (λ (m : List Incoming). HasNoLife (peers_of m)) (sym does.1) tt)
+
+  pub without_on : {one two three : Served (Node D)} → GoesOnWithoutLife g one two → GoesOnWithoutLife g two three → GoesOnWithoutLife g one three
+  unfolding on
+  without_on first then_on =
+      (on first.0 then_on.0, subst HasNoLife (sym (peers_of_more first.0.gained then_on.0.gained)) (no_life_both (peers_of first.0.gained) (peers_of then_on.0.gained) first.1 then_on.1))
+
+  pub to_life : {one two three : Served (Node D)} → GoesOnWithoutLife g one two → GoesOnToLife g two three → GoesOnToLife g one three
+  unfolding on
+  to_life first then_on =
+      (on first.0 then_on.0, subst EndsAtLife (sym (peers_of_more first.0.gained then_on.0.gained)) (ends_both (peers_of first.0.gained) (peers_of then_on.0.gained) first.1 then_on.1))
+
+  pub then_nothing : {one two three : Served (Node D)} → GoesOnToLife g one two → Does g [] two three → GoesOnToLife g one three
+  unfolding on
+  then_nothing first then_on = (
+    on first.0 then_on.0,
+    subst (λ (m : List Incoming). EndsAtLife (peers_of m)) (sym (ap (λ (m : List Incoming). first.0.gained ++ m) then_on.1 ∙ append-nil first.0.gained)) first.1,
+  )
+
+  pub none_ends : {one two : Served (Node D)} → GoesOnWithoutLife g one two → GoesOnToLife g one two
+  none_ends without = (without.0, no_life_ends (peers_of without.0.gained) without.1)
+
+  -- one thing was taken, and given to the node
+  pub next_taken : {taken : List Incoming} {one two three : Served (Node D)} (result : Taken) → Takes g taken one two → Does g taken two three → StopsAtLife result taken → TakesNext g result one three
+  unfolding taken_up
+  next_taken {taken} kind.Nothing takes does stops =
+      (taken_up takes does.0, subst (λ (m : List Incoming). HasNoLife (peers_of m)) (sym (ap (λ (m : List Incoming). taken ++ m) does.1 ∙ append-nil taken)) stops)
+  next_taken {taken} kind.One takes does stops =
+      (taken_up takes does.0, subst (λ (m : List Incoming). HasNoLife (peers_of m)) (sym (ap (λ (m : List Incoming). taken ++ m) does.1 ∙ append-nil taken)) stops)
+  next_taken {taken} kind.Last takes does stops =
+      (taken_up takes does.0, subst (λ (m : List Incoming). EndsAtLife (peers_of m)) (sym (ap (λ (m : List Incoming). taken ++ m) does.1 ∙ append-nil taken)) stops)
+
+  -- and of it nothing was to be given
+  pub not_given_so : {taken : List Incoming} {one two : Served (Node D)} → seats_of taken ≡ [] → peers_of taken ≡ [] → Takes g taken one two → GoesOnWithoutLife g one two
+  unfolding taken_up let_go nothing_done still
+  not_given_so {taken} {two = two} none nobody takes = (
+    taken_up takes (let_go none (nothing_done two)),
+    subst HasNoLife (sym (ap peers_of (append-nil taken) ∙ nobody)) tt,
+  )
+
+  -- nobody was told to be there whose life is to be kept, and then something was taken
+  pub next_behind : (one two three : Served (Node D)) (result : Taken) → GoesOnWithoutLife g one two → TakesNext g result two three → TakesNext g result one three
+  next_behind one two three kind.Nothing first then_on = without_on first then_on
+  next_behind one two three kind.One first then_on = without_on first then_on
+  next_behind one two three kind.Last first then_on = to_life first then_on

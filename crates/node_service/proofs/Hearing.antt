@@ -9,7 +9,8 @@ use Rattle.node_peers.specs.declared.notice.Notice.{Notice}
 use Rattle.node_peers.specs.declared.notice.Notice.TheVariants as notices
 use Rattle.node_peers.specs.declared.peers.Peers.{Peers}
 use Rattle.node_peers.specs.Hearing.{OpenedBy, IsTold, AreTold}
-use Rattle.node_peers.specs.Peering.{own_of, passed_of, Grew, Stays}
+use Rattle.node_peers.specs.Adding.{Adds}
+use Rattle.node_peers.specs.Peering.{own_of, passed_of, Grew, Keeps, Stays}
 use Rattle.node_service.specs.declared.server_notice.ServerNotice.{ServerNotice}
 use Rattle.node_service.specs.Company.{joined_by, joined_in, IsShown, AreShown, Hears, HearsOn}
 
@@ -97,11 +98,17 @@ hears_on own_a own_b own_c a b c one two = record {
 pub heard_on : (one two three : Peers) → HearsOn one two → HearsOn two three → HearsOn one three
 heard_on one two three first then_on = hears_on (own_of one) (own_of two) (own_of three) (passed_of one) (passed_of two) (passed_of three) first then_on
 
+pub heard_keeping : (old new : Peers) → Keeps old new → HearsOn old new
+heard_keeping old new keeps = hears_none (own_of old) (own_of new) (passed_of old) (passed_of new) keeps.0 (ap (λ (p : Passages). p.items) keeps.1)
+
+keeps_still : (old new : Peers) → Stays old new → Keeps old new
+keeps_still old new stays = (stays.0, stays.1.0)
+
 pub heard_still : (old new : Peers) → Stays old new → HearsOn old new
-heard_still old new stays = hears_none (own_of old) (own_of new) (passed_of old) (passed_of new) stays.0 (ap (λ (p : Passages). p.items) stays.1)
+heard_still old new stays = heard_keeping old new (keeps_still old new stays)
 
 pub heard_more : (old new : Peers) (wired_old wired_new : List Passage) → Grew old new wired_old wired_new → HearsOn old new
-heard_more old new wired_old wired_new grew = record { own = grew.0; more = grew.1.more; lines = grew.1.put_down }
+heard_more old new wired_old wired_new grew = record { own = grew.0; more = grew.1.0.more; lines = grew.1.0.put_down }
 
 pub heard_later : (old then_is new : Peers) (wired_old wired_new : List Passage) → Stays old then_is → Grew then_is new wired_old wired_new → HearsOn old new
 heard_later old then_is new wired_old wired_new stays grew =
@@ -109,8 +116,11 @@ heard_later old then_is new wired_old wired_new stays grew =
 
 -- ---- what is to be told of them then
 
+pub shown_keeping : (old new : Peers) (told : List ServerNotice) → Keeps old new → AreShown (own_of old) (passed_of old) told → AreShown (own_of new) (passed_of new) told
+shown_keeping old new told keeps are = shown_on (own_of old) (own_of new) (passed_of old) (passed_of new) told (heard_keeping old new keeps) are
+
 pub shown_still : (old new : Peers) (told : List ServerNotice) → Stays old new → AreShown (own_of old) (passed_of old) told → AreShown (own_of new) (passed_of new) told
-shown_still old new told stays are = shown_on (own_of old) (own_of new) (passed_of old) (passed_of new) told (heard_still old new stays) are
+shown_still old new told stays are = shown_keeping old new told (keeps_still old new stays) are
 
 pub shown_more : (old new : Peers) (wired_old wired_new : List Passage) (told : List ServerNotice) → Grew old new wired_old wired_new → AreShown (own_of old) (passed_of old) told
     → AreShown (own_of new) (passed_of new) told
@@ -122,11 +132,22 @@ pub shown_later : (old then_is new : Peers) (wired_old wired_new : List Passage)
 shown_later old then_is new wired_old wired_new told stays grew are =
     shown_on (own_of old) (own_of new) (passed_of old) (passed_of new) told (heard_later old then_is new wired_old wired_new stays grew) are
 
-one_still : (old new : Peers) (notice : Notice) → Stays old new → IsTold (own_of old) (passed_of old) notice → IsTold (own_of new) (passed_of new) notice
-one_still old new notice stays is =
-    subst (λ (o : Own). IsTold o (passed_of new) notice) (sym stays.0)
-    (subst (λ (p : Passages). IsTold (own_of old) p.items notice) (sym stays.1) is)
+one_keeping : (old new : Peers) (notice : Notice) → Keeps old new → IsTold (own_of old) (passed_of old) notice → IsTold (own_of new) (passed_of new) notice
+one_keeping old new notice keeps is =
+    subst (λ (o : Own). IsTold o (passed_of new) notice) (sym keeps.0)
+    (subst (λ (p : Passages). IsTold (own_of old) p.items notice) (sym keeps.1) is)
 
-pub told_still : (old new : Peers) (notice : Option Notice) → Stays old new → IfSome notice (λ n. IsTold (own_of old) (passed_of old) n) → IfSome notice (λ n. IsTold (own_of new) (passed_of new) n)
-told_still old new None stays is = tt
-told_still old new (Some notice) stays is = one_still old new notice stays is
+pub told_keeping : (old new : Peers) (notice : Option Notice) → Keeps old new → IfSome notice (λ n. IsTold (own_of old) (passed_of old) n) → IfSome notice (λ n. IsTold (own_of new) (passed_of new) n)
+told_keeping old new None keeps is = tt
+told_keeping old new (Some notice) keeps is = one_keeping old new notice keeps is
+
+-- ---- what passes over their lines
+
+pub grew_later : (old then_is new : Peers) (wired_old wired_new : List Passage) → Stays old then_is → Grew then_is new wired_old wired_new → Grew old new wired_old wired_new
+grew_later old then_is new wired_old wired_new stays grew = (
+  grew.0 ∙ stays.0,
+  (
+    subst (λ (p : Passages). Adds p.items (passed_of new) wired_old wired_new) stays.1.0 grew.1.0,
+    (grew.1.1.0 ∙ stays.1.1.0, grew.1.1.1 ∙ stays.1.1.1),
+  ),
+)

@@ -1,13 +1,15 @@
 -- What is taken of a seat.
-use Rattle.std.proofs.Common.{◌≡◌, List, ◌++◌, refl, sym}
+use Rattle.std.proofs.Common.{◌≡◌, List, [], refl}
 use Rattle.std.specs.Prelude.{Option, Some, None}
-use Rattle.std.proofs.lemmas.List.{append-nil}
-use Rattle.node_wires.specs.Passages.{seats_in}
+use Rattle.node_wires.specs.Passages.{Passage, seats_in}
 use Rattle.node_seats.specs.declared.seat_notice.SeatNotice.{SeatNotice}
 use Rattle.node_seats.specs.declared.seat_notice.SeatNotice.TheVariants as notices
 use Rattle.node_seats.specs.Passing.{passed_by}
-use Rattle.node_service.specs.Handed.{Handover}
-use Rattle.node_service.specs.Arriving.{seats_of, frames_of}
+use Rattle.node_links.specs.declared.own.Own.{Own}
+use Rattle.node_service.specs.Crossing.{AreHeard}
+use Rattle.node_service.specs.Taking.{StopsAtLife}
+use Rattle.node_service.specs.declared.taking.Taken.TheVariants as kind
+use Rattle.node_service.specs.Arriving.{seats_of, peers_of, incoming_of}
 use Rattle.node_service.specs.Telling.{incoming_by}
 
 -- what passed over the lines of seats is what came of them
@@ -18,9 +20,23 @@ passed_is_incoming (Some (notices.Piece seat bytes)) = refl
 passed_is_incoming (Some (notices.Gone seat)) = refl
 passed_is_incoming (Some (notices.Refused seat)) = refl
 
-pub no_frame_taken : (notice : Option SeatNotice) (heard : List Handover) → heard ≡ heard ++ frames_of (incoming_by notice)
-no_frame_taken None heard = sym (append-nil heard)
-no_frame_taken (Some (notices.Came seat)) heard = sym (append-nil heard)
-no_frame_taken (Some (notices.Piece seat bytes)) heard = sym (append-nil heard)
-no_frame_taken (Some (notices.Gone seat)) heard = sym (append-nil heard)
-no_frame_taken (Some (notices.Refused seat)) heard = sym (append-nil heard)
+pub no_peer_told : (notice : Option SeatNotice) → peers_of (incoming_by notice) ≡ []
+no_peer_told None = refl
+no_peer_told (Some (notices.Came seat)) = refl
+no_peer_told (Some (notices.Piece seat bytes)) = refl
+no_peer_told (Some (notices.Gone seat)) = refl
+no_peer_told (Some (notices.Refused seat)) = refl
+
+pub none_of_peers : (own : Own) (lines : List Passage) (notice : Option SeatNotice) → AreHeard own lines (incoming_by notice)
+none_of_peers own lines None = tt
+none_of_peers own lines (Some (notices.Came seat)) = (tt, tt)
+none_of_peers own lines (Some (notices.Piece seat bytes)) = (tt, tt)
+none_of_peers own lines (Some (notices.Gone seat)) = tt
+none_of_peers own lines (Some (notices.Refused seat)) = tt
+
+-- nor is a node told to be there
+pub stops_not : (notice : SeatNotice) → StopsAtLife kind.One (incoming_of notice)
+stops_not (notices.Came seat) = tt
+stops_not (notices.Piece seat bytes) = tt
+stops_not (notices.Gone seat) = tt
+stops_not (notices.Refused seat) = tt

@@ -4,7 +4,7 @@ use Rattle.std.proofs.lemmas.List.{append-nil}
 use Rattle.std.specs.Prelude.{Option, Result, IfSome, IsNone}
 use Rattle.promise_store.specs.declared.disk.Disk.{Ghosts}
 use Rattle.node_wires.specs.declared.wire.Wire.{Ghosts as OfWire}
-use Rattle.node_wires.specs.Passages.{Passage, logged_in, seats_in}
+use Rattle.node_wires.specs.Passages.{Passage, logged_in, seats_in, wrote_over}
 use Rattle.dealer_node.specs.Nodes.{Node}
 use Rattle.dealer_node.specs.Seeing.{begun_of}
 use Rattle.dealer_node.specs.Outs.{Told, nothing_told}
@@ -16,22 +16,35 @@ use Rattle.stations.specs.Looking.{look_of}
 use Rattle.node_service.specs.declared.desk.Desk.{Desk}
 use Rattle.node_service.specs.declared.local_node.LocalNode.{LocalNode}
 use Rattle.node_service.specs.Showing.{shown_log, added, LogGains}
-use Rattle.node_service.specs.Handed.{Handover, handed_by, mark_handed, lines_handed}
-use Rattle.node_service.specs.Arriving.{Incoming, seats_of, frames_of, taken_for}
+use Rattle.node_service.specs.Handed.{frames_by, lines_by, mark_handed, lines_handed}
+use Rattle.node_service.specs.Arriving.{Incoming, seats_of, peers_of, taken_for}
 use Rattle.node_service.specs.Served.{Served}
-use Rattle.node_service.specs.Desks.{served_by, IsKept}
-use Rattle.node_service.specs.Going.{GoesOn}
+use Rattle.node_service.specs.Desks.{served_by, IsUntouched, IsKeptWith, IsKept}
+use Rattle.node_service.specs.Going.{GoesOn, Does, GoesOnWithoutLife}
 use Rattle.node_service.specs.Sittings.{sitting_at, Loosens, IsGivenBy, Refuses}
 use Rattle.node_service.specs.Fitting.{FitsFor, FitsBut}
 use Rattle.node_service.specs.declared.sitting.Sitting.{Sitting}
 use Rattle.node_service.specs.declared.sitting.Sitting.TheVariants.{Here, LetGo}
 use Rattle.node_service.specs.declared.sitting.Sittings.{Sittings}
 use Rattle.node_peers.specs.declared.peers.Peers.{Peers}
-use Rattle.node_peers.specs.Peering.{own_of, passed_of}
+use Rattle.node_peers.specs.Peering.{own_of, passed_of, frames_of, heard_of, Grew, Stays}
+use Rattle.node_wires.specs.declared.line.Line.TheVariants.{Seat as SeatOf}
+use Rattle.node_wires.specs.declared.passages.Passages.{Passages}
+use Rattle.node_seats.specs.declared.seats.Seats.{Seats}
+use Rattle.node_seats.specs.Others.{KeepsOthers}
+use Rattle.node_seats.specs.Telling.{lines_of, AreSaid}
+use Rattle.node_status.specs.declared.askers.Askers.{Askers}
+use Rattle.node_status.specs.Asking.{AreAnswered, KeepsOthers as OthersKept}
+use Rattle.node_service.specs.declared.company.Company.{Company}
+use Rattle.node_service.specs.Asking.{line_given, GivesOnly, IsNoLine, IsReply, IsStatusLine}
+use Rattle.node_service.specs.Crossing.{IsCarried, Carries}
+use Rattle.node_service.specs.Handing.{HandsOn}
+use Rattle.node_service.proofs.Asking.{gives_alike, gives_weaker, none_gives_on}
+use Rattle.node_service.proofs.Crossing.{carried_grown, carried_seated, carried_asked}
 use Rattle.node_service.specs.Company.{Hears, HearsOn}
 use Rattle.node_service.proofs.Hearing.{hears_none, hears_on, heard_on}
 use Rattle.node_service.proofs.Fitting.{fits_moved}
-use Rattle.node_service.proofs.Going.{still, on, let_go}
+use Rattle.node_service.proofs.Going.{still, does_on, let_go_so, without_life}
 use Rattle.node_service.proofs.Showing.{nothing_shown}
 use Rattle.node_service.proofs.Stepping.{unstepped, unstepped_if_not}
 
@@ -49,36 +62,159 @@ heard_either old new (inl same) = hears_none (own_of old) (own_of new) (passed_o
 heard_either old new (inr hears) = hears
 
 module _ {D W : Type 0} {disk : Ghosts D} (wire : OfWire W) where
-  pub kept_on : {one two three : Desk D W disk} → IsKept wire one two → IsKept wire two three → IsKept wire one three
-  kept_on {one} {two} {three} first then_on = record {
+  pub carried_as : (old new : Desk D W disk) → lines_of new.seats ≡ lines_of old.seats → IsUntouched wire old new ⊎ (Carries (served_by wire old) → Carries (served_by wire new)) → Carries (served_by wire old)
+      → Carries (served_by wire new)
+  carried_as old new told (inr carries) is = carries is
+  carried_as old new told (inl same) is =
+      subst (λ (m : List Passage). IsCarried m (passed_of new.company.peers) (lines_of new.seats) new.seats.seats.items new.askers.askers.items) (sym same.0)
+      (subst (λ (m : List Passage). IsCarried (wire.passed old.wire) m (lines_of new.seats) new.seats.seats.items new.askers.askers.items) (sym same.1.0)
+      (subst (λ (s : Seats). IsCarried (wire.passed old.wire) (passed_of old.company.peers) (lines_of s) s.seats.items new.askers.askers.items) (sym same.1.1.0)
+      (subst (λ (a : Askers). IsCarried (wire.passed old.wire) (passed_of old.company.peers) (lines_of old.seats) old.seats.seats.items a.askers.items) (sym same.1.1.1) is)))
+
+  pub carries : {such : List ℕ → Type 0} {old new : Desk D W disk} → IsKeptWith wire such old new → Carries (served_by wire old) → Carries (served_by wire new)
+  carries {old = old} {new} is = carried_as old new is.told is.carried
+
+  pub kept_on : {such : List ℕ → Type 0} {one two three : Desk D W disk} → IsKeptWith wire such one two → IsKeptWith wire such two three → IsKeptWith wire such one three
+  kept_on {such} {one} {two} {three} first then_on = record {
     member = then_on.member ∙ first.member;
     log_failed = then_on.log_failed ∙ first.log_failed;
-    handed = then_on.handed ∙ first.handed;
+    sent = then_on.sent ∙ first.sent;
+    told = then_on.told ∙ first.told;
     heard = then_on.heard ∙ first.heard;
     log = then_on.log ∙ first.log;
     seats = then_on.seats ∙ first.seats;
     sittings = loosened_on one.sittings two.sittings three.sittings first.sittings then_on.sittings;
     hears = inr (heard_on one.company.peers two.company.peers three.company.peers (heard_either one.company.peers two.company.peers first.hears)
         (heard_either two.company.peers three.company.peers then_on.hears));
+    asked = gives_alike such one.askers.askers.items two.askers.askers.items three.askers.askers.items first.asked then_on.asked;
+    carried = inr (λ is. carries then_on (carries first is));
   }
 
-  pub as_it_was : {old new : Desk D W disk} → new ≡ old → IsKept wire old new
-  as_it_was {old} {new} is = record {
+  pub as_it_was : {such : List ℕ → Type 0} {old new : Desk D W disk} → new ≡ old → IsKeptWith wire such old new
+  as_it_was {such} {old} {new} is = record {
     member = ap (λ (d : Desk D W disk). d.member) is;
     log_failed = ap (λ (d : Desk D W disk). d.log_failed) is;
-    handed = ap (λ (d : Desk D W disk). d.handed.items) is;
-    heard = ap (λ (d : Desk D W disk). d.heard.items) is;
+    sent = ap (λ (d : Desk D W disk). frames_of d.company.peers) is;
+    told = ap (λ (d : Desk D W disk). lines_of d.seats) is;
+    heard = ap (λ (d : Desk D W disk). heard_of d.company.peers) is;
     log = ap (λ (d : Desk D W disk). logged_in (wire.passed d.wire)) is;
     seats = ap (λ (d : Desk D W disk). seats_in (wire.passed d.wire)) is;
     sittings = λ seat. inl (ap (λ (d : Desk D W disk). sitting_at d.sittings seat) is);
     hears = inl (ap (λ (d : Desk D W disk). d.company.peers) is);
+    asked = λ place within. inl (ap (λ (d : Desk D W disk). line_given d.askers.askers.items place) is);
+    carried = inl (ap (λ (d : Desk D W disk). wire.passed d.wire) is, (ap (λ (d : Desk D W disk). passed_of d.company.peers) is, (ap (λ (d : Desk D W disk). d.seats) is, ap (λ (d : Desk D W disk). d.askers) is)));
   }
 
-  pub goes_kept : {old new : Desk D W disk} → IsKept wire old new → GoesOn disk [] (served_by wire old) (served_by wire new)
-  goes_kept {old} {new} is = still (served_by wire old) (served_by wire new) (ap (λ (m : LocalNode D disk). look_of m.station) is.member) is.log_failed is.handed is.heard is.log is.seats is.sittings
-      (heard_either old.company.peers new.company.peers is.hears)
+  -- ---- one call
 
-  taken_kept : (taken : List Incoming) (old new : Desk D W disk) → IsKept wire old new → FitsBut taken (served_by wire old) → FitsBut taken (served_by wire new)
+  -- of the peers nothing passed
+  pub kept_still : {old new : Desk D W disk} → new.member ≡ old.member → new.log_failed ≡ old.log_failed → new.sittings ≡ old.sittings → new.seats ≡ old.seats → new.askers ≡ old.askers
+      → wire.passed new.wire ≡ wire.passed old.wire → Stays old.company.peers new.company.peers → HearsOn old.company.peers new.company.peers → IsKept wire old new
+  kept_still {old} {new} member log_failed sittings seats askers passed stays hears = record {
+    member = member;
+    log_failed = log_failed;
+    sent = ap (λ (p : Passages). p.items) stays.1.1.0;
+    told = ap lines_of seats;
+    heard = ap (λ (p : Passages). p.items) stays.1.1.1;
+    log = ap logged_in passed;
+    seats = ap seats_in passed;
+    sittings = λ seat. inl (ap (λ (s : Sittings). sitting_at s seat) sittings);
+    hears = inr hears;
+    asked = λ place within. inl (ap (λ (a : Askers). line_given a.askers.items place) askers);
+    carried = inl (passed, (ap (λ (p : Passages). p.items) stays.1.0, (seats, askers)));
+  }
+
+  -- something did
+  pub kept_grown : {old new : Desk D W disk} → new.member ≡ old.member → new.log_failed ≡ old.log_failed → new.sittings ≡ old.sittings → new.seats ≡ old.seats → new.askers ≡ old.askers
+      → Grew old.company.peers new.company.peers (wire.passed old.wire) (wire.passed new.wire) → HearsOn old.company.peers new.company.peers
+      → seats_in (wire.passed new.wire) ≡ seats_in (wire.passed old.wire) → logged_in (wire.passed new.wire) ≡ logged_in (wire.passed old.wire)
+      → ((seat : ℕ) → wrote_over (wire.passed new.wire) (SeatOf seat) ≡ wrote_over (wire.passed old.wire) (SeatOf seat)) → IsKept wire old new
+  kept_grown {old} {new} member log_failed sittings seats askers grew hears of_seats log writing = record {
+    member = member;
+    log_failed = log_failed;
+    sent = ap (λ (p : Passages). p.items) grew.1.1.0;
+    told = ap lines_of seats;
+    heard = ap (λ (p : Passages). p.items) grew.1.1.1;
+    log = log;
+    seats = of_seats;
+    sittings = λ seat. inl (ap (λ (s : Sittings). sitting_at s seat) sittings);
+    hears = inr hears;
+    asked = λ place within. inl (ap (λ (a : Askers). line_given a.askers.items place) askers);
+    carried = inr (λ is.
+        subst (λ (s : Seats). IsCarried (wire.passed new.wire) (passed_of new.company.peers) (lines_of s) s.seats.items new.askers.askers.items) (sym seats)
+        (subst (λ (a : Askers). IsCarried (wire.passed new.wire) (passed_of new.company.peers) (lines_of old.seats) old.seats.seats.items a.askers.items) (sym askers)
+        (carried_grown (passed_of old.company.peers) (passed_of new.company.peers) (wire.passed old.wire) (wire.passed new.wire) (lines_of old.seats) old.seats.seats.items old.askers.askers.items grew.1.0 writing is)));
+  }
+
+  -- something was written to seats, or one was let go of
+  pub kept_seated : {old new : Desk D W disk} → new.member ≡ old.member → new.log_failed ≡ old.log_failed → new.company ≡ old.company → new.askers ≡ old.askers → Loosens old.sittings new.sittings
+      → lines_of new.seats ≡ lines_of old.seats → logged_in (wire.passed new.wire) ≡ logged_in (wire.passed old.wire) → seats_in (wire.passed new.wire) ≡ seats_in (wire.passed old.wire)
+      → KeepsOthers (wire.passed old.wire) (wire.passed new.wire)
+      → (AreSaid (wire.passed old.wire) (lines_of old.seats) old.seats.seats.items → AreSaid (wire.passed new.wire) (lines_of old.seats) new.seats.seats.items) → IsKept wire old new
+  kept_seated {old} {new} member log_failed company askers loosened told log seats others said = record {
+    member = member;
+    log_failed = log_failed;
+    sent = ap (λ (c : Company). frames_of c.peers) company;
+    told = told;
+    heard = ap (λ (c : Company). heard_of c.peers) company;
+    log = log;
+    seats = seats;
+    sittings = loosened;
+    hears = inl (ap (λ (c : Company). c.peers) company);
+    asked = λ place within. inl (ap (λ (a : Askers). line_given a.askers.items place) askers);
+    carried = inr (λ is.
+        subst (λ (c : Company). IsCarried (wire.passed new.wire) (passed_of c.peers) (lines_of new.seats) new.seats.seats.items new.askers.askers.items) (sym company)
+        (subst (λ (a : Askers). IsCarried (wire.passed new.wire) (passed_of old.company.peers) (lines_of new.seats) new.seats.seats.items a.askers.items) (sym askers)
+        (subst (λ (m : List Passage). IsCarried (wire.passed new.wire) (passed_of old.company.peers) m new.seats.seats.items old.askers.askers.items) (sym told)
+        (carried_seated (wire.passed old.wire) (wire.passed new.wire) (passed_of old.company.peers) (lines_of old.seats) old.seats.seats.items new.seats.seats.items old.askers.askers.items others said is))));
+  }
+
+  -- something passed over lines of those who ask, or they were given such lines
+  pub kept_asked : {such : List ℕ → Type 0} {old new : Desk D W disk} → new.member ≡ old.member → new.log_failed ≡ old.log_failed → new.company ≡ old.company → new.seats ≡ old.seats → new.sittings ≡ old.sittings
+      → OthersKept (wire.passed old.wire) (wire.passed new.wire) → (AreAnswered (wire.passed old.wire) old.askers.askers.items → AreAnswered (wire.passed new.wire) new.askers.askers.items)
+      → GivesOnly such old.askers.askers.items new.askers.askers.items → IsKeptWith wire such old new
+  kept_asked {such} {old} {new} member log_failed company seats sittings others answered asked = record {
+    member = member;
+    log_failed = log_failed;
+    sent = ap (λ (c : Company). frames_of c.peers) company;
+    told = ap lines_of seats;
+    heard = ap (λ (c : Company). heard_of c.peers) company;
+    log = others.log;
+    seats = others.seats;
+    sittings = λ seat. inl (ap (λ (s : Sittings). sitting_at s seat) sittings);
+    hears = inl (ap (λ (c : Company). c.peers) company);
+    asked = asked;
+    carried = inr (λ is.
+        subst (λ (c : Company). IsCarried (wire.passed new.wire) (passed_of c.peers) (lines_of new.seats) new.seats.seats.items new.askers.askers.items) (sym company)
+        (subst (λ (s : Seats). IsCarried (wire.passed new.wire) (passed_of old.company.peers) (lines_of s) s.seats.items new.askers.askers.items) (sym seats)
+        (carried_asked (wire.passed old.wire) (wire.passed new.wire) (passed_of old.company.peers) (lines_of old.seats) old.seats.seats.items old.askers.askers.items new.askers.askers.items others answered is)));
+  }
+
+  -- ---- as part of what is done
+
+  goes_with : {such : List ℕ → Type 0} {old new : Desk D W disk} → ((line : List ℕ) → such line → IsReply (look_of new.member.station).number line) → IsKeptWith wire such old new
+      → Does disk [] (served_by wire old) (served_by wire new)
+  unfolding still
+  goes_with {such} {old} {new} replies is = (
+    still (served_by wire old) (served_by wire new) (ap (λ (m : LocalNode D disk). look_of m.station) is.member) is.log_failed is.sent is.told is.heard is.log is.seats is.sittings
+        (heard_either old.company.peers new.company.peers is.hears)
+        (gives_weaker such (IsReply (look_of new.member.station).number) old.askers.askers.items new.askers.askers.items replies is.asked) (carries is),
+    refl,
+  )
+
+  pub goes_kept : {old new : Desk D W disk} → IsKept wire old new → Does disk [] (served_by wire old) (served_by wire new)
+  goes_kept is = goes_with (λ line e. inl e) is
+
+  -- they were given a status line
+  pub goes_answered : (line : List ℕ) (old new : Desk D W disk) → IsStatusLine (look_of old.member.station).number line → IsKeptWith wire (λ given. given ≡ line) old new
+      → Does disk [] (served_by wire old) (served_by wire new)
+  goes_answered line old new is_status is =
+      goes_with
+      (λ given e.
+      inr (subst (λ (l : List ℕ). IsStatusLine (look_of new.member.station).number l) (sym e)
+      (subst (λ (m : LocalNode D disk). IsStatusLine (look_of m.station).number line) (sym is.member) is_status))) is
+
+  pub taken_kept : (taken : List Incoming) (old new : Desk D W disk) → IsKept wire old new → FitsBut taken (served_by wire old) → FitsBut taken (served_by wire new)
   taken_kept taken old new is but = (
     but.0,
     (
@@ -88,9 +224,9 @@ module _ {D W : Type 0} {disk : Ghosts D} (wire : OfWire W) where
   )
 
   -- it was kept, and then something was done
-  pub kept_then : {taken : List Incoming} {one two : Desk D W disk} {three : Served (Node D)} → IsKept wire one two → GoesOn disk taken (served_by wire two) three
+  unfoldable pub all_kept_then : {taken : List Incoming} {one two : Desk D W disk} {three : Served (Node D)} → IsKept wire one two → GoesOn disk taken (served_by wire two) three
       → GoesOn disk taken (served_by wire one) three
-  kept_then {taken} {one} {two} {three} is goes = record {
+  all_kept_then {taken} {one} {two} {three} is goes = record {
     config = goes.config ∙ ap (λ (m : LocalNode D disk). (look_of m.station).config) is.member;
     number = goes.number ∙ ap (λ (m : LocalNode D disk). (look_of m.station).number) is.member;
     begun = goes.begun ∙ ap (λ (m : LocalNode D disk). begun_of disk (look_of m.station).node) is.member;
@@ -98,54 +234,86 @@ module _ {D W : Type 0} {disk : Ghosts D} (wire : OfWire W) where
     deeds = goes.deeds ∙ ap (λ (m : LocalNode D disk). goes.since ++ (look_of m.station).deeds) is.member;
     log = subst (λ (b : Bool). LogGains b three.log_failed (shown_log goes.since) (logged_in (wire.passed one.wire)) (logged_in three.passed)) is.log_failed
         (subst (λ (m : List ℕ). LogGains two.log_failed three.log_failed (shown_log goes.since) m (logged_in three.passed)) is.log goes.log);
-    handed = goes.handed ∙ ap (λ (m : List Handover). m ++ handed_by goes.since) is.handed;
+    sent = goes.sent ∙ ap (λ (m : List Passage). m ++ frames_by goes.since) is.sent;
+    told = goes.told ∙ ap (λ (m : List Passage). m ++ lines_by goes.since) is.told;
     gained = goes.gained;
     seats = goes.seats ∙ ap (λ (m : List Passage). m ++ seats_of goes.gained) is.seats;
-    heard = goes.heard ∙ ap (λ (m : List Handover). m ++ frames_of goes.gained) is.heard;
+    heard = goes.heard ∙ ap (λ (m : List Passage). m ++ peers_of goes.gained) is.heard;
+    were = goes.were;
     came = goes.came;
     given = λ but. goes.given (taken_kept taken one two is but);
     hears = hears_on (own_of one.company.peers) (own_of two.company.peers) three.own (passed_of one.company.peers) (passed_of two.company.peers) three.lines
         (heard_either one.company.peers two.company.peers is.hears) goes.hears;
+    asked = none_gives_on three.look.number one.askers.askers.items two.askers.askers.items three.askers is.asked goes.asked;
+    carried = λ held. goes.carried (carries is held);
   }
 
+  pub kept_then : {taken : List Incoming} {one two : Desk D W disk} {three : Served (Node D)} → IsKept wire one two → Does disk taken (served_by wire two) three → Does disk taken (served_by wire one) three
+  unfolding all_kept_then
+  kept_then is does = (all_kept_then is does.0, does.1)
+
+  pub kept_without : {one two : Desk D W disk} → IsKept wire one two → GoesOnWithoutLife disk (served_by wire one) (served_by wire two)
+  kept_without is = without_life (goes_kept is)
+
   -- and the other way round
-  pub then_kept : {taken : List Incoming} {one : Served (Node D)} {two three : Desk D W disk} → GoesOn disk taken one (served_by wire two) → IsKept wire two three
-      → GoesOn disk taken one (served_by wire three)
-  then_kept goes is = on goes (goes_kept is)
+  pub then_kept : {taken : List Incoming} {one : Served (Node D)} {two three : Desk D W disk} → Does disk taken one (served_by wire two) → IsKept wire two three
+      → Does disk taken one (served_by wire three)
+  then_kept does is = does_on does (goes_kept is)
 
   -- what was taken isn't of seats, and is let go of
-  pub kept_only : {taken : List Incoming} {old new : Desk D W disk} → seats_of taken ≡ [] → IsKept wire old new → GoesOn disk taken (served_by wire old) (served_by wire new)
-  kept_only none is = let_go none (goes_kept is)
+  pub kept_only : {taken : List Incoming} {old new : Desk D W disk} → seats_of taken ≡ [] → IsKept wire old new → Does disk taken (served_by wire old) (served_by wire new)
+  kept_only none is = let_go_so none (goes_kept is)
 
-  -- what the log gained before
-  log_kept : (failed : Bool) (shown log : List ℕ) (old new : Desk D W disk) → LogGains failed old.log_failed shown log (logged_in (wire.passed old.wire)) → IsKept wire old new
-      → LogGains failed new.log_failed shown log (logged_in (wire.passed new.wire))
-  log_kept failed shown log old new gains is =
-      subst (λ (b : Bool). LogGains failed b shown log (logged_in (wire.passed new.wire))) (sym is.log_failed)
-      (subst (λ (m : List ℕ). LogGains failed old.log_failed shown log m) (sym is.log) gains)
+  -- what a call made was handed on, and then it was kept
+  pub hands_kept : {told : Told} {one : Served (Node D)} {two three : Desk D W disk} → HandsOn told one (served_by wire two) → IsKept wire two three → HandsOn told one (served_by wire three)
+  hands_kept {told} {one} {two} {three} hands is = record {
+    log = subst (λ (b : Bool). LogGains one.log_failed b (added (map text_by told.shown)) (logged_in one.passed) (logged_in (wire.passed three.wire))) (sym is.log_failed)
+        (subst (λ (m : List ℕ). LogGains one.log_failed two.log_failed (added (map text_by told.shown)) (logged_in one.passed) m) (sym is.log) hands.log);
+    sent = is.sent ∙ hands.sent;
+    told = is.told ∙ hands.told;
+    seats = is.seats ∙ hands.seats;
+    heard = is.heard ∙ hands.heard;
+    hears = hears_on one.own (own_of two.company.peers) (own_of three.company.peers) one.lines (passed_of two.company.peers) (passed_of three.company.peers) hands.hears (heard_either two.company.peers three.company.peers is.hears);
+    asked = gives_alike IsNoLine one.askers two.askers.askers.items three.askers.askers.items hands.asked is.asked;
+    carried = λ held. carries is (hands.carried held);
+  }
+
+  -- how bots are is of no account for that
+  pub settled : {told : Told} {one : Served (Node D)} (two : Desk D W disk) (sittings : Sittings) → HandsOn told one (served_by wire two) → HandsOn told one (served_by wire (record two { sittings = sittings }))
+  settled two sittings hands = record { log = hands.log; sent = hands.sent; told = hands.told; seats = hands.seats; heard = hands.heard; hears = hands.hears; asked = hands.asked; carried = hands.carried }
+
+  -- nor is the node that was called
+  pub of_any : {told : Told} {three : Served (Node D)} (one : Desk D W disk) (member : LocalNode D disk) → HandsOn told (served_by wire (record one { member = member })) three → HandsOn told (served_by wire one) three
+  of_any one member hands = record { log = hands.log; sent = hands.sent; told = hands.told; seats = hands.seats; heard = hands.heard; hears = hands.hears; asked = hands.asked; carried = hands.carried }
+
+  -- nothing was made
+  hands_nothing : {old new : Desk D W disk} → IsKept wire old new → HandsOn nothing_told (served_by wire old) (served_by wire new)
+  hands_nothing {old} {new} is =
+      hands_kept (record {
+        log = nothing_shown old.log_failed (logged_in (wire.passed old.wire));
+        sent = sym (append-nil (frames_of old.company.peers));
+        told = sym (append-nil (lines_of old.seats));
+        seats = refl;
+        heard = refl;
+        hears = hears_none (own_of old.company.peers) (own_of old.company.peers) (passed_of old.company.peers) (passed_of old.company.peers) refl refl;
+        asked = λ place within. inl refl;
+        carried = λ held. held;
+      }) is
 
   -- and what an event would be made of isn't given: the bot that it is of is let go of
   pub refused : (e : Event) {old new : Desk D W disk} → IsKept wire old new → Refuses e old.sittings new.sittings
-      → GoesOn disk (taken_for e) (served_by wire old) (served_by wire new)
+      → Does disk (taken_for e) (served_by wire old) (served_by wire new)
   refused e {old} {new} is refuses =
       let look : look_of new.member.station ≡ look_of old.member.station = ap (λ (m : LocalNode D disk). look_of m.station) is.member in
       unstepped e nothing_told (served_by wire old) (served_by wire new) (ap (λ (l : Look (Node D)). l.config) look) (ap (λ (l : Look (Node D)). l.number) look)
-      (ap (λ (l : Look (Node D)). begun_of disk l.node) look) (ap (λ (l : Look (Node D)). l.deeds) look) refl
-      (log_kept old.log_failed [] (logged_in (wire.passed old.wire)) old new (nothing_shown old.log_failed (logged_in (wire.passed old.wire))) is) (is.handed ∙ sym (append-nil old.handed.items)) is.seats
-      is.heard refuses (heard_either old.company.peers new.company.peers is.hears)
+      (ap (λ (l : Look (Node D)). begun_of disk l.node) look) (ap (λ (l : Look (Node D)). l.deeds) look) refl (hands_nothing is) refuses
 
   -- the node was called, but not given what the event is made of, and then its bot was let go of
   pub unstepped_then : (e : Event) (told : Told) (result : Option (Result (Unit {0}) NodeFault)) (old : Served (Node D)) (mid new : Desk D W disk) → IsGivenBy false result
       → IfSome result (λ answer. Acts disk e told answer old.look (look_of mid.member.station)) → (IsNone result → look_of mid.member.station ≡ old.look) → (IsNone result → told ≡ nothing_told)
-      → LogGains old.log_failed mid.log_failed (added (map text_by told.shown)) (logged_in old.passed) (logged_in (wire.passed mid.wire))
-      → mid.handed.items ≡ old.handed ++ (map mark_handed told.frames ++ lines_handed (map text_by told.shown)) → seats_in (wire.passed mid.wire) ≡ seats_in old.passed → mid.heard.items ≡ old.heard
-      → mid.sittings ≡ old.sittings → Hears old.own (own_of mid.company.peers) old.lines (passed_of mid.company.peers) → IsKept wire mid new → Refuses e mid.sittings new.sittings
-      → GoesOn disk (taken_for e) old (served_by wire new)
-  unstepped_then e told result old mid new given acts same unmade log handed seats heard sittings hears is refuses =
+      → HandsOn told old (served_by wire mid) → mid.sittings ≡ old.sittings → IsKept wire mid new → Refuses e mid.sittings new.sittings → Does disk (taken_for e) old (served_by wire new)
+  unstepped_then e told result old mid new given acts same unmade hands sittings is refuses =
       let look : look_of new.member.station ≡ look_of mid.member.station = ap (λ (m : LocalNode D disk). look_of m.station) is.member in
       unstepped_if_not e told result old (served_by wire new) given
-      (subst (λ (l : Look (Node D)). IfSome result (λ answer. Acts disk e told answer old.look l)) (sym look) acts) (λ none. look ∙ same none) unmade
-      (log_kept old.log_failed (added (map text_by told.shown)) (logged_in old.passed) mid new log is) (is.handed ∙ handed) (is.seats ∙ seats) (is.heard ∙ heard)
+      (subst (λ (l : Look (Node D)). IfSome result (λ answer. Acts disk e told answer old.look l)) (sym look) acts) (λ none. look ∙ same none) unmade (hands_kept hands is)
       (subst (λ (s : Sittings). Refuses e s new.sittings) sittings refuses)
-      (hears_on old.own (own_of mid.company.peers) (own_of new.company.peers) old.lines (passed_of mid.company.peers) (passed_of new.company.peers) hears
-      (heard_either mid.company.peers new.company.peers is.hears))

@@ -1,12 +1,22 @@
-pub mod Walks
 pub mod Members
 pub mod Parts
 pub mod Showing
 pub mod Fitting
+pub mod Asking
+pub mod Crossing
+pub mod RuleLogs
+pub mod SinceStart
+pub mod Accepting
+pub mod Dealt
+pub mod Accepted
 pub mod Going
 pub mod Stepping
 pub mod Incoming
 pub mod Telling
 pub mod Hearing
 pub mod Keeping
+pub mod Knowing
+pub mod Seats
+pub mod Others
+pub mod Counting
 mod Examples

@@ -4,8 +4,9 @@ use Rattle.std.proofs.lemmas.List.{append-nil}
 use Rattle.stations.specs.Deeds.{Deed}
 use Rattle.node_wires.specs.Passages.{Passage, Began, Came, Wrote, Gave, Logged, logged_in, of_seat, seats_in}
 use Rattle.node_service.specs.Showing.{shown_log, LogGains}
-use Rattle.node_service.specs.Handed.{Handover, FromPeer, handed_by}
-use Rattle.node_service.specs.Arriving.{Incoming, OfSeat, OfPeer, seats_of, frames_of, came_by}
+use Rattle.node_wires.specs.declared.line.Line.TheVariants.{Peer}
+use Rattle.node_service.specs.Handed.{frames_by, lines_by}
+use Rattle.node_service.specs.Arriving.{Incoming, OfSeat, OfPeer, OfJoined, seats_of, peers_of, came_by}
 
 -- ---- what deeds showed and what came by them, those of earlier deeds first
 
@@ -17,19 +18,25 @@ pub came_by_both : (later earlier : List Deed) → came_by (later ++ earlier) �
 came_by_both [] earlier = sym (append-nil (came_by earlier))
 came_by_both (deed ∷ later) earlier = simp (came_by_both later earlier, append_assoc)
 
-pub handed_by_both : (later earlier : List Deed) → handed_by (later ++ earlier) ≡ handed_by earlier ++ handed_by later
-handed_by_both [] earlier = sym (append-nil (handed_by earlier))
-handed_by_both (deed ∷ later) earlier = simp (handed_by_both later earlier, append_assoc)
+pub frames_by_both : (later earlier : List Deed) → frames_by (later ++ earlier) ≡ frames_by earlier ++ frames_by later
+frames_by_both [] earlier = sym (append-nil (frames_by earlier))
+frames_by_both (deed ∷ later) earlier = simp (frames_by_both later earlier, append_assoc)
+
+pub lines_by_both : (later earlier : List Deed) → lines_by (later ++ earlier) ≡ lines_by earlier ++ lines_by later
+lines_by_both [] earlier = sym (append-nil (lines_by earlier))
+lines_by_both (deed ∷ later) earlier = simp (lines_by_both later earlier, append_assoc)
 
 pub seats_of_more : (xs ys : List Incoming) → seats_of (xs ++ ys) ≡ seats_of xs ++ seats_of ys
 seats_of_more [] ys = refl
 seats_of_more (OfSeat passage ∷ xs) ys = ap (λ (m : List Passage). passage ∷ m) (seats_of_more xs ys)
 seats_of_more (OfPeer from frame ∷ xs) ys = seats_of_more xs ys
+seats_of_more (OfJoined peer ∷ xs) ys = seats_of_more xs ys
 
-pub frames_of_more : (xs ys : List Incoming) → frames_of (xs ++ ys) ≡ frames_of xs ++ frames_of ys
-frames_of_more [] ys = refl
-frames_of_more (OfSeat passage ∷ xs) ys = frames_of_more xs ys
-frames_of_more (OfPeer from frame ∷ xs) ys = ap (λ (m : List Handover). FromPeer from frame ∷ m) (frames_of_more xs ys)
+pub peers_of_more : (xs ys : List Incoming) → peers_of (xs ++ ys) ≡ peers_of xs ++ peers_of ys
+peers_of_more [] ys = refl
+peers_of_more (OfSeat passage ∷ xs) ys = peers_of_more xs ys
+peers_of_more (OfPeer from frame ∷ xs) ys = ap (λ (m : List Passage). Came (Peer from) frame ∷ m) (peers_of_more xs ys)
+peers_of_more (OfJoined peer ∷ xs) ys = ap (λ (m : List Passage). Began (Peer peer) ∷ m) (peers_of_more xs ys)
 
 -- ---- the log
 

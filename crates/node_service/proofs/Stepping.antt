@@ -18,13 +18,14 @@ use Rattle.stations.specs.Deeds.{Deed}
 use Rattle.stations.specs.Stations.{Look, Acts, deed_by, nothing, call}
 use Rattle.node_service.specs.Parts.{IsPartOf}
 use Rattle.node_service.specs.Showing.{added, LogGains}
-use Rattle.node_service.specs.Handed.{Handover, frame_handed, mark_handed, lines_handed}
+use Rattle.node_service.specs.Handed.{frame_handed, mark_handed, lines_handed}
 use Rattle.node_service.specs.Arriving.{incoming_in, seats_of, taken_for}
 use Rattle.node_service.specs.Served.{Served}
 use Rattle.node_service.specs.Sittings.{Admits, IsGivenBy, Settles, Refuses}
 use Rattle.node_service.specs.Fitting.{FitsFor}
-use Rattle.node_service.specs.Company.{Hears}
-use Rattle.node_service.specs.Going.{GoesOn}
+use Rattle.node_service.specs.Handing.{HandsOn}
+use Rattle.node_service.specs.Going.{Does}
+use Rattle.node_service.proofs.Asking.{none_gives}
 use Rattle.node_service.proofs.Fitting.{fits_given, fits_refused}
 
 -- what an event brings to a node is what it was made of
@@ -41,85 +42,94 @@ brought_is_taken true front (event.Start node) = tt
 
 pub same_frames : (node : ℕ) (frames : List (Marked ℕ)) → map frame_handed (map (frame_by node) frames) ≡ map mark_handed frames
 same_frames node [] = refl
-same_frames node (frame ∷ frames) = ap (λ (m : List Handover). mark_handed frame ∷ m) (same_frames node frames)
+same_frames node (frame ∷ frames) = ap (λ (m : List Passage). mark_handed frame ∷ m) (same_frames node frames)
 
 module _ {D : Type 0} {g : Ghosts D} where
   -- an event was given to the node, and what it made of it was handed on
   stepped : (e : Event) (told : Told) (answer : Result (Unit {0}) NodeFault) (old new : Served (Node D)) → (answer ≡ Err OutOfMemory → ⊥) → Acts g e told answer old.look new.look
-      → LogGains old.log_failed new.log_failed (added (map text_by told.shown)) (logged_in old.passed) (logged_in new.passed)
-      → new.handed ≡ old.handed ++ (map mark_handed told.frames ++ lines_handed (map text_by told.shown)) → seats_in new.passed ≡ seats_in old.passed → new.heard ≡ old.heard
-      → Admits (runs old.look.node) e old.sittings → Settles e old.sittings new.sittings → Hears old.own new.own old.lines new.lines → GoesOn g (taken_for e) old new
-  stepped e told answer old new was_given acts log handed seats heard admitted settled hears =
-      elim acts.gains as (λ _. GoesOn g (taken_for e) old new) [
+      → HandsOn told old new
+      → Admits (runs old.look.node) e old.sittings → Settles e old.sittings new.sittings → Does g (taken_for e) old new
+  stepped e told answer old new was_given acts hands admitted settled =
+      elim acts.gains as (λ _. Does g (taken_for e) old new) [
         | nothing refused same ↦ absurd (was_given refused)
-        | call taken is ↦ record {
-          config = acts.config;
-          number = acts.number;
-          begun = acts.given.stays.begun;
-          since = deed_by (runs old.look.node) (front_in old.look.node) e told answer ∷ [];
-          deeds = is;
-          log = log;
-          handed = handed ∙ ap (λ (m : List Handover). old.handed ++ (m ++ lines_handed (map text_by told.shown))) (sym (same_frames _ told.frames));
-          gained = [];
-          seats = seats ∙ sym (append-nil (seats_in old.passed));
-          heard = heard ∙ sym (append-nil old.heard);
-          came = brought_is_taken (runs old.look.node) (front_in old.look.node) e;
-          given = λ but.
-              subst (λ (m : List Passage). FitsFor new.look.deeds new.sittings m) (sym (seats ∙ but.1.0))
-              (subst (λ (m : List Deed). FitsFor m new.sittings (but.0 ++ seats_of (taken_for e))) (sym is)
-              (fits_given (runs old.look.node) (front_in old.look.node) e told answer old.look.deeds old.sittings new.sittings but.0 admitted settled but.1.1));
-          hears = hears;
-        }
+        | call taken is ↦ (
+          record {
+            config = acts.config;
+            number = acts.number;
+            begun = acts.given.stays.begun;
+            since = deed_by (runs old.look.node) (front_in old.look.node) e told answer ∷ [];
+            deeds = is;
+            log = hands.log;
+            sent = hands.sent ∙ ap (λ (m : List Passage). old.sent ++ m) (sym (same_frames _ told.frames));
+            told = hands.told;
+            gained = [];
+            seats = hands.seats ∙ sym (append-nil (seats_in old.passed));
+            heard = hands.heard ∙ sym (append-nil old.heard);
+            were = tt;
+            came = brought_is_taken (runs old.look.node) (front_in old.look.node) e;
+            given = λ but.
+                subst (λ (m : List Passage). FitsFor new.look.deeds new.sittings m) (sym (hands.seats ∙ but.1.0))
+                (subst (λ (m : List Deed). FitsFor m new.sittings (but.0 ++ seats_of (taken_for e))) (sym is)
+                (fits_given (runs old.look.node) (front_in old.look.node) e told answer old.look.deeds old.sittings new.sittings but.0 admitted settled but.1.1));
+            hears = hands.hears;
+            asked = none_gives new.look.number old.askers new.askers hands.asked;
+            carried = hands.carried;
+          },
+          refl,
+        )
       ]
 
   -- none was given, and nothing made
   pub unstepped : (e : Event) (told : Told) (old new : Served (Node D)) → new.look.config ≡ old.look.config → new.look.number ≡ old.look.number
       → begun_of g new.look.node ≡ begun_of g old.look.node → new.look.deeds ≡ old.look.deeds → told ≡ nothing_told
-      → LogGains old.log_failed new.log_failed (added (map text_by told.shown)) (logged_in old.passed) (logged_in new.passed)
-      → new.handed ≡ old.handed ++ (map mark_handed told.frames ++ lines_handed (map text_by told.shown)) → seats_in new.passed ≡ seats_in old.passed → new.heard ≡ old.heard
-      → Refuses e old.sittings new.sittings → Hears old.own new.own old.lines new.lines → GoesOn g (taken_for e) old new
-  unstepped e told old new config number begun deeds unmade log handed seats heard refused hears = record {
-    config = config;
-    number = number;
-    begun = begun;
-    since = [];
-    deeds = deeds;
-    log = subst (λ (t : Told). LogGains old.log_failed new.log_failed (added (map text_by t.shown)) (logged_in old.passed) (logged_in new.passed)) unmade log;
-    handed = subst (λ (t : Told). new.handed ≡ old.handed ++ (map mark_handed t.frames ++ lines_handed (map text_by t.shown))) unmade handed;
-    gained = [];
-    seats = seats ∙ sym (append-nil (seats_in old.passed));
-    heard = heard ∙ sym (append-nil old.heard);
-    came = tt;
-    given = λ but.
-        subst (λ (m : List Passage). FitsFor new.look.deeds new.sittings m) (sym (seats ∙ but.1.0))
-        (subst (λ (m : List Deed). FitsFor m new.sittings (but.0 ++ seats_of (taken_for e))) (sym deeds)
-        (fits_refused e old.look.deeds old.sittings new.sittings but.0 refused but.1.1));
-    hears = hears;
-  }
+      → HandsOn told old new
+      → Refuses e old.sittings new.sittings → Does g (taken_for e) old new
+  unstepped e told old new config number begun deeds unmade hands refused = (
+    record {
+      config = config;
+      number = number;
+      begun = begun;
+      since = [];
+      deeds = deeds;
+      log = subst (λ (t : Told). LogGains old.log_failed new.log_failed (added (map text_by t.shown)) (logged_in old.passed) (logged_in new.passed)) unmade hands.log;
+      sent = subst (λ (t : Told). new.sent ≡ old.sent ++ map mark_handed t.frames) unmade hands.sent;
+      told = subst (λ (t : Told). new.told ≡ old.told ++ lines_handed (map text_by t.shown)) unmade hands.told;
+      gained = [];
+      seats = hands.seats ∙ sym (append-nil (seats_in old.passed));
+      heard = hands.heard ∙ sym (append-nil old.heard);
+      were = tt;
+      came = tt;
+      given = λ but.
+          subst (λ (m : List Passage). FitsFor new.look.deeds new.sittings m) (sym (hands.seats ∙ but.1.0))
+          (subst (λ (m : List Deed). FitsFor m new.sittings (but.0 ++ seats_of (taken_for e))) (sym deeds)
+          (fits_refused e old.look.deeds old.sittings new.sittings but.0 refused but.1.1));
+      hears = hands.hears;
+      asked = none_gives new.look.number old.askers new.askers hands.asked;
+      carried = hands.carried;
+    },
+    refl,
+  )
 
   -- by whether it was
   pub stepped_if_given : (e : Event) (told : Told) (result : Option (Result (Unit {0}) NodeFault)) (old new : Served (Node D)) → IsGivenBy true result
       → IfSome result (λ answer. Acts g e told answer old.look new.look)
-      → LogGains old.log_failed new.log_failed (added (map text_by told.shown)) (logged_in old.passed) (logged_in new.passed)
-      → new.handed ≡ old.handed ++ (map mark_handed told.frames ++ lines_handed (map text_by told.shown)) → seats_in new.passed ≡ seats_in old.passed → new.heard ≡ old.heard
-      → Admits (runs old.look.node) e old.sittings → Settles e old.sittings new.sittings → Hears old.own new.own old.lines new.lines → GoesOn g (taken_for e) old new
-  stepped_if_given e told None old new given acts log handed seats heard admitted settled hears = absurd given
-  stepped_if_given e told (Some answer) old new given acts log handed seats heard admitted settled hears =
-      stepped e told answer old new given acts log handed seats heard admitted settled hears
+      → HandsOn told old new
+      → Admits (runs old.look.node) e old.sittings → Settles e old.sittings new.sittings → Does g (taken_for e) old new
+  stepped_if_given e told None old new given acts hands admitted settled = absurd given
+  stepped_if_given e told (Some answer) old new given acts hands admitted settled =
+      stepped e told answer old new given acts hands admitted settled
 
   pub unstepped_if_not : (e : Event) (told : Told) (result : Option (Result (Unit {0}) NodeFault)) (old new : Served (Node D)) → IsGivenBy false result
       → IfSome result (λ answer. Acts g e told answer old.look new.look) → (IsNone result → new.look ≡ old.look) → (IsNone result → told ≡ nothing_told)
-      → LogGains old.log_failed new.log_failed (added (map text_by told.shown)) (logged_in old.passed) (logged_in new.passed)
-      → new.handed ≡ old.handed ++ (map mark_handed told.frames ++ lines_handed (map text_by told.shown)) → seats_in new.passed ≡ seats_in old.passed → new.heard ≡ old.heard
-      → Refuses e old.sittings new.sittings → Hears old.own new.own old.lines new.lines → GoesOn g (taken_for e) old new
-  unstepped_if_not e told None old new given acts same unmade log handed seats heard refused hears =
+      → HandsOn told old new
+      → Refuses e old.sittings new.sittings → Does g (taken_for e) old new
+  unstepped_if_not e told None old new given acts same unmade hands refused =
       let look : new.look ≡ old.look = same refl in
       unstepped e told old new (ap (λ (l : Look (Node D)). l.config) look) (ap (λ (l : Look (Node D)). l.number) look) (ap (λ (l : Look (Node D)). begun_of g l.node) look)
-      (ap (λ (l : Look (Node D)). l.deeds) look) (unmade refl) log handed seats heard refused hears
-  unstepped_if_not e told (Some answer) old new given acts same unmade log handed seats heard refused hears =
-      elim acts.gains as (λ _. GoesOn g (taken_for e) old new) [
+      (ap (λ (l : Look (Node D)). l.deeds) look) (unmade refl) hands refused
+  unstepped_if_not e told (Some answer) old new given acts same unmade hands refused =
+      elim acts.gains as (λ _. Does g (taken_for e) old new) [
         | nothing no_memory is ↦
-            unstepped e told old new acts.config acts.number acts.given.stays.begun is (acts.given.stays.unmade (subst (λ (a : Result (Unit {0}) NodeFault). IsErr a) (sym no_memory) refl)) log
-            handed seats heard refused hears
+            unstepped e told old new acts.config acts.number acts.given.stays.begun is (acts.given.stays.unmade (subst (λ (a : Result (Unit {0}) NodeFault). IsErr a) (sym no_memory) refl)) hands refused
         | call taken is ↦ absurd (taken given)
       ]

@@ -1,15 +1,40 @@
 -- Notices of peers tell nothing of seats.
-use Rattle.std.proofs.Common.{◌≡◌, [], refl}
+use Rattle.std.proofs.Common.{◌≡◌, ℕ, [], refl}
 use Rattle.std.specs.Prelude.{Option, Some, None}
 use Rattle.node_peers.specs.declared.notice.Notice.{Notice}
 use Rattle.node_peers.specs.declared.notice.Notice.TheVariants as notices
-use Rattle.node_service.specs.Arriving.{seats_of}
-use Rattle.node_service.specs.Telling.{told_by}
+use Rattle.node_service.specs.Arriving.{seats_of, peers_of}
+use Rattle.node_peers.specs.Noticing.{heard_by}
+use Rattle.peer_codes.specs.declared.hello.Life.{Life}
+use Rattle.node_service.specs.Taking.{StopsAtLife}
+use Rattle.node_service.specs.declared.taking.Taken.TheVariants as kind
+use Rattle.node_service.specs.Telling.{told_of, told_by}
 
 pub no_seat_told : (notice : Option Notice) → seats_of (told_by notice) ≡ []
 no_seat_told None = refl
 no_seat_told (Some (notices.Frame from frame)) = refl
-no_seat_told (Some (notices.Joined peer life)) = refl
+no_seat_told (Some (notices.Joined peer (Some life))) = refl
+no_seat_told (Some (notices.Joined peer None)) = refl
 no_seat_told (Some (notices.Gone peer)) = refl
 no_seat_told (Some (notices.Refused peer fault source)) = refl
 no_seat_told (Some (notices.Strangers count fault)) = refl
+
+-- what the peers put down of them is what they tell
+pub told_is_heard : (notice : Option Notice) → heard_by notice ≡ peers_of (told_by notice)
+told_is_heard None = refl
+told_is_heard (Some (notices.Frame from frame)) = refl
+told_is_heard (Some (notices.Joined peer (Some life))) = refl
+told_is_heard (Some (notices.Joined peer None)) = refl
+told_is_heard (Some (notices.Gone peer)) = refl
+told_is_heard (Some (notices.Refused peer fault source)) = refl
+told_is_heard (Some (notices.Strangers count fault)) = refl
+
+-- ---- a node is told to be there
+
+pub stops_there : (peer : ℕ) (life : Option Life) → StopsAtLife kind.Last (told_of (notices.Joined peer life))
+stops_there peer None = tt
+stops_there peer (Some life) = refl
+
+pub stops_nowhere : (peer : ℕ) (life : Option Life) → life ≡ None → StopsAtLife kind.One (told_of (notices.Joined peer life))
+stops_nowhere peer None none = tt
+stops_nowhere peer (Some life) none = absurd cc

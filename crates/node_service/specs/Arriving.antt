@@ -1,31 +1,33 @@
 -- What came of seats and of peers, and what of it a node was given.
 use Rattle.std.specs.Prelude.{ℕ, List, [], ◌∷◌, ◌++◌}
 use Rattle.node_wires.specs.Passages.{Passage, Began, Came as PieceCame}
-use Rattle.node_wires.specs.declared.line.Line.TheVariants.{Seat}
+use Rattle.node_wires.specs.declared.line.Line.TheVariants.{Seat, Peer}
 use Rattle.node_seats.specs.declared.seat_notice.SeatNotice.{SeatNotice}
 use Rattle.node_seats.specs.declared.seat_notice.SeatNotice.TheVariants as notices
 use Rattle.dealer_world.specs.Records.{Arrived, Delivered, Came, Connected, Dropped, Ordered}
 use Rattle.dealer_world.specs.declared.event.Event.{Event}
 use Rattle.dealer_world.specs.declared.event.Event.TheVariants as event
 use Rattle.stations.specs.Deeds.{Deed}
-use Rattle.node_service.specs.Handed.{Handover, FromPeer}
 
--- what passed over the line of a seat: a bot that was taken in, or a piece; or a frame that was told of a peer
+-- what passed over the line of a seat: a bot that was taken in, or a piece; or what was told of a peer: a frame, or that it is there and its life is to be kept
 pub data Incoming : Type 0 where
   OfSeat : (passage : Passage) → Incoming
   OfPeer : (from : ℕ) (frame : List ℕ) → Incoming
+  OfJoined : (peer : ℕ) → Incoming
 
 -- what of this passed over the lines of seats
 abbrev pub seats_of : List Incoming → List Passage
 seats_of [] = []
 seats_of (OfSeat passage ∷ more) = passage ∷ seats_of more
 seats_of (OfPeer from frame ∷ more) = seats_of more
+seats_of (OfJoined peer ∷ more) = seats_of more
 
--- and what was told of peers
-abbrev pub frames_of : List Incoming → List Handover
-frames_of [] = []
-frames_of (OfSeat passage ∷ more) = frames_of more
-frames_of (OfPeer from frame ∷ more) = FromPeer from frame ∷ frames_of more
+-- and what was told of peers, as they put it down
+abbrev pub peers_of : List Incoming → List Passage
+peers_of [] = []
+peers_of (OfSeat passage ∷ more) = peers_of more
+peers_of (OfPeer from frame ∷ more) = PieceCame (Peer from) frame ∷ peers_of more
+peers_of (OfJoined peer ∷ more) = Began (Peer peer) ∷ peers_of more
 
 -- ---- what a node was given
 

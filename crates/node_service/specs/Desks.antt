@@ -1,12 +1,15 @@
 -- How a node's process at its wires is seen.
-use Rattle.std.specs.Prelude.{◌≡◌, ◌⊎◌}
+use Rattle.std.specs.Prelude.{◌≡◌, ◌⊎◌, ℕ, List}
 use Rattle.promise_store.specs.declared.disk.Disk.{Ghosts}
 use Rattle.node_wires.specs.declared.wire.Wire.{Ghosts as OfWire}
 use Rattle.node_wires.specs.Passages.{logged_in, seats_in}
 use Rattle.dealer_node.specs.Nodes.{Node}
 use Rattle.stations.specs.Looking.{look_of}
 use Rattle.node_service.specs.declared.desk.Desk.{Desk}
-use Rattle.node_peers.specs.Peering.{own_of, passed_of}
+use Rattle.node_peers.specs.Peering.{own_of, passed_of, frames_of, heard_of}
+use Rattle.node_seats.specs.Telling.{lines_of}
+use Rattle.node_service.specs.Asking.{GivesOnly, IsNoLine}
+use Rattle.node_service.specs.Crossing.{Carries}
 use Rattle.node_service.specs.Company.{HearsOn}
 use Rattle.node_service.specs.Served.{Served}
 use Rattle.node_service.specs.Sittings.{Loosens}
@@ -17,20 +20,35 @@ module _ {D W : Type 0} {disk : Ghosts D} (wire : OfWire W) where
     look = look_of desk.member.station;
     passed = wire.passed desk.wire;
     log_failed = desk.log_failed;
-    handed = desk.handed.items;
-    heard = desk.heard.items;
+    sent = frames_of desk.company.peers;
+    told = lines_of desk.seats;
+    heard = heard_of desk.company.peers;
     sittings = desk.sittings;
     own = own_of desk.company.peers;
     lines = passed_of desk.company.peers;
+    bots = desk.seats.seats.items;
+    askers = desk.askers.askers.items;
   }
 
-  -- the node isn't called, the log stays, and nothing is taken of seats and of peers; bots of seats may be let go of
-  pub record IsKept (old new : Desk D W disk) : Type 0 where
+  -- nothing passed, and nothing waits or is given but what was
+  abbrev pub IsUntouched : Desk D W disk → Desk D W disk → Type 0
+  IsUntouched old new = (wire.passed new.wire ≡ wire.passed old.wire) × ((passed_of new.company.peers ≡ passed_of old.company.peers) × ((new.seats ≡ old.seats) × (new.askers ≡ old.askers)))
+
+  -- the node isn't called, the log stays, nothing is handed to peers and told to seats, and nothing is taken of either; bots of seats may be let go of, and
+  -- those who ask are given nothing but such lines; what crosses the wires goes by all of them as before
+  pub record IsKeptWith (such : List ℕ → Type 0) (old new : Desk D W disk) : Type 0 where
     pub member : new.member ≡ old.member
     pub log_failed : new.log_failed ≡ old.log_failed
-    pub handed : new.handed.items ≡ old.handed.items
-    pub heard : new.heard.items ≡ old.heard.items
+    pub sent : frames_of new.company.peers ≡ frames_of old.company.peers
+    pub told : lines_of new.seats ≡ lines_of old.seats
+    pub heard : heard_of new.company.peers ≡ heard_of old.company.peers
     pub log : logged_in (wire.passed new.wire) ≡ logged_in (wire.passed old.wire)
     pub seats : seats_in (wire.passed new.wire) ≡ seats_in (wire.passed old.wire)
     pub sittings : Loosens old.sittings new.sittings
     pub hears : (new.company.peers ≡ old.company.peers) ⊎ HearsOn old.company.peers new.company.peers
+    pub asked : GivesOnly such old.askers.askers.items new.askers.askers.items
+    pub carried : IsUntouched old new ⊎ (Carries (served_by old) → Carries (served_by new))
+
+  -- and they are given nothing
+  abbrev pub IsKept : Desk D W disk → Desk D W disk → Type 0
+  IsKept old new = IsKeptWith IsNoLine old new

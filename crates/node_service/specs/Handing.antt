@@ -1,9 +1,22 @@
--- What is put down of what is handed on.
-use Rattle.node_service.specs.Handed.{Handover, ToPeer, ToSeat, FromPeer}
-use Rattle.node_service.specs.declared.handed.Handing.{Handing}
-use Rattle.node_service.specs.declared.handed.Handing.TheVariants as handing
+-- What is left once what a call made is handed on.
+use Rattle.std.specs.Prelude.{◌≡◌, ◌++◌, map}
+use Rattle.node_wires.specs.Passages.{logged_in, seats_in}
+use Rattle.dealer_node.specs.Outs.{Told}
+use Rattle.dealer_world.specs.Recordings.{text_by}
+use Rattle.node_service.specs.Asking.{GivesOnly, IsNoLine}
+use Rattle.node_service.specs.Company.{Hears}
+use Rattle.node_service.specs.Crossing.{Carries}
+use Rattle.node_service.specs.Handed.{mark_handed, lines_handed}
+use Rattle.node_service.specs.Served.{Served}
+use Rattle.node_service.specs.Showing.{added, LogGains}
 
-abbrev pub handover_of : Handing → Handover
-handover_of (handing.ToPeer to frame) = ToPeer to frame.now
-handover_of (handing.ToSeat seat line) = ToSeat seat line.now
-handover_of (handing.FromPeer from frame) = FromPeer from frame.now
+-- the log gained its texts, its frames were handed to the peers and its lines told to the seats, in order; and nothing else came of it
+pub record HandsOn {N : Type 0} (made : Told) (old new : Served N) : Type 0 where
+  pub log : LogGains old.log_failed new.log_failed (added (map text_by made.shown)) (logged_in old.passed) (logged_in new.passed)
+  pub sent : new.sent ≡ old.sent ++ map mark_handed made.frames
+  pub told : new.told ≡ old.told ++ lines_handed (map text_by made.shown)
+  pub seats : seats_in new.passed ≡ seats_in old.passed
+  pub heard : new.heard ≡ old.heard
+  pub hears : Hears old.own new.own old.lines new.lines
+  pub asked : GivesOnly IsNoLine old.askers new.askers
+  pub carried : Carries old → Carries new

@@ -3,12 +3,13 @@ use Rattle.std.specs.Prelude.{List, [], ◌∷◌, Option, Some, None}
 use Rattle.node_peers.specs.declared.notice.Notice.{Notice}
 use Rattle.node_peers.specs.declared.notice.Notice.TheVariants as notices
 use Rattle.node_seats.specs.declared.seat_notice.SeatNotice.{SeatNotice}
-use Rattle.node_service.specs.Arriving.{Incoming, OfPeer, incoming_of}
+use Rattle.node_service.specs.Arriving.{Incoming, OfPeer, OfJoined, incoming_of}
 
--- the frame that a notice of a peer tells, if it tells one
+-- the frame that a notice of a peer tells, if it tells one, or that a peer is there whose life is to be kept
 abbrev pub told_of : Notice → List Incoming
 told_of (notices.Frame from frame) = OfPeer from frame.bytes.items ∷ []
-told_of (notices.Joined peer life) = []
+told_of (notices.Joined peer (Some life)) = OfJoined peer ∷ []
+told_of (notices.Joined peer None) = []
 told_of (notices.Gone peer) = []
 told_of (notices.Refused peer fault source) = []
 told_of (notices.Strangers count fault) = []

@@ -1,10 +1,12 @@
 //! The peers of a node's process, and what is to be told: of them, and of all else that happened.
 
-ghost use Rattle.std.specs.Prelude.{◌≡◌, ◌∷◌, [], IfSome, IsNone};
+ghost use Rattle.std.specs.Prelude.{◌≡◌, ℕ, ◌∷◌, ◌++◌, [], IfSome, IsNone};
 ghost use Rattle.node_peers.specs.Hearing.{IsTold, are_told_prop};
-ghost use Rattle.node_peers.specs.Peering.{own_of, passed_of};
+ghost use Rattle.node_peers.specs.Noticing.{heard_by};
+ghost use Rattle.node_peers.specs.Peering.{own_of, passed_of, frames_of, heard_of, Grew, Keeps, Stays};
 ghost use Rattle.node_peers.specs.Sending.{Sends};
-ghost use Rattle.node_wires.specs.Passages.{logged_in, seats_in};
+ghost use Rattle.node_wires.specs.declared.line.Line.TheVariants.{Peer, Seat};
+ghost use Rattle.node_wires.specs.Passages.{Wrote, logged_in, seats_in, wrote_over};
 ghost use Rattle.node_service.specs.Company.{joined_in, IsShown, AreShown, HearsOn};
 
 use crate::server_notice::ServerNotice;
@@ -61,9 +63,12 @@ impl Company {
     }
 
     /// What the peers tell next.
-    #[tactic(auto, using(crate::proofs::Hearing::heard_still, crate::proofs::Hearing::shown_still, crate::proofs::Hearing::told_still))]
+    #[tactic(auto, using(crate::proofs::Hearing::heard_keeping, crate::proofs::Hearing::shown_keeping, crate::proofs::Hearing::told_keeping))]
     pub(crate) fn next(&mut self) -> Option<Notice>
         ensures hears { HearsOn self.old.peers self.new.peers }
+        ensures keeps { Keeps self.old.peers self.new.peers }
+        ensures frames { frames_of self.new.peers ≡ frames_of self.old.peers }
+        ensures heard { heard_of self.new.peers ≡ heard_of self.old.peers ++ heard_by result }
         ensures told { IfSome result (λ notice. IsTold (own_of self.new.peers) (passed_of self.new.peers) notice) }
     {
         self.peers.next()
@@ -73,6 +78,8 @@ impl Company {
     #[tactic(auto, using(crate::proofs::Hearing::heard_more, crate::proofs::Hearing::shown_more))]
     pub(crate) fn hear<W: Wire>(&mut self, wire: &mut W, now: u64)
         ensures hears { HearsOn self.old.peers self.new.peers }
+        ensures grew { Grew self.old.peers self.new.peers (W.passed wire.old) (W.passed wire.new) }
+        ensures writing { (seat : ℕ) → wrote_over (W.passed wire.new) (Seat seat) ≡ wrote_over (W.passed wire.old) (Seat seat) }
         ensures seats { seats_in (W.passed wire.new) ≡ seats_in (W.passed wire.old) }
         ensures log { logged_in (W.passed wire.new) ≡ logged_in (W.passed wire.old) }
     {
@@ -80,9 +87,11 @@ impl Company {
     }
 
     /// Writes what waits for peers, and first tells them how the node is, where that is due.
-    #[tactic(auto, using(crate::proofs::Hearing::heard_later, crate::proofs::Hearing::shown_later))]
+    #[tactic(auto, using(crate::proofs::Hearing::heard_later, crate::proofs::Hearing::shown_later, crate::proofs::Hearing::grew_later))]
     pub(crate) fn speak<W: Wire>(&mut self, beat: OwnReport, wire: &mut W, now: u64)
         ensures hears { HearsOn self.old.peers self.new.peers }
+        ensures grew { Grew self.old.peers self.new.peers (W.passed wire.old) (W.passed wire.new) }
+        ensures writing { (seat : ℕ) → wrote_over (W.passed wire.new) (Seat seat) ≡ wrote_over (W.passed wire.old) (Seat seat) }
         ensures seats { seats_in (W.passed wire.new) ≡ seats_in (W.passed wire.old) }
         ensures log { logged_in (W.passed wire.new) ≡ logged_in (W.passed wire.old) }
     {
@@ -91,9 +100,12 @@ impl Company {
     }
 
     /// Hands a frame to the peers.
-    #[tactic(auto, using(crate::proofs::Hearing::heard_still, crate::proofs::Hearing::shown_still))]
+    #[tactic(auto, using(crate::proofs::Hearing::heard_keeping, crate::proofs::Hearing::shown_keeping))]
     pub(crate) fn send(&mut self, to: u8, frame: &[u8], now: u64)
         ensures hears { HearsOn self.old.peers self.new.peers }
+        ensures keeps { Keeps self.old.peers self.new.peers }
+        ensures frames { frames_of self.new.peers ≡ frames_of self.old.peers ++ Wrote (Peer to) frame.now ∷ [] }
+        ensures heard { heard_of self.new.peers ≡ heard_of self.old.peers }
         ensures sends { Sends to frame.now self.old.peers.peers.items self.new.peers.peers.items }
     {
         self.peers.send(to, frame, now);
@@ -102,7 +114,8 @@ impl Company {
     /// The node has promised this ballot.
     #[tactic(auto, using(crate::proofs::Hearing::heard_still, crate::proofs::Hearing::shown_still))]
     pub(crate) fn set_promised(&mut self, promised: Option<Ballot>)
-        ensures { HearsOn self.old.peers self.new.peers }
+        ensures hears { HearsOn self.old.peers self.new.peers }
+        ensures stays { Stays self.old.peers self.new.peers }
     {
         self.peers.set_promised(promised);
     }
@@ -110,7 +123,8 @@ impl Company {
     /// A peer counts as absent once it was silent for so long.
     #[tactic(auto, using(crate::proofs::Hearing::heard_still, crate::proofs::Hearing::shown_still))]
     pub(crate) fn set_silence(&mut self, silence: u64)
-        ensures { HearsOn self.old.peers self.new.peers }
+        ensures hears { HearsOn self.old.peers self.new.peers }
+        ensures stays { Stays self.old.peers self.new.peers }
     {
         self.peers.set_silence(silence);
     }
@@ -118,7 +132,8 @@ impl Company {
     /// So much of the time that went by until now isn't counted as silence of peers.
     #[tactic(auto, using(crate::proofs::Hearing::heard_still, crate::proofs::Hearing::shown_still))]
     pub(crate) fn forgive(&mut self, lost: u64, now: u64)
-        ensures { HearsOn self.old.peers self.new.peers }
+        ensures hears { HearsOn self.old.peers self.new.peers }
+        ensures stays { Stays self.old.peers self.new.peers }
     {
         self.peers.forgive(lost, now);
     }

@@ -1,27 +1,30 @@
 //! A node's process at its wires: each call of the node, and what it made handed on.
 
-ghost use Rattle.std.specs.Prelude.{◌≡◌, ◌<◌, [], ◌∷◌, ◌++◌, map, IfSome};
+ghost use Rattle.std.specs.Prelude.{◌≡◌, ◌<◌, List, [], ◌∷◌, ◌++◌, map, IfSome};
 ghost use Rattle.dealer_world.specs.Calls.{added_by};
 ghost use Rattle.dealer_world.specs.KeptShown.{reader_by};
 ghost use Rattle.dealer_world.specs.Recordings.{text_by};
 ghost use Rattle.node_peers.specs.Hearing.{IsTold};
-ghost use Rattle.node_peers.specs.Peering.{own_of, passed_of};
+ghost use Rattle.node_peers.specs.Peering.{own_of, passed_of, frames_of, heard_of, Keeps};
 ghost use Rattle.node_peers.specs.Sending.{Sends};
 ghost use Rattle.node_seats.specs.Seating.{Tells};
-ghost use Rattle.node_wires.specs.Passages.{logged_in, seats_in};
+ghost use Rattle.node_seats.specs.Telling.{lines_of, AreSaid};
+ghost use Rattle.node_wires.specs.declared.line.Line.TheVariants.{Peer};
+ghost use Rattle.node_wires.specs.Passages.{Passage, Wrote, logged_in, seats_in};
+ghost use Rattle.protocol_model.specs.Dealers.{Seat as OfSeat};
 ghost use Rattle.node_service.specs.Showing.{added, LogGains};
-ghost use Rattle.node_service.specs.Arriving.{frames_of};
-ghost use Rattle.node_service.specs.Telling.{told_of, told_by, incoming_by};
+ghost use Rattle.node_service.specs.Telling.{told_by, incoming_by};
 ghost use Rattle.node_service.specs.Company.{HearsOn};
-ghost use Rattle.node_service.specs.Sittings.{seat_in, IsGivenBy, Loosens, Frees, Refuses};
-ghost use Rattle.node_service.specs.Handed.{ToPeer, ToSeat, mark_handed, line_handed, lines_handed};
+ghost use Rattle.node_service.specs.Sittings.{seat_in, Loosens, Frees, Refuses};
+ghost use Rattle.node_service.specs.Handed.{mark_handed, line_handed, lines_handed};
+ghost use Rattle.node_service.specs.Crossing.{KeepsLines};
+ghost use Rattle.node_service.specs.Handing.{HandsOn};
 
 use crate::company::Company;
-use crate::handed::Handed;
 use crate::limits::{LONG, SEATS};
 use crate::local_node::LocalNode;
 use crate::sitting::Sittings;
-use dealer_node::{NodeFault, Out, Reader};
+use dealer_node::{Out, Reader};
 use dealer_world::Event;
 use node_links::OwnReport;
 use node_peers::Notice;
@@ -39,9 +42,6 @@ pub(crate) struct Desk<D: Disk + Drop, W: Wire + Drop> {
     pub(crate) askers: Askers,
     /// The log couldn't be written: nothing more goes into it.
     pub(crate) log_failed: bool,
-    /// What was handed on, and what was told of peers, for clauses alone.
-    pub(crate) handed: Handed,
-    pub(crate) heard: Handed,
     /// How the bots of seats are at the node.
     pub(crate) sittings: Sittings,
 }
@@ -56,8 +56,6 @@ impl<D: Disk + Drop, W: Wire + Drop> Drop for Desk<D, W> {
             seats: _,
             askers: _,
             log_failed: _,
-            handed: _,
-            heard: _,
             sittings: _,
         } = self;
     }
@@ -107,58 +105,36 @@ fn note_gone(notice: &Option<SeatNotice>, sittings: &mut Sittings)
     }
 }
 
-/// Whether a call that was answered so was given what it brought.
-fn is_given(answer: Option<Result<(), NodeFault>>) -> bool
-    ensures { IsGivenBy result answer }
-{
-    match answer {
-        None => false,
-        Some(Ok(())) => true,
-        Some(Err(NodeFault::OutOfMemory)) => false,
-        Some(Err(_)) => true,
-    }
-}
-
-/// Puts down the frame that a notice of peers tells, if it tells one.
-fn note_heard(notice: &Notice, heard: &mut Handed)
-    ensures { heard.new.items ≡ heard.old.items ++ frames_of (told_of notice.now) }
-{
-    match notice {
-        Notice::Frame { from, frame } => heard.heard(*from, frame.bytes.as_slice()),
-        Notice::Joined { .. }
-        | Notice::Gone { .. }
-        | Notice::Refused { .. }
-        | Notice::Strangers { .. } => (),
-    }
-}
-
 /// Hands a frame to the peers.
-fn send(to: u8, frame: &[u8], company: &mut Company, handed: &mut Handed, now: u64)
-    ensures handed { handed.new.items ≡ handed.old.items ++ ToPeer to frame.now ∷ [] }
+fn send(to: u8, frame: &[u8], company: &mut Company, now: u64)
+    ensures frames { frames_of company.new.peers ≡ frames_of company.old.peers ++ Wrote (Peer to) frame.now ∷ [] }
+    ensures keeps { Keeps company.old.peers company.new.peers }
+    ensures heard { heard_of company.new.peers ≡ heard_of company.old.peers }
     ensures hears { HearsOn company.old.peers company.new.peers }
     ensures sent { Sends to frame.now company.old.peers.peers.items company.new.peers.peers.items }
 {
     company.send(to, frame, now);
-    handed.sent(to, frame);
 }
 
 /// Hands the frames that a call made to the peers, in order.
-fn send_all(made: &Out, company: &mut Company, handed: &mut Handed, now: u64)
-    ensures handed { handed.new.items ≡ handed.old.items ++ map mark_handed made.now.frames }
+fn send_all(made: &Out, company: &mut Company, now: u64)
+    ensures frames { frames_of company.new.peers ≡ frames_of company.old.peers ++ map mark_handed made.now.frames }
+    ensures keeps { Keeps company.old.peers company.new.peers }
+    ensures heard { heard_of company.new.peers ≡ heard_of company.old.peers }
     ensures hears { HearsOn company.old.peers company.new.peers }
 {
     for (to, frame) in made.frames() {
-        send(to, frame, company, handed, now);
+        send(to, frame, company, now);
     }
 }
 
-/// Hands a line to the seats. False where who sits there is to be let go of, since he reads too little: then the line isn't
+/// Tells a line to the seats. False where who sits there is to be let go of, since he reads too little: then the line isn't
 /// kept for him.
-fn tell(seat: usize, line: &[u8], seats: &mut Seats, handed: &mut Handed) -> bool
-    ensures handed { handed.new.items ≡ handed.old.items ++ ToSeat seat line.now ∷ [] }
-    ensures told { seat < SEATS → Tells seat line.now result seats.old.seats.items seats.new.seats.items }
+fn tell(seat: usize, line: &[u8], seats: &mut Seats) -> bool
+    ensures told { lines_of seats.new ≡ lines_of seats.old ++ line_handed (OfSeat seat) line.now }
+    ensures tells { seat < SEATS → Tells seat line.now result seats.old.seats.items seats.new.seats.items }
+    ensures said { (passed : List Passage) → AreSaid passed (lines_of seats.old) seats.old.seats.items → AreSaid passed (lines_of seats.new) seats.new.seats.items }
 {
-    handed.told(seat, line);
     seat >= SEATS as usize || seats.tell(seat as u8, line)
 }
 
@@ -166,6 +142,7 @@ fn tell(seat: usize, line: &[u8], seats: &mut Seats, handed: &mut Handed) -> boo
 fn log<W: Wire>(wire: &mut W, log_failed: &mut bool, text: &[u8])
     ensures log { LogGains log_failed.old log_failed.new text.now (logged_in (W.passed wire.old)) (logged_in (W.passed wire.new)) }
     ensures seats { seats_in (W.passed wire.new) ≡ seats_in (W.passed wire.old) }
+    ensures lines { KeepsLines (W.passed wire.old) (W.passed wire.new) }
 {
     if *log_failed {
         return;
@@ -183,15 +160,16 @@ fn show<W: Wire>(
     wire: &mut W,
     seats: &mut Seats,
     log_failed: &mut bool,
-    handed: &mut Handed,
 ) -> u16
     ensures log { LogGains log_failed.old log_failed.new (added_by (reader_by reader) text.now) (logged_in (W.passed wire.old)) (logged_in (W.passed wire.new)) }
     ensures seats { seats_in (W.passed wire.new) ≡ seats_in (W.passed wire.old) }
-    ensures handed { handed.new.items ≡ handed.old.items ++ line_handed (reader_by reader) text.now }
+    ensures told { lines_of seats.new ≡ lines_of seats.old ++ line_handed (reader_by reader) text.now }
+    ensures lines { KeepsLines (W.passed wire.old) (W.passed wire.new) }
+    ensures said { AreSaid (W.passed wire.old) (lines_of seats.old) seats.old.seats.items → AreSaid (W.passed wire.new) (lines_of seats.new) seats.new.seats.items }
 {
     match reader {
         Reader::Seat(seat) => {
-            if tell(seat, text, seats, handed) || seat >= SEATS as usize {
+            if tell(seat, text, seats) || seat >= SEATS as usize {
                 0
             } else {
                 bit_of(seat as u8)
@@ -206,52 +184,26 @@ fn show<W: Wire>(
 
 /// Hands on what a call showed, in order: text into the log, unless that has failed, and lines to seats. It says which
 /// seats are to be let go of.
-fn show_all<W: Wire>(
-    made: &Out,
-    wire: &mut W,
-    seats: &mut Seats,
-    log_failed: &mut bool,
-    handed: &mut Handed,
-) -> u16
+fn show_all<W: Wire>(made: &Out, wire: &mut W, seats: &mut Seats, log_failed: &mut bool) -> u16
     ensures log { LogGains log_failed.old log_failed.new (added (map text_by made.now.shown)) (logged_in (W.passed wire.old)) (logged_in (W.passed wire.new)) }
     ensures seats { seats_in (W.passed wire.new) ≡ seats_in (W.passed wire.old) }
-    ensures handed { handed.new.items ≡ handed.old.items ++ lines_handed (map text_by made.now.shown) }
+    ensures told { lines_of seats.new ≡ lines_of seats.old ++ lines_handed (map text_by made.now.shown) }
+    ensures lines { KeepsLines (W.passed wire.old) (W.passed wire.new) }
+    ensures said { AreSaid (W.passed wire.old) (lines_of seats.old) seats.old.seats.items → AreSaid (W.passed wire.new) (lines_of seats.new) seats.new.seats.items }
 {
     let mut deaf = 0u16;
     for (reader, text) in made.shown() {
-        deaf |= show(reader, text, wire, seats, log_failed, handed);
+        deaf |= show(reader, text, wire, seats, log_failed);
     }
     deaf
 }
 
 impl<D: Disk + Drop, W: Wire + Drop> Desk<D, W> {
-    ghost use Rattle.node_service.specs.Arriving.{taken_for};
-    ghost use Rattle.node_service.specs.Desks.{served_by, IsKept};
-    ghost use Rattle.node_service.specs.Going.{GoesOn, Takes};
-
-    /// Gives an event to the node: none that isn't its own, and nothing of a seat whose bot isn't here. What it made is handed
-    /// on. A bot of which something is lost is let go of.
-    pub(crate) fn step(&mut self, event: &Event) -> Option<Result<(), NodeFault>>
-        ensures { GoesOn D.Disk (taken_for event.now) (served_by W.Wire self.old) (served_by W.Wire self.new) }
-    {
-        if !self.sittings.admits(event, self.member.node().running()) {
-            self.refuse(event);
-            return None;
-        }
-        let answer = self.member.step(event);
-        let deaf = self.hand_on();
-        self.company.set_promised(self.member.node().promised());
-        if !is_given(answer) {
-            self.refuse(event);
-            return answer;
-        }
-        self.sittings.settle(event);
-        self.hang_up_all(deaf);
-        answer
-    }
+    ghost use Rattle.node_service.specs.Desks.{served_by, IsKept, IsKeptWith};
+    ghost use Rattle.node_service.specs.Going.{Takes};
 
     /// The node isn't given this: the bot that it is of is let go of.
-    fn refuse(&mut self, event: &Event)
+    pub(crate) fn refuse(&mut self, event: &Event)
         ensures kept { IsKept W.Wire self.old self.new }
         ensures refuses { Refuses event.now self.old.sittings self.new.sittings }
     {
@@ -263,24 +215,27 @@ impl<D: Disk + Drop, W: Wire + Drop> Desk<D, W> {
 
     /// Hands on what the last call made, in order. It says which seats are to be let go of, a bit each: those that read too
     /// little.
-    fn hand_on(&mut self) -> u16
+    pub(crate) fn hand_on(&mut self) -> u16
         ensures member { self.new.member ≡ self.old.member }
-        ensures log { LogGains self.old.log_failed self.new.log_failed (added (map text_by self.old.member.made.shown)) (logged_in (W.passed self.old.wire)) (logged_in (W.passed self.new.wire)) }
-        ensures seats { seats_in (W.passed self.new.wire) ≡ seats_in (W.passed self.old.wire) }
-        ensures heard { self.new.heard.items ≡ self.old.heard.items }
         ensures sittings { self.new.sittings ≡ self.old.sittings }
-        ensures hears { HearsOn self.old.company.peers self.new.company.peers }
-        ensures handed { self.new.handed.items ≡ self.old.handed.items ++ (map mark_handed self.old.member.made.frames ++ lines_handed (map text_by self.old.member.made.shown)) }
+        ensures hands { HandsOn self.old.member.made (served_by W.Wire self.old) (served_by W.Wire self.new) }
     {
         let now = self.wire.now();
-        send_all(self.member.made(), &mut self.company, &mut self.handed, now);
+        send_all(self.member.made(), &mut self.company, now);
         show_all(
             self.member.made(),
             &mut self.wire,
             &mut self.seats,
             &mut self.log_failed,
-            &mut self.handed,
         )
+    }
+
+    /// Peers are told from now on what the node has promised.
+    pub(crate) fn note_promised(&mut self)
+        ensures kept { IsKept W.Wire self.old self.new }
+        ensures sittings { self.new.sittings ≡ self.old.sittings }
+    {
+        self.company.set_promised(self.member.node().promised());
     }
 
     /// The present moment.
@@ -326,13 +281,7 @@ impl<D: Disk + Drop, W: Wire + Drop> Desk<D, W> {
         ensures takes { Takes D.Disk (told_by result) (served_by W.Wire self.old) (served_by W.Wire self.new) }
         ensures told { IfSome result (λ notice. IsTold (own_of self.new.company.peers) (passed_of self.new.company.peers) notice) }
     {
-        match self.company.next() {
-            Some(notice) => {
-                note_heard(&notice, &mut self.heard);
-                Some(notice)
-            }
-            None => None,
-        }
+        self.company.next()
     }
 
     /// What came next of a seat.
@@ -409,7 +358,7 @@ impl<D: Disk + Drop, W: Wire + Drop> Desk<D, W> {
 
     /// Gives a line to those who ask how the node is. Without memory some of them wait further.
     pub(crate) fn answer(&mut self, line: &[u8])
-        ensures { IsKept W.Wire self.old self.new }
+        ensures { IsKeptWith W.Wire (λ given. given ≡ line.now) self.old self.new }
     {
         let _ = self.askers.answer(line);
     }

@@ -12,9 +12,9 @@
 #![tactic(auto)]
 
 mod company;
+mod deals;
 mod desk;
 mod ending;
-mod handed;
 mod lasting;
 pub mod laws;
 mod limits;

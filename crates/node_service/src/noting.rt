@@ -2,6 +2,7 @@
 
 ghost use Rattle.std.specs.Prelude.{◌≡◌, ◌<◌};
 ghost use Rattle.node_service.specs.declared.limits.TheConstants.{SEATS as COUNT};
+ghost use Rattle.node_service.specs.Knowing.{seat_to_act};
 
 use crate::limits::SEATS;
 use crate::local_node::LocalNode;
@@ -31,7 +32,9 @@ pub(crate) fn seen_of<D: Disk + Drop>(member: &LocalNode<D>) -> Seen {
 }
 
 /// The seat to act; none where no hand runs.
-pub(crate) fn seat_to_act(table: &Table) -> Option<u8> {
+pub(crate) fn seat_to_act(table: &Table) -> Option<u8>
+    ensures { result ≡ seat_to_act table.now }
+{
     let hand = table.dealt().checked_sub(1)?;
     let play = table.play(hand)?;
     let players = play.players();

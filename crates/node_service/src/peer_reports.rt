@@ -1,8 +1,9 @@
 //! What each peer has told of itself.
 
-ghost use Rattle.std.specs.Prelude.{◌≡◌, ◌≤◌, length};
+ghost use Rattle.std.specs.Prelude.{◌≡◌, ◌≤◌, List, [], length, min, take, slice_get};
 ghost use Rattle.clockwork.specs.PeerReports.{report_after};
 ghost use Rattle.clockwork.specs.declared.limits.TheConstants.{MOST_PEERS};
+ghost use Rattle.node_service.specs.Knowing.{link_by};
 
 use crate::limits::NODES;
 use clockwork::limits::MOST_PEERS;
@@ -94,6 +95,8 @@ impl LastReport {
 }
 
 impl PeerReports {
+    ghost use Rattle.node_service.specs.Knowing.{peer_by, tells_seat};
+
     /// Nobody has told anything.
     pub(crate) fn new() -> PeerReports {
         PeerReports {
@@ -133,7 +136,9 @@ impl PeerReports {
     }
 
     /// Whether a seat sits at a peer, as far as that has told over its open connection.
-    pub(crate) fn has_seat(&self, peer: u8, seat: u8) -> bool {
+    pub(crate) fn has_seat(&self, peer: u8, seat: u8) -> bool
+        ensures { result ≡ tells_seat (slice_get self.now.all peer) seat }
+    {
         match self.all.get(peer as usize) {
             Some(report) => seat < 16 && report.seats & (1 << seat) != 0,
             None => false,
@@ -141,7 +146,9 @@ impl PeerReports {
     }
 
     /// A peer as `clockwork` sees it, which owes an answer from before its connection opened or doesn't.
-    pub(crate) fn peer(&self, number: u8, view: &View, is_owed: bool) -> Peer {
+    pub(crate) fn peer(&self, number: u8, view: &View, is_owed: bool) -> Peer
+        ensures { result ≡ peer_by self.now number view.now is_owed }
+    {
         let beat = match self.all.get(number as usize) {
             Some(report) => report.beat,
             None => None,
@@ -155,7 +162,9 @@ impl PeerReports {
 }
 
 /// The connection to a peer as `clockwork` sees it.
-fn link_of(view: &View, beat: Option<PeerReport>, is_owed: bool) -> Link {
+fn link_of(view: &View, beat: Option<PeerReport>, is_owed: bool) -> Link
+    ensures { result ≡ link_by view.now beat is_owed }
+{
     if !view.is_open {
         return Link::Closed { since: view.since };
     }
@@ -176,8 +185,13 @@ pub(crate) struct Others {
 }
 
 impl Others {
+    ghost use Rattle.node_service.specs.Others.{listed};
+    ghost use Rattle.node_service.specs.Knowing.{with_one};
+
     /// None.
-    pub(crate) fn new() -> Others {
+    pub(crate) fn new() -> Others
+        ensures { listed result ≡ [] }
+    {
         Others {
             all: [Peer {
                 number: 0,
@@ -188,8 +202,14 @@ impl Others {
         }
     }
 
-    /// One more, while there is a place.
-    pub(crate) fn push(&mut self, peer: Peer) {
+    /// One more, if it is one, while there is a place.
+    #[tactic(auto, using(crate::proofs::Others::one_listed, crate::proofs::Others::none_listed))]
+    pub(crate) fn push(&mut self, peer: Option<Peer>)
+        ensures { listed self.new ≡ with_one (listed self.old) peer }
+    {
+        let Some(peer) = peer else {
+            return;
+        };
         if self.count < MOST_PEERS {
             self.all[self.count] = peer;
             self.count += 1;
@@ -198,7 +218,8 @@ impl Others {
 
     /// All that were put there.
     pub(crate) fn as_slice(&self) -> &[Peer]
-        ensures { length result.now ≤ MOST_PEERS }
+        ensures value { result.now ≡ listed self.now }
+        ensures most { length result.now ≤ MOST_PEERS }
     {
         &self.all[..self.count.min(MOST_PEERS)]
     }

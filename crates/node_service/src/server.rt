@@ -5,15 +5,18 @@ ghost use Rattle.dealer_node.specs.Seeing.{runs};
 ghost use Rattle.dealer_node.specs.Taking.{TakesDown};
 ghost use Rattle.node_links.specs.declared.limits.TheConstants.{LOOK};
 ghost use Rattle.node_service.specs.Arriving.{taken_for};
-ghost use Rattle.node_peers.specs.Peering.{own_of, passed_of};
+ghost use Rattle.node_peers.specs.Peering.{own_of, passed_of, frames_of, heard_of};
+ghost use Rattle.node_seats.specs.Telling.{lines_of};
+ghost use Rattle.node_service.specs.Crossing.{IsCarried, Carries};
 ghost use Rattle.node_service.specs.Company.{IsShown};
 ghost use Rattle.node_service.specs.Ending.{is_well, IsOverAt};
+ghost use Rattle.node_service.specs.Logging.{HasOneLog, IsAcceptedOver};
 ghost use Rattle.node_service.specs.Fitting.{Fits};
 ghost use Rattle.node_service.specs.declared.outcome.Outcome.TheVariants.{GoesOn as Further, Over as IsOver, Failed};
 
 use crate::company::Company;
+use crate::deals::read_deals;
 use crate::desk::Desk;
-use crate::handed::Handed;
 use crate::lasting::Lasting;
 use crate::limits::NODES;
 use crate::local_node::LocalNode;
@@ -29,12 +32,14 @@ use clockwork::Watch;
 use clockwork::limits::SHORTEST;
 use dealer_node::NodeFault;
 use dealer_world::Event;
+use match_log::laws::{commands_add_to_the_log, logs_begin_with_their_header};
 use node_peers::Peers;
 use node_seats::Seats;
 use node_status::Askers;
 use node_wires::Wire;
 use paxos_wire::Ballot;
 use promise_store::Disk;
+use slot_log::laws::{fronts_go_on, hands_come_of_commands};
 use stations::Station;
 use std::alloc::Global;
 
@@ -59,8 +64,11 @@ pub struct NodeServer<D: Disk + Drop, W: Wire + Drop> {
     pub(crate) rate: Rate,
     /// How long a peer may be silent and still counts as present.
     pub(crate) pace: u64,
-    /// The node learns what was chosen before, as it was when it was last asked what is due.
+    /// When it was last looked at what is due; and by what was known then: whether the node learns what was chosen before, and
+    /// how many present nodes have a lower number.
+    pub(crate) looked: u64,
     pub(crate) replays: bool,
+    pub(crate) rank: usize,
     pub(crate) nodes: u8,
     /// When the process began, and when it last left a turn.
     pub(crate) began: u64,
@@ -85,7 +93,9 @@ impl<D: Disk + Drop, W: Wire + Drop> Drop for NodeServer<D, W> {
             turn_timer: _,
             rate: _,
             pace: _,
+            looked: _,
             replays: _,
+            rank: _,
             nodes: _,
             began: _,
             left: _,
@@ -127,8 +137,9 @@ fn outcome_after(
 
 impl<D: Disk + Drop, W: Wire + Drop> NodeServer<D, W> {
     ghost use Rattle.node_service.specs.Desks.{IsKept};
-    ghost use Rattle.node_service.specs.Going.{GoesOn};
+    ghost use Rattle.node_service.specs.Going.{GoesOn, GoesOnToLife, Does};
     ghost use Rattle.node_service.specs.Serving.{served_of, told_in, station_of, outcome_in, look_in};
+    ghost use Rattle.node_service.specs.Knowing.{MayCall};
 
     /// The process of this member, by these terms. Nothing is done yet. Where the peers are those of another node nothing ever
     /// is.
@@ -147,6 +158,10 @@ impl<D: Disk + Drop, W: Wire + Drop> NodeServer<D, W> {
         ensures told { told_in result ≡ [] }
         ensures own { (served_of result).own ≡ own_of peers }
         ensures lines { (served_of result).lines ≡ passed_of peers }
+        ensures sent { (served_of result).sent ≡ frames_of peers }
+        ensures lines_told { (served_of result).told ≡ lines_of seats }
+        ensures heard { (served_of result).heard ≡ heard_of peers }
+        ensures carried { IsCarried (W.passed wire) (passed_of peers) (lines_of seats) seats.seats.items askers.askers.items → Carries (served_of result) }
         ensures peers { outcome_in result ≡ Further → (own_of peers).number ≡ (look_in result).number }
         ensures fits { (look_in result).deeds ≡ [] → Fits (served_of result) }
     {
@@ -166,8 +181,6 @@ impl<D: Disk + Drop, W: Wire + Drop> NodeServer<D, W> {
                 seats,
                 askers,
                 log_failed: false,
-                handed: Handed::new(),
-                heard: Handed::new(),
                 sittings: Sittings::new(),
             },
             watch: Watch::new(seen, now),
@@ -176,7 +189,9 @@ impl<D: Disk + Drop, W: Wire + Drop> NodeServer<D, W> {
             turn_timer: TurnTimer::new(terms.patience, now),
             rate: Rate::new(seen.front, now),
             pace: SHORTEST,
+            looked: now,
             replays: false,
+            rank: 0,
             nodes: terms.nodes.min(NODES as u8),
             began: now,
             left: now,
@@ -192,6 +207,35 @@ impl<D: Disk + Drop, W: Wire + Drop> NodeServer<D, W> {
         ensures { result.now ≡ station_of self.now }
     {
         self.desk.member.station()
+    }
+
+    /// What holds of the log of every server: where its node was started once, by a start that went well, over an honest disk
+    /// that the node's earlier processes left, what it showed to the log is the dealer's log after the commands that it has
+    /// applied, whatever its peers sent.
+    pub fn limits(&self)
+        ensures { HasOneLog D.Disk (look_in self.now) }
+    {
+        commands_add_to_the_log();
+        fronts_go_on();
+        logs_begin_with_their_header();
+        let station = self.desk.member.station();
+        station.limits();
+        station.config().limits();
+    }
+
+    /// What holds of that log once the match is over here: it is one that `match_log::check` accepts. It reads the deal of each
+    /// hand.
+    pub fn read_deals(&self)
+        ensures { IsAcceptedOver D.Disk (look_in self.now) }
+    {
+        hands_come_of_commands();
+        self.limits();
+        let station = self.desk.member.station();
+        station.limits();
+        station.config().limits();
+        let table = station.node().table();
+        table.limits();
+        read_deals(table);
     }
 
     /// The wires of the process.
@@ -252,9 +296,19 @@ impl<D: Disk + Drop, W: Wire + Drop> NodeServer<D, W> {
         }
     }
 
-    /// Starts the node, unless the process is to end.
+    /// A call that was answered with a fault ends the process.
+    fn end_by(&mut self, answer: Option<Result<(), NodeFault>>)
+        ensures { self.new.desk ≡ self.old.desk }
+    {
+        match answer {
+            Some(Err(fault)) => self.end(Outcome::Failed(fault)),
+            _ => (),
+        }
+    }
+
+    /// Starts the node, unless the process is to end, or it was started before.
     pub fn start(&mut self) -> Outcome
-        ensures goes { GoesOn D.Disk [] (served_of self.old) (served_of self.new) }
+        ensures goes { Does D.Disk [] (served_of self.old) (served_of self.new) }
         ensures log { is_well result ≡ true → (served_of self.new).log_failed ≡ false }
         ensures runs { is_well result ≡ true → runs (look_in self.new).node ≡ true }
         ensures over { result ≡ IsOver → IsOverAt D.Disk (look_in self.new).node }
@@ -263,24 +317,26 @@ impl<D: Disk + Drop, W: Wire + Drop> NodeServer<D, W> {
         if self.outcome != Outcome::GoesOn {
             return self.outcome();
         }
-        let node = self.desk.member.number();
-        match self.call(&Event::Start { node }) {
-            Some(Err(fault)) => self.end(Outcome::Failed(fault)),
-            _ => (),
+        if self.desk.member.is_started() {
+            return self.outcome();
         }
+        let node = self.desk.member.number();
+        let answer = self.call(&Event::Start { node });
+        self.end_by(answer);
         self.is_started = true;
         self.outcome()
     }
 
-    /// One call of the node: what it made is handed on, and written as far as there is room.
+    /// One call of the node: what it made is handed on, and written as far as there is room. It ticks, and is ordered that a
+    /// seat is played for, only where that is due by what the process knows.
     pub(crate) fn call(&mut self, event: &Event) -> Option<Result<(), NodeFault>>
-        ensures goes { GoesOn D.Disk (taken_for event.now) (served_of self.old) (served_of self.new) }
+        requires { MayCall self.old event.now }
+        ensures goes { Does D.Disk (taken_for event.now) (served_of self.old) (served_of self.new) }
         ensures failed { (fault : NodeFault) → outcome_in self.new ≡ Failed fault → (outcome_in self.old ≡ Failed fault) ⊎ (result ≡ Some (Err fault)) }
         ensures down { IfSome result (λ answer. TakesDown answer → is_well (outcome_in self.new) ≡ false) }
     {
         let outcome = self.outcome;
-        let before = self.desk.now();
-        let answer = self.desk.step(event);
+        let (answer, before) = self.step(event);
         let now = self.desk.now();
         self.note_faults(answer.is_some());
         self.note_seen(before, now);
@@ -326,6 +382,7 @@ impl<D: Disk + Drop, W: Wire + Drop> NodeServer<D, W> {
     /// do, and how long the next turn may wait. Once the process is to end nothing is done.
     pub fn turn(&mut self, alloc: Global, most: u64) -> (Outcome, u64)
         ensures goes { GoesOn D.Disk [] (served_of self.old) (served_of self.new) }
+        ensures lives { GoesOnToLife D.Disk (served_of self.old) (served_of self.new) }
         ensures log { is_well result.0 ≡ true → (served_of self.new).log_failed ≡ false }
         ensures runs { is_well result.0 ≡ true → runs (look_in self.new).node ≡ true }
         ensures over { result.0 ≡ IsOver → IsOverAt D.Disk (look_in self.new).node }

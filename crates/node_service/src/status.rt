@@ -1,5 +1,7 @@
 //! How the node is, for whoever asks.
 
+ghost use Rattle.std.specs.Prelude.{◌≡◌, [], nat_lt, IfOk, Some};
+
 use crate::limits::SEATS;
 use crate::server::NodeServer;
 use clockwork::is_heard;
@@ -10,33 +12,53 @@ use promise_store::Disk;
 use std::alloc::{AllocError, Global};
 
 impl<D: Disk + Drop, W: Wire + Drop> NodeServer<D, W> {
-    ghost use Rattle.node_service.specs.Desks.{IsKept};
+    ghost use Rattle.node_service.specs.Asking.{IsStatusLine};
+    ghost use Rattle.node_service.specs.Going.{Does};
+    ghost use Rattle.node_service.specs.Serving.{served_of, look_in};
+    ghost use Rattle.node_service.specs.Knowing.{is_there, sits_here, sits_at_peer, sits_below};
 
     /// Whether a peer is there: its connection is open, and it wasn't silent for long.
-    pub(crate) fn is_present(&self, view: &View, now: u64) -> bool {
+    pub(crate) fn is_present(&self, view: &View, now: u64) -> bool
+        ensures { result ≡ is_there (Some view.now) now self.now.pace }
+    {
         view.is_open && is_heard(view.heard, now, self.pace)
     }
 
     /// Whether a bot sits here at a seat.
-    pub(crate) fn sits_here(&self, seat: u8) -> bool {
-        seat < SEATS && self.desk.seats.bits() & (1 << seat) != 0
+    pub(crate) fn sits_here(&self, seat: u8) -> bool
+        ensures { result ≡ sits_here self.now seat }
+    {
+        seat < SEATS && self.desk.seats.sits(seat as usize)
+    }
+
+    /// Whether one does at the peer of this number, as far as that is there and has told.
+    fn sits_at_peer(&self, number: u8, seat: u8, now: u64) -> bool
+        ensures { result ≡ sits_at_peer self.now seat now number }
+    {
+        match self.desk.company.peers.view(number) {
+            Some(view) => self.is_present(&view, now) && self.reports.has_seat(number, seat),
+            None => false,
+        }
     }
 
     /// At how many of the other nodes with numbers below this one does, as far as those that are there have told.
-    pub(crate) fn sits_below(&self, below: u8, seat: u8, now: u64) -> usize {
+    #[tactic(auto, using(crate::proofs::Counting::one_further, crate::proofs::Counting::none_further))]
+    pub(crate) fn sits_below(&self, below: u8, seat: u8, now: u64) -> usize
+        ensures { result ≡ sits_below self.now seat now below }
+    {
         let mut count = 0usize;
         for number in 0..below {
-            if let Some(view) = self.desk.company.peers.view(number) {
-                if self.is_present(&view, now) && self.reports.has_seat(number, seat) {
-                    count = count.saturating_add(1);
-                }
+            if self.sits_at_peer(number, seat, now) {
+                count += 1;
             }
         }
         count
     }
 
     /// Whether one does at another node, as far as those that are there have told.
-    pub(crate) fn sits_elsewhere(&self, seat: u8, now: u64) -> bool {
+    pub(crate) fn sits_elsewhere(&self, seat: u8, now: u64) -> bool
+        ensures { result ≡ nat_lt 0 (sits_below self.now seat now self.now.nodes) }
+    {
         self.sits_below(self.nodes, seat, now) > 0
     }
 
@@ -99,12 +121,15 @@ impl<D: Disk + Drop, W: Wire + Drop> NodeServer<D, W> {
     }
 
     /// The line that says how the node is.
-    fn status_line(&self, alloc: Global, now: u64) -> Result<Vec<u8>, AllocError> {
+    #[tactic(auto, using(crate::proofs::Asking::is_status))]
+    fn status_line(&self, alloc: Global, now: u64) -> Result<Vec<u8>, AllocError>
+        ensures { IfOk result (λ line. IsStatusLine (look_in self.now).number line.items) }
+    {
         let peers = self.peer_statuses(alloc, now)?;
         let seats = self.seat_statuses(alloc, now)?;
         let node = self.desk.member.node();
         let seen = self.watch.seen;
-        status_line(
+        let line = status_line(
             alloc,
             &Status {
                 node: self.desk.member.number(),
@@ -120,12 +145,13 @@ impl<D: Disk + Drop, W: Wire + Drop> NodeServer<D, W> {
                 pending: seen.act_waits,
                 commands: self.rate.last,
             },
-        )
+        )?;
+        Ok(line)
     }
 
     /// Gives the line to those who ask. Without memory for it they wait further.
     pub(crate) fn answer_askers(&mut self, alloc: Global, now: u64)
-        ensures { IsKept W.Wire self.old.desk self.new.desk }
+        ensures { Does D.Disk [] (served_of self.old) (served_of self.new) }
     {
         self.rate.see(self.watch.seen.front, now);
         if !self.desk.is_asked(now) {

@@ -37,12 +37,13 @@ pub(crate) enum Taken {
 
 impl<D: Disk + Drop, W: Wire + Drop> NodeServer<D, W> {
     ghost use Rattle.node_service.specs.Desks.{IsKept};
-    ghost use Rattle.node_service.specs.Going.{GoesOn};
+    ghost use Rattle.node_service.specs.Going.{Does, GoesOnToLife};
+    ghost use Rattle.node_service.specs.Taking.{StopsAtLife, TakesNext};
     ghost use Rattle.node_service.specs.Serving.{served_of};
 
     /// Takes what came, one thing after another, until calls have taken their time. It says whether nothing is left.
     pub(crate) fn take_all(&mut self, alloc: Global, begun: u64) -> bool
-        ensures { GoesOn D.Disk [] (served_of self.old) (served_of self.new) }
+        ensures { GoesOnToLife D.Disk (served_of self.old) (served_of self.new) }
     {
         for _ in 0..u64::MAX {
             let now = self.desk.now();
@@ -59,16 +60,24 @@ impl<D: Disk + Drop, W: Wire + Drop> NodeServer<D, W> {
     }
 
     /// Takes the next thing that came.
+    #[tactic(auto, using(crate::proofs::Going::without_life))]
     pub(crate) fn take_next(&mut self, alloc: Global, now: u64) -> Taken
-        ensures { GoesOn D.Disk [] (served_of self.old) (served_of self.new) }
+        ensures { TakesNext D.Disk result (served_of self.old) (served_of self.new) }
     {
         if let Some(seat) = self.desk.sittings.first_let_go() {
             self.leave(seat);
             return Taken::One;
         }
-        if let Some(notice) = self.desk.next_of_peers() {
-            return self.take_notice(alloc, notice);
+        match self.desk.next_of_peers() {
+            Some(notice) => self.take_notice(alloc, notice),
+            None => self.take_next_of_seats(now),
         }
+    }
+
+    /// Takes the next thing that came of a seat.
+    fn take_next_of_seats(&mut self, now: u64) -> Taken
+        ensures { TakesNext D.Disk result (served_of self.old) (served_of self.new) }
+    {
         match self.desk.next_of_seats(now) {
             Some(notice) => {
                 self.take_seat_notice(notice);
@@ -81,7 +90,8 @@ impl<D: Disk + Drop, W: Wire + Drop> NodeServer<D, W> {
     /// One thing that came of a peer.
     pub(crate) fn take_notice(&mut self, alloc: Global, notice: Notice) -> Taken
         requires { IsTold (own_of self.old.desk.company.peers) (passed_of self.old.desk.company.peers) notice }
-        ensures { GoesOn D.Disk (told_of notice) (served_of self.old) (served_of self.new) }
+        ensures goes { Does D.Disk (told_of notice) (served_of self.old) (served_of self.new) }
+        ensures stops { StopsAtLife result (told_of notice) }
     {
         match notice {
             Notice::Frame { from, frame } => {
@@ -110,18 +120,22 @@ impl<D: Disk + Drop, W: Wire + Drop> NodeServer<D, W> {
 
     /// A connection to a peer is open. A life that is to be kept is told before frames of its node are taken; where there is
     /// no memory to tell it that ends the process, since nobody would keep it.
+    #[tactic(auto, using(crate::proofs::Telling::stops_there, crate::proofs::Telling::stops_nowhere))]
     pub(crate) fn take_joined(&mut self, peer: u8, life: Option<Life>) -> Taken
         requires { IsTold (own_of self.old.desk.company.peers) (passed_of self.old.desk.company.peers) (Joined peer life) }
-        ensures { IsKept W.Wire self.old.desk self.new.desk }
+        ensures kept { IsKept W.Wire self.old.desk self.new.desk }
+        ensures stops { StopsAtLife result (told_of (Joined peer life)) }
     {
         let is_told = self.desk.company.tell(ServerNotice::Joined { peer, life });
-        if life.is_none() {
-            return Taken::One;
+        match life {
+            None => Taken::One,
+            Some(_) => {
+                if !is_told {
+                    self.end(Outcome::Failed(NodeFault::OutOfMemory));
+                }
+                Taken::Last
+            }
         }
-        if !is_told {
-            self.end(Outcome::Failed(NodeFault::OutOfMemory));
-        }
-        Taken::Last
     }
 
     /// A connection to a peer is closed by a fault. Where the peer keeps another life of this node's store, that ends the
@@ -141,7 +155,7 @@ impl<D: Disk + Drop, W: Wire + Drop> NodeServer<D, W> {
 
     /// A frame of a peer. Without memory for it, it is lost.
     pub(crate) fn take_frame(&mut self, alloc: Global, from: u8, bytes: &[u8])
-        ensures { GoesOn D.Disk (OfPeer from bytes.now ∷ []) (served_of self.old) (served_of self.new) }
+        ensures { Does D.Disk (OfPeer from bytes.now ∷ []) (served_of self.old) (served_of self.new) }
     {
         let to = self.desk.member.number();
         let Ok(bytes) = Vec::from_slice(alloc, bytes) else {
@@ -152,7 +166,7 @@ impl<D: Disk + Drop, W: Wire + Drop> NodeServer<D, W> {
 
     /// One thing that came of a seat.
     pub(crate) fn take_seat_notice(&mut self, notice: SeatNotice)
-        ensures { GoesOn D.Disk (incoming_of notice) (served_of self.old) (served_of self.new) }
+        ensures { Does D.Disk (incoming_of notice) (served_of self.old) (served_of self.new) }
     {
         match notice {
             SeatNotice::Came { seat } => self.seat_bot(seat),
@@ -164,7 +178,7 @@ impl<D: Disk + Drop, W: Wire + Drop> NodeServer<D, W> {
 
     /// Bytes of a seat. Where there is no memory for the call they are lost, and their bot is let go of (`Desk::step`).
     pub(crate) fn take_piece(&mut self, seat: u8, bytes: Vec<u8>)
-        ensures { GoesOn D.Disk (OfSeat (Came (Seat seat) bytes.items) ∷ []) (served_of self.old) (served_of self.new) }
+        ensures { Does D.Disk (OfSeat (Came (Seat seat) bytes.items) ∷ []) (served_of self.old) (served_of self.new) }
     {
         let node = self.desk.member.number();
         let _ = self.call(&Event::Line { node, seat, bytes });
@@ -172,7 +186,7 @@ impl<D: Disk + Drop, W: Wire + Drop> NodeServer<D, W> {
 
     /// A bot was taken in at a seat. Where the node has been without a quorum for a while it is turned away.
     pub(crate) fn seat_bot(&mut self, seat: u8)
-        ensures { GoesOn D.Disk (OfSeat (Began (Seat seat)) ∷ []) (served_of self.old) (served_of self.new) }
+        ensures { Does D.Disk (OfSeat (Began (Seat seat)) ∷ []) (served_of self.old) (served_of self.new) }
     {
         if self.lasting.is_apart {
             self.desk.hang_up(seat);
@@ -190,7 +204,7 @@ impl<D: Disk + Drop, W: Wire + Drop> NodeServer<D, W> {
 
     /// The bot of a seat is gone.
     pub(crate) fn leave(&mut self, seat: u8)
-        ensures { GoesOn D.Disk [] (served_of self.old) (served_of self.new) }
+        ensures { Does D.Disk [] (served_of self.old) (served_of self.new) }
     {
         let node = self.desk.member.number();
         match self.call(&Event::Drop { node, seat }) {

@@ -1,8 +1,6 @@
 //! When the node ticks, and when the seat to act is played for.
 
-ghost use Rattle.std.specs.Prelude.{◌≡◌, ◌≤◌, [], length, IfSome};
-ghost use Rattle.clockwork.specs.Dues.{due_of};
-ghost use Rattle.clockwork.specs.ActionTimeout.{away_due_of};
+ghost use Rattle.std.specs.Prelude.{◌≡◌, ◌≤◌, [], IfSome};
 ghost use Rattle.clockwork.specs.declared.limits.TheConstants.{LATEST as LAST, MOST_PEERS as MOST};
 ghost use Rattle.clockwork.specs.declared.answer.Due.TheVariants.{Now};
 
@@ -15,7 +13,7 @@ use crate::server::NodeServer;
 use crate::server_notice::ServerNotice;
 use clockwork::limits::{LATEST, LOOK, MOST_PEERS};
 use clockwork::{
-    Awaited, Due, Known, Watch, away_due, due, has_work, is_behind, is_quorate, pace, rank, replays,
+    Awaited, Due, Peer, Watch, away_due, due, has_work, is_behind, is_quorate, pace, rank, replays,
 };
 use dealer_world::Event;
 use node_peers::{Peers, View};
@@ -43,8 +41,10 @@ fn look_at_all(peers: &Peers, reports: &mut PeerReports, watch: &mut Watch, now:
 
 impl<D: Disk + Drop, W: Wire + Drop> NodeServer<D, W> {
     ghost use Rattle.node_service.specs.Desks.{IsKept};
-    ghost use Rattle.node_service.specs.Going.{GoesOn};
+    ghost use Rattle.node_service.specs.Going.{Does};
     ghost use Rattle.node_service.specs.Serving.{served_of};
+    ghost use Rattle.node_service.specs.Others.{listed};
+    ghost use Rattle.node_service.specs.Knowing.{is_owed_by, other_at, others_of, moment_of, IsTickDue, rank_for, awaited_of, IsAwaited, IsAwayDue};
 
     /// Keeps what peers have told by beats.
     pub(crate) fn look(&mut self, now: u64)
@@ -55,125 +55,169 @@ impl<D: Disk + Drop, W: Wire + Drop> NodeServer<D, W> {
     }
 
     /// Whether a peer that is back owes an answer that would still serve.
-    pub(crate) fn is_owed(&self, view: &View) -> bool {
+    fn is_owed(&self, view: &View) -> bool
+        ensures { result ≡ is_owed_by view.now.unanswered self.now.watch.seen self.now.leader }
+    {
         let seen = self.watch.seen;
         match view.unanswered {
-            Some(asked) => {
-                seen.campaigns && asked.serves(self.desk.member.node().promised(), seen.front)
-            }
+            Some(asked) => seen.campaigns && asked.serves(self.leader, seen.front),
             None => false,
         }
     }
 
-    /// All other nodes, as `clockwork` sees them.
-    pub(crate) fn others(&self) -> Others {
+    /// Another node, as `clockwork` sees it; none is of this node's own number.
+    fn other(&self, number: u8) -> Option<Peer>
+        ensures { result ≡ other_at self.now number }
+    {
+        if number == self.desk.member.number() {
+            return None;
+        }
+        let view = self.desk.company.peers.view(number)?;
+        Some(self.reports.peer(number, &view, self.is_owed(&view)))
+    }
+
+    /// All other nodes.
+    #[tactic(auto, using(crate::proofs::Counting::one_other))]
+    fn others(&self) -> Others
+        ensures { listed result ≡ others_of self.now }
+    {
         let mut others = Others::new();
         for number in 0..self.nodes {
-            if number == self.desk.member.number() {
-                continue;
-            }
-            if let Some(view) = self.desk.company.peers.view(number) {
-                others.push(self.reports.peer(number, &view, self.is_owed(&view)));
-            }
+            others.push(self.other(number));
         }
         others
     }
 
+    /// The moment at which the clock was last looked at for what is due.
+    fn moment(&self) -> u64
+        ensures value { result ≡ moment_of self.now }
+        ensures most { result ≤ LAST }
+    {
+        self.looked.min(LATEST)
+    }
+
     /// Has the node tick, and the seat to act played for, where that is due, and answers how long it is until it may be.
     pub(crate) fn keep_time(&mut self) -> u64
-        ensures { GoesOn D.Disk [] (served_of self.old) (served_of self.new) }
+        ensures { Does D.Disk [] (served_of self.old) (served_of self.new) }
     {
-        let now = self.desk.now().min(LATEST);
+        self.look_around();
+        let until_tick = self.tick_if_due();
+        until_tick.min(self.keep_patience())
+    }
+
+    /// Looks at the clock, and keeps what is so at that moment: who is there, whether the node replays, and since when it has
+    /// work, is behind, and has a quorum.
+    fn look_around(&mut self)
+        ensures { IsKept W.Wire self.old.desk self.new.desk }
+    {
+        self.looked = self.desk.now();
+        let now = self.moment();
         let others = self.others();
-        let number = self.desk.member.number();
-        let known = self.watch.known(number, others.as_slice(), now);
+        let known = self
+            .watch
+            .known(self.desk.member.number(), others.as_slice(), now);
         let (work, behind, quorate) = (has_work(&known), is_behind(&known), is_quorate(&known));
         self.pace = pace(&known);
         self.replays = replays(&known);
+        self.rank = rank(&known);
         self.desk.set_silence(self.pace);
         self.watch.stand(work, behind, now);
         self.note_quorum(quorate, now);
-        let known = self.watch.known(number, others.as_slice(), now);
-        let rank = rank(&known);
-        let until_tick = self.tick_if_due(&known);
-        until_tick.min(self.keep_patience(rank, now))
     }
 
-    /// Has the node tick where that is due by what is known, and answers how long it is until it may be.
-    fn tick_if_due(&mut self, known: &Known<'_>) -> u64
-        requires time { known.now.time ≤ LAST }
-        requires peers { length known.now.peers.now ≤ MOST }
-        ensures { GoesOn D.Disk [] (served_of self.old) (served_of self.new) }
+    /// Whether the node is to tick, by what the process knows.
+    fn tick_due(&self) -> Due
+        ensures { result ≡ Now → IsTickDue self.now }
     {
-        match due(known) {
+        let others = self.others();
+        let number = self.desk.member.number();
+        due(&self.watch.known(number, others.as_slice(), self.moment()))
+    }
+
+    /// Has the node tick where that is due, and answers how long it is until it may be.
+    fn tick_if_due(&mut self) -> u64
+        ensures { Does D.Disk [] (served_of self.old) (served_of self.new) }
+    {
+        match self.tick_due() {
             Due::Now => {
-                self.tick(known);
+                self.tick();
                 0
             }
-            Due::Nothing { until } => until.saturating_sub(known.time),
+            Due::Nothing { until } => until.saturating_sub(self.moment()),
         }
     }
 
     /// How many present nodes come before this one where a seat is to be played for: where it sits here, those of a lower
-    /// number at which it sits too; else `rank`, as many as have one.
-    fn rank_for(&self, seat: u8, rank: usize, now: u64) -> usize {
+    /// number at which it sits too; else as many as have one.
+    fn rank_for(&self, seat: u8) -> usize
+        ensures { result ≡ rank_for self.now seat }
+    {
         if self.sits_here(seat) {
-            self.sits_below(self.desk.member.number(), seat, now)
+            self.sits_below(self.desk.member.number(), seat, self.moment())
         } else {
-            rank
+            self.rank
         }
     }
 
-    /// The seat to act, and what is known of it; none where no hand runs, nobody is played for, or the process is to end.
-    fn awaited(&self, rank: usize, now: u64) -> Option<(u8, Awaited)>
-        ensures time { IfSome result (λ found. found.1.time ≤ LAST) }
-        ensures patience { IfSome result (λ found. found.1.patience ≤ LAST) }
-        ensures rank { IfSome result (λ found. found.1.rank ≤ MOST) }
+    /// What is known of a seat, which may hold the table for so long.
+    fn awaited_at(&self, seat: u8, patience: u64) -> Awaited
+        ensures value { result ≡ awaited_of self.now seat patience }
+        ensures time { result.time ≤ LAST }
+        ensures patience { result.patience ≤ LAST }
+        ensures rank { result.rank ≤ MOST }
     {
-        if self.outcome != Outcome::GoesOn {
-            return None;
-        }
-        let patience = self.turn_timer.most?;
-        let seat = seat_to_act(self.desk.member.node().table())?;
         let seen = self.watch.seen;
-        let awaited = Awaited {
-            time: now.min(LATEST),
+        Awaited {
+            time: self.moment(),
             patience: patience.min(LATEST),
             over: seen.over,
             hand_runs: seen.hand_runs,
             quorate: self.turn_timer.is_quorate,
             replays: self.replays,
             sits_here: self.sits_here(seat),
-            sits_elsewhere: self.sits_elsewhere(seat, now),
-            rank: self.rank_for(seat, rank, now).min(MOST_PEERS),
+            sits_elsewhere: self.sits_elsewhere(seat, self.moment()),
+            rank: self.rank_for(seat).min(MOST_PEERS),
             since: self.turn_timer.since(seat, self.watch.moved),
             ordered: self.turn_timer.ordered_since(self.watch.moved),
-        };
-        Some((seat, awaited))
+        }
+    }
+
+    /// The seat to act, and what is known of it; none where no hand runs, nobody is played for, or the process is to end.
+    fn awaited(&self) -> Option<(u8, Awaited)>
+        ensures time { IfSome result (λ found. found.1.time ≤ LAST) }
+        ensures patience { IfSome result (λ found. found.1.patience ≤ LAST) }
+        ensures rank { IfSome result (λ found. found.1.rank ≤ MOST) }
+        ensures is { IfSome result (λ found. IsAwaited self.now found.0 found.1) }
+    {
+        if self.outcome != Outcome::GoesOn {
+            return None;
+        }
+        let patience = self.turn_timer.most?;
+        let seat = seat_to_act(self.desk.member.node().table())?;
+        Some((seat, self.awaited_at(seat, patience)))
     }
 
     /// Orders that the seat to act is played for, where that is due, and answers how long it is until it may be.
-    fn keep_patience(&mut self, rank: usize, now: u64) -> u64
-        ensures { GoesOn D.Disk [] (served_of self.old) (served_of self.new) }
+    fn keep_patience(&mut self) -> u64
+        ensures { Does D.Disk [] (served_of self.old) (served_of self.new) }
     {
-        let Some((seat, awaited)) = self.awaited(rank, now) else {
+        let Some((seat, awaited)) = self.awaited() else {
             return LOOK;
         };
         match away_due(&awaited) {
             Due::Now => {
-                self.order(seat, &awaited);
+                self.order(seat);
                 0
             }
-            Due::Nothing { until } => until.saturating_sub(now),
+            Due::Nothing { until } => until.saturating_sub(self.moment()),
         }
     }
 
-    /// Orders that this seat is played for, since that is due by what is known of it.
-    fn order(&mut self, seat: u8, awaited: &Awaited)
-        requires { away_due_of awaited.now ≡ Now }
-        ensures { GoesOn D.Disk [] (served_of self.old) (served_of self.new) }
+    /// Orders that the seat to act is played for, since that is due by what is known of it.
+    fn order(&mut self, seat: u8)
+        requires { IsAwayDue self.old }
+        ensures { Does D.Disk [] (served_of self.old) (served_of self.new) }
     {
-        self.turn_timer.order(awaited.time);
         let node = self.desk.member.number();
         match self.call(&Event::Away { node }) {
             Some(Ok(())) => self.tell(ServerNotice::Ordered { seat }),
@@ -181,14 +225,31 @@ impl<D: Disk + Drop, W: Wire + Drop> NodeServer<D, W> {
         }
     }
 
-    /// The node ticks at this moment, since that is due by what is known.
-    fn tick(&mut self, known: &Known<'_>)
-        requires { due_of known.now ≡ Now }
-        ensures { GoesOn D.Disk [] (served_of self.old) (served_of self.new) }
+    /// The node ticks, since that is due by what is known.
+    fn tick(&mut self)
+        requires { IsTickDue self.old }
+        ensures { Does D.Disk [] (served_of self.old) (served_of self.new) }
     {
-        self.watch.tick(known.time);
         let node = self.desk.member.number();
         let _ = self.call(&Event::Tick { node });
+    }
+
+    /// The node is given this: a tick and an order that a seat is played for are of the moment at which they were due.
+    pub(crate) fn note_given(&mut self, event: &Event)
+        ensures desk { self.new.desk ≡ self.old.desk }
+        ensures outcome { self.new.outcome ≡ self.old.outcome }
+    {
+        let moment = self.moment();
+        match event {
+            Event::Tick { .. } => self.watch.tick(moment),
+            Event::Away { .. } => self.turn_timer.order(moment),
+            Event::Frame { .. }
+            | Event::Line { .. }
+            | Event::Connect { .. }
+            | Event::Drop { .. }
+            | Event::Stop { .. }
+            | Event::Start { .. } => (),
+        }
     }
 
     /// Without a quorum for a while the seats are let go of.

@@ -1,5 +1,7 @@
 //! Since when the seat to act has been waited for.
 
+ghost use Rattle.std.specs.Prelude.{◌≡◌};
+
 use crate::limits::PLACES;
 use clockwork::seated_after;
 
@@ -38,6 +40,8 @@ pub(crate) struct TurnTimer {
 }
 
 impl TurnTimer {
+    ghost use Rattle.node_service.specs.Knowing.{since_in, ordered_since};
+
     /// The process begins.
     pub(crate) fn new(most: Option<u64>, now: u64) -> TurnTimer {
         TurnTimer {
@@ -77,7 +81,9 @@ impl TurnTimer {
     }
 
     /// Since when a seat is waited for, where the front last moved at that moment.
-    pub(crate) fn since(&self, seat: u8, moved: u64) -> u64 {
+    pub(crate) fn since(&self, seat: u8, moved: u64) -> u64
+        ensures { result ≡ since_in self.now seat moved }
+    {
         let begun = moved.max(self.quorate_since);
         match self.seatings.get(seat as usize) {
             Some(seating) => begun.max(seating.since.unwrap_or(0)),
@@ -86,10 +92,10 @@ impl TurnTimer {
     }
 
     /// When it was last ordered since the front moved.
-    pub(crate) fn ordered_since(&self, moved: u64) -> Option<u64> {
-        match self.ordered {
-            Some(moment) if moved <= moment => Some(moment),
-            _ => None,
-        }
+    pub(crate) fn ordered_since(&self, moved: u64) -> Option<u64>
+        ensures { result ≡ ordered_since self.now.ordered moved }
+    {
+        let moment = self.ordered?;
+        if moved <= moment { Some(moment) } else { None }
     }
 }

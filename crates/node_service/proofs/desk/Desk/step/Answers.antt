@@ -2,13 +2,14 @@ use Rattle.std.proofs.Common.{◌≡◌, Bool, ap, ◌∙◌, sym, subst}
 use Rattle.std.specs.Prelude.{IfSome}
 use Rattle.stations.specs.Looking.{look_of}
 use Rattle.stations.specs.Stations.{Acts}
+use Rattle.dealer_node.specs.Outs.{Told}
 use Rattle.dealer_node.specs.Seeing.{runs}
 use Rattle.node_service.specs.declared.local_node.LocalNode.{LocalNode}
 use Rattle.node_service.specs.declared.sitting.Sittings.{Sittings}
 use Rattle.node_service.specs.Desks.{served_by}
+use Rattle.node_service.specs.Handing.{HandsOn}
 use Rattle.node_service.specs.Sittings.{Admits, IsGivenBy, Settles}
-use Rattle.node_service.proofs.Keeping.{refused, then_kept, unstepped_then}
-use Rattle.node_service.proofs.Hearing.{heard_on as promised}
+use Rattle.node_service.proofs.Keeping.{refused, then_kept, hands_kept, settled, of_any, unstepped_then}
 use Rattle.node_service.proofs.Stepping.{stepped_if_given}
 use Rattle.node_service.proofs.desk.Desk.step.Goals as goal
 
@@ -18,26 +19,25 @@ returns-then-not-admits g c = refused g.W.Wire c.args.event.now c.refuse.ensures
 pub returns-then-not-is_given : goal.returns-then-not-is_given
 returns-then-not-is_given g c =
     let old = c.args.self.now in
-    let same : c.hand_on-deaf.new.self.member ≡ c.step-answer.new.self = c.hand_on-deaf.ensures.member in
+    let same : c.note_promised.new.self.member ≡ c.step-answer.new.self = c.note_promised.ensures.kept.member ∙ c.hand_on-deaf.ensures.member in
     let e = c.args.event.now in
-    unstepped_then g.W.Wire e c.step-answer.new.self.made c.step-answer.result (served_by g.W.Wire old) _ c.refuse-then-not-is_given.new.self
+    unstepped_then g.W.Wire e c.step-answer.new.self.made c.step-answer.result (served_by g.W.Wire old) c.note_promised.new.self c.refuse-then-not-is_given.new.self
     (subst (λ (b : Bool). IsGivenBy b c.step-answer.result) c.if-not-is_given.true c.is_given.ensures)
     (subst (λ (m : LocalNode _ g.D.Disk). IfSome c.step-answer.result (λ answer. Acts g.D.Disk e c.step-answer.new.self.made answer (look_of old.member.station) (look_of m.station))) (sym same)
     c.step-answer.ensures.acts)
-    (λ none. ap (λ (m : LocalNode _ g.D.Disk). look_of m.station) same ∙ ap look_of (c.step-answer.ensures.none none)) c.step-answer.ensures.unmade c.hand_on-deaf.ensures.log
-    c.hand_on-deaf.ensures.handed c.hand_on-deaf.ensures.seats c.hand_on-deaf.ensures.heard c.hand_on-deaf.ensures.sittings
-    (promised old.company.peers c.hand_on-deaf.new.self.company.peers c.set_promised.new.self.peers c.hand_on-deaf.ensures.hears c.set_promised.ensures) c.refuse-then-not-is_given.ensures.kept
+    (λ none. ap (λ (m : LocalNode _ g.D.Disk). look_of m.station) same ∙ ap look_of (c.step-answer.ensures.none none)) c.step-answer.ensures.unmade
+    (hands_kept g.W.Wire (of_any g.W.Wire old c.step-answer.new.self c.hand_on-deaf.ensures.hands) c.note_promised.ensures.kept) (c.note_promised.ensures.sittings ∙ c.hand_on-deaf.ensures.sittings) c.refuse-then-not-is_given.ensures.kept
     c.refuse-then-not-is_given.ensures.refuses
 
 pub returns : goal.returns
 returns g c =
     let old = c.args.self.now in
-    let same : c.hand_on-deaf.new.self.member ≡ c.step-answer.new.self = c.hand_on-deaf.ensures.member in
+    let same : c.note_promised.new.self.member ≡ c.step-answer.new.self = c.note_promised.ensures.kept.member ∙ c.hand_on-deaf.ensures.member in
     let e = c.args.event.now in
     then_kept g.W.Wire
     (stepped_if_given e c.step-answer.new.self.made c.step-answer.result (served_by g.W.Wire old) _ (subst (λ (b : Bool). IsGivenBy b c.step-answer.result) c.if-not-is_given.false c.is_given.ensures)
     (subst (λ (m : LocalNode _ g.D.Disk). IfSome c.step-answer.result (λ answer. Acts g.D.Disk e c.step-answer.new.self.made answer (look_of old.member.station) (look_of m.station))) (sym same)
-    c.step-answer.ensures.acts) c.hand_on-deaf.ensures.log c.hand_on-deaf.ensures.handed c.hand_on-deaf.ensures.seats c.hand_on-deaf.ensures.heard
+    c.step-answer.ensures.acts) (settled g.W.Wire c.note_promised.new.self c.settle.new.self (hands_kept g.W.Wire (of_any g.W.Wire old c.step-answer.new.self c.hand_on-deaf.ensures.hands) c.note_promised.ensures.kept))
     (subst (λ (b : Bool). Admits b e old.sittings) (c.running.ensures.value ∙ ap runs c.node.ensures) (c.admits.ensures c.if-not-admits.false))
-    (subst (λ (s : Sittings). Settles e s c.settle.new.self) c.hand_on-deaf.ensures.sittings c.settle.ensures)
-    (promised old.company.peers c.hand_on-deaf.new.self.company.peers c.set_promised.new.self.peers c.hand_on-deaf.ensures.hears c.set_promised.ensures)) c.hang_up_all.ensures
+    (subst (λ (s : Sittings). Settles e s c.settle.new.self) (c.note_promised.ensures.sittings ∙ c.hand_on-deaf.ensures.sittings) c.settle.ensures))
+    c.hang_up_all.ensures

@@ -7,3 +7,6 @@ returns-then-self g c = refused g.W.Wire (event.Connect 0 c.args.seat) c.hang_up
 
 pub returns : goal.returns
 returns g c = then_kept g.W.Wire c.call.ensures.goes c.hang_up-in_default.ensures.kept
+
+pub returns-in-Some-Ok : goal.returns-in-Some-Ok
+returns-in-Some-Ok g c = then_kept g.W.Wire c.call.ensures.goes c.tell.ensures

@@ -1,0 +1,28 @@
+-- Which lines those who ask how the node is are given.
+use Rattle.std.specs.Prelude.{◌≡◌, ◌⊎◌, ℕ, ◌<◌, List, []}
+use Rattle.node_wires.specs.declared.limits.TheConstants.{ASKERS}
+use Rattle.node_status.specs.declared.asker.Asker.{Asker}
+use Rattle.node_status.specs.declared.status.Status.{Status}
+use Rattle.node_status.specs.Given.{given_at}
+use Rattle.node_status.specs.Lines.{status_text}
+
+abbrev pub line_given : List Asker → ℕ → List ℕ
+line_given askers place = (given_at askers place).line
+
+-- at each place stands the line that stood there, or one such
+abbrev pub GivesOnly : (List ℕ → Type 0) → List Asker → List Asker → Type 0
+GivesOnly such old new = (place : ℕ) → place < ASKERS → (line_given new place ≡ line_given old place) ⊎ such (line_given new place)
+
+-- there is none yet
+abbrev pub IsNoLine : List ℕ → Type 0
+IsNoLine line = line ≡ []
+
+-- a line of the status of the node of this number
+pub record IsStatusLine (number : ℕ) (line : List ℕ) : Type 0 where
+  pub status : Status
+  pub node : status.node ≡ number
+  pub text : line ≡ status_text status
+
+-- none yet, or such a line
+abbrev pub IsReply : ℕ → List ℕ → Type 0
+IsReply number line = (line ≡ []) ⊎ IsStatusLine number line

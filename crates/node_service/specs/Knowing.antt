@@ -1,0 +1,205 @@
+-- What a process knows of its peers and of the seat to act, and what is due by that.
+use Rattle.std.specs.Prelude.{◌≡◌, ℕ, zero, suc, ◌+◌, ◌-◌, ◌*◌, ◌%◌, ◌^◌, ◌==◌, ◌&&◌, not, min, max, nat_lt, nat_le, if◌then◌else◌, bit_and, unwrap_or, slice_get, Bool, false, List, [], ◌∷◌, ◌++◌, length, Option, Some, None}
+use Rattle.std.specs.Borrow.{Bor}
+use Rattle.promise_store.specs.declared.disk.Disk.{Ghosts}
+use Rattle.paxos_wire.specs.declared.ballot.Ballot.{Ballot}
+use Rattle.betting.specs.Rounds.{to_act, turns}
+use Rattle.game_def.specs.Game.{Game}
+use Rattle.slot_log.specs.Hand.{Hand, Match}
+use Rattle.slot_log.specs.Dealer.{hand_at}
+use Rattle.node_rules.specs.Standings.{Standing, applied}
+use Rattle.dealer_node.specs.Nodes.{Node}
+use Rattle.dealer_node.specs.Seeing.{member_in, IsSeen}
+use Rattle.dealer_node.specs.Scenes.{IsTableOf}
+use Rattle.dealer_world.specs.declared.event.Event.{Event}
+use Rattle.dealer_world.specs.declared.event.Event.TheVariants as event
+use Rattle.clockwork.specs.ActionTimeout.{away_due_of}
+use Rattle.clockwork.specs.Dues.{due_of}
+use Rattle.clockwork.specs.Silence.{is_heard}
+use Rattle.clockwork.specs.Watches.{known_of}
+use Rattle.clockwork.specs.declared.action_timeout.Awaited.{Awaited}
+use Rattle.clockwork.specs.declared.answer.Due.TheVariants.{Now}
+use Rattle.clockwork.specs.declared.known.Link.{Link}
+use Rattle.clockwork.specs.declared.known.Link.TheVariants.{Closed, Open}
+use Rattle.clockwork.specs.declared.known.Peer.{Peer}
+use Rattle.clockwork.specs.declared.known.PeerReport.{PeerReport}
+use Rattle.clockwork.specs.declared.limits.TheConstants.{LATEST, MOST_PEERS}
+use Rattle.clockwork.specs.declared.watch.Seen.{Seen}
+use Rattle.node_links.specs.Owing.{serves}
+use Rattle.node_links.specs.declared.owed.Question.{Question}
+use Rattle.node_peers.specs.Viewing.{view_of}
+use Rattle.node_peers.specs.declared.view.View.{View}
+use Rattle.node_seats.specs.Seating.{sits_at}
+use Rattle.node_wires.specs.declared.wire.Wire.{Ghosts as OfWire}
+use Rattle.stations.specs.Looking.{look_of}
+use Rattle.node_service.specs.declared.limits.TheConstants.{SEATS}
+use Rattle.node_service.specs.declared.peer_reports.LastReport.{LastReport}
+use Rattle.node_service.specs.declared.peer_reports.PeerReports.{PeerReports}
+use Rattle.node_service.specs.declared.turn_timer.Seating.{Seating}
+use Rattle.node_service.specs.declared.turn_timer.TurnTimer.{TurnTimer}
+use Rattle.node_service.specs.declared.server.NodeServer.{NodeServer}
+
+-- ---- peers
+
+-- what a peer told last over its open connection
+abbrev pub beat_in : Option LastReport → Option PeerReport
+beat_in None = None
+beat_in (Some report) = report.beat
+
+-- its connection, as it is seen
+abbrev pub link_by : View → Option PeerReport → Bool → Link
+link_by view beat is_owed =
+    if not view.is_open then Closed view.since
+    else Open (record { opened = view.since; heard = view.heard; round_trip = view.round_trip; unanswered = is_owed; beat = beat })
+
+abbrev pub peer_by : PeerReports → ℕ → View → Bool → Peer
+peer_by reports number view is_owed =
+    record { number = number; accepted = view.accepted; link = link_by view (beat_in (slice_get reports.all number)) is_owed }
+
+-- it owes an answer from before its connection opened that would still serve a node of which this is seen, in this ballot
+abbrev pub is_owed_by : Option Question → Seen → Option Ballot → Bool
+is_owed_by None seen leader = false
+is_owed_by (Some asked) seen leader = seen.campaigns && serves asked leader seen.front
+
+-- one more is listed, while there is a place
+abbrev pub with_one : List Peer → Option Peer → List Peer
+with_one peers None = peers
+with_one peers (Some peer) = if nat_lt (length peers) MOST_PEERS then peers ++ peer ∷ [] else peers
+
+-- ---- seats
+
+-- whether the bit of a number is set
+abbrev pub has_bit : ℕ → ℕ → Bool
+has_bit bits number = not (bit_and bits (1 * 2 ^ number % 2 ^ 16) == 0)
+
+-- a peer told that a bot sits there at this seat
+abbrev pub tells_seat : Option LastReport → ℕ → Bool
+tells_seat None seat = false
+tells_seat (Some report) seat = nat_lt seat 16 && has_bit report.seats seat
+
+-- a peer that is seen so is there: its connection is open, and it wasn't silent for so long
+abbrev pub is_there : Option View → ℕ → ℕ → Bool
+is_there None now pace = false
+is_there (Some view) now pace = view.is_open && is_heard view.heard now pace
+
+-- since when a seat is waited for, where the front last moved at that moment
+abbrev pub since_seated : Option Seating → ℕ → ℕ
+since_seated None begun = begun
+since_seated (Some seating) begun = max begun (unwrap_or seating.since 0)
+
+abbrev pub since_in : TurnTimer → ℕ → ℕ → ℕ
+since_in timer seat moved = since_seated (slice_get timer.seatings seat) (max moved timer.quorate_since)
+
+-- when it was last ordered, where that was since the front moved
+abbrev pub ordered_since : Option ℕ → ℕ → Option ℕ
+ordered_since None moved = None
+ordered_since (Some moment) moved = if nat_le moved moment then Some moment else None
+
+-- the seat to act at a table; none where no hand runs
+abbrev pub seat_by : ℕ → ℕ → Option ℕ → Option ℕ
+seat_by hand players None = None
+seat_by hand players (Some position) = Some ((position + hand) % players)
+
+abbrev pub seat_in_hand : Game → ℕ → Option Hand → Option ℕ
+seat_in_hand game hand None = None
+seat_in_hand game hand (Some found) = seat_by hand game.players (to_act game (turns game found.past))
+
+abbrev pub seat_to_act : Match → Option ℕ
+seat_to_act table = if length table.hands == 0 then None else seat_in_hand table.game (length table.hands - 1) (hand_at table.hands (length table.hands - 1))
+
+-- by the commands that the node has applied this seat is to act
+pub record IsToAct {D : Type 0} (g : Ghosts D) (node : Node D) (seat : ℕ) : Type 0 where
+  pub table : Match
+  pub is : (s : Standing) → IsSeen g node s → IsTableOf (member_in node).setting (applied s) table
+  pub acts : seat_to_act table ≡ Some seat
+
+-- ---- what is due
+
+module _ {D W : Type 0} {disk : Ghosts D} {wire : OfWire W} where
+  abbrev pub number_of : NodeServer D W disk wire → ℕ
+  number_of server = (look_of server.desk.member.station).number
+
+  -- the moment at which it last looked at the clock for what is due
+  abbrev pub moment_of : NodeServer D W disk wire → ℕ
+  moment_of server = min server.looked LATEST
+
+  -- another node as it is seen; none is of this one's own number
+  abbrev pub seen_other : NodeServer D W disk wire → ℕ → Option View → Option Peer
+  seen_other server number None = None
+  seen_other server number (Some view) = Some (peer_by server.reports number view (is_owed_by view.unanswered server.watch.seen server.leader))
+
+  abbrev pub other_at : NodeServer D W disk wire → ℕ → Option Peer
+  other_at server number = if number == number_of server then None else seen_other server number (view_of server.desk.company.peers number)
+
+  -- those of them with lower numbers than this
+  abbrev pub others_below : NodeServer D W disk wire → ℕ → List Peer
+  others_below server zero = []
+  others_below server (suc number) = with_one (others_below server number) (other_at server number)
+
+  -- all of them
+  abbrev pub others_of : NodeServer D W disk wire → List Peer
+  others_of server = others_below server server.nodes
+
+  -- a tick is due by what it knows: of its node by its watch, of the others by these, at the moment of its last look
+  pub record IsTickDue (server : NodeServer D W disk wire) : Type 0 where
+    pub others : Bor (List Peer)
+    pub all : others.now ≡ others_of server
+    pub due : due_of (known_of server.watch (number_of server) others (moment_of server)) ≡ Now
+
+  -- whether a bot sits here at a seat
+  abbrev pub sits_here : NodeServer D W disk wire → ℕ → Bool
+  sits_here server seat = nat_lt seat SEATS && sits_at server.desk.seats.seats.items seat
+
+  -- whether one does at a peer, as far as that is there and has told
+  abbrev pub sits_at_peer : NodeServer D W disk wire → ℕ → ℕ → ℕ → Bool
+  sits_at_peer server seat now number = is_there (view_of server.desk.company.peers number) now server.pace && tells_seat (slice_get server.reports.all number) seat
+
+  -- at how many of those with lower numbers than this
+  abbrev pub sits_below : NodeServer D W disk wire → ℕ → ℕ → ℕ → ℕ
+  sits_below server seat now zero = 0
+  sits_below server seat now (suc number) = if sits_at_peer server seat now number then sits_below server seat now number + 1 else sits_below server seat now number
+
+  -- how many nodes come before it where this seat is to be played for
+  abbrev pub rank_for : NodeServer D W disk wire → ℕ → ℕ
+  rank_for server seat = if sits_here server seat then sits_below server seat (moment_of server) (number_of server) else server.rank
+
+  -- what it knows of a seat, where one may hold the table for so long
+  abbrev pub awaited_of : NodeServer D W disk wire → ℕ → ℕ → Awaited
+  awaited_of server seat patience = record {
+    time = moment_of server;
+    patience = min patience LATEST;
+    over = server.watch.seen.over;
+    hand_runs = server.watch.seen.hand_runs;
+    quorate = server.turn_timer.is_quorate;
+    replays = server.replays;
+    sits_here = sits_here server seat;
+    sits_elsewhere = nat_lt 0 (sits_below server seat (moment_of server) server.nodes);
+    rank = min (rank_for server seat) MOST_PEERS;
+    since = since_in server.turn_timer seat server.watch.moved;
+    ordered = ordered_since server.turn_timer.ordered server.watch.moved;
+  }
+
+  -- this is what it knows of this seat, which is to act, in a match in which one that does nothing is played for
+  pub record IsAwaited (server : NodeServer D W disk wire) (seat : ℕ) (awaited : Awaited) : Type 0 where
+    pub patience : ℕ
+    pub most : server.turn_timer.most ≡ Some patience
+    pub acts : IsToAct disk (look_of server.desk.member.station).node seat
+    pub is : awaited ≡ awaited_of server seat patience
+
+  -- that the seat to act is played for is due by what it knows
+  pub record IsAwayDue (server : NodeServer D W disk wire) : Type 0 where
+    pub seat : ℕ
+    pub awaited : Awaited
+    pub known : IsAwaited server seat awaited
+    pub due : away_due_of awaited ≡ Now
+
+  -- what a process gives to its node: a start once and never a stop, a tick and an order that a seat is played for only where they are due
+  abbrev pub MayCall : NodeServer D W disk wire → Event → Type 0
+  MayCall server (event.Start node) = server.desk.member.is_started ≡ false
+  MayCall server (event.Stop node pick) = ⊥
+  MayCall server (event.Tick node) = IsTickDue server
+  MayCall server (event.Away node) = IsAwayDue server
+  MayCall server (event.Frame from to bytes) = Unit {0}
+  MayCall server (event.Line node seat bytes) = Unit {0}
+  MayCall server (event.Connect node seat) = Unit {0}
+  MayCall server (event.Drop node seat) = Unit {0}

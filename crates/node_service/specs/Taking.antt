@@ -1,0 +1,22 @@
+-- What one thing after another that is taken leaves.
+use Rattle.std.specs.Prelude.{List}
+use Rattle.promise_store.specs.declared.disk.Disk.{Ghosts}
+use Rattle.dealer_node.specs.Nodes.{Node}
+use Rattle.node_service.specs.Arriving.{Incoming, peers_of}
+use Rattle.node_service.specs.Crossing.{HasNoLife, EndsAtLife}
+use Rattle.node_service.specs.Going.{GoesOnToLife, GoesOnWithoutLife}
+use Rattle.node_service.specs.Served.{Served}
+use Rattle.node_service.specs.declared.taking.Taken.{Taken}
+use Rattle.node_service.specs.declared.taking.Taken.TheVariants as taken
+
+-- behind a node whose life is to be kept the rest waits for the next turn
+abbrev pub StopsAtLife : Taken → List Incoming → Type 0
+StopsAtLife taken.Nothing things = HasNoLife (peers_of things)
+StopsAtLife taken.One things = HasNoLife (peers_of things)
+StopsAtLife taken.Last things = EndsAtLife (peers_of things)
+
+module _ {D : Type 0} (g : Ghosts D) where
+  abbrev pub TakesNext : Taken → Served (Node D) → Served (Node D) → Type 0
+  TakesNext taken.Nothing old new = GoesOnWithoutLife g old new
+  TakesNext taken.One old new = GoesOnWithoutLife g old new
+  TakesNext taken.Last old new = GoesOnToLife g old new
