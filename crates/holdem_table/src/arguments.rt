@@ -2,7 +2,7 @@ ghost use Rattle.std.specs.Prelude.{◌≤◌};
 
 use crate::help::{
     AFTER_CHECK_HELP, AFTER_HAND_HELP, AFTER_HELP, AFTER_INIT_HELP, AFTER_NODE_HELP,
-    AFTER_PLAY_HELP, AFTER_SERVE_HELP,
+    AFTER_PLAY_HELP, AFTER_RELAY_HELP, AFTER_SERVE_HELP,
 };
 use clap::builder::ValueParser;
 use clap::{Arg, ArgAction, ArgMatches, Command, value_parser};
@@ -20,6 +20,8 @@ pub(crate) enum Task<'a> {
     Init(InitArguments<'a>),
     Serve(ServeArguments<'a>),
     Node(NodeArguments<'a>),
+    /// `relay` reads its own words.
+    Relay,
 }
 
 /// What `hand` is asked for.
@@ -93,6 +95,7 @@ enum Verb {
     Init,
     Serve,
     Node,
+    Relay,
 }
 
 /// The greatest number of a node that a match may have.
@@ -101,17 +104,21 @@ const GREATEST_NODE: u32 = 6;
 /// The word that asks for `serve`.
 pub(crate) const SERVE: &str = "serve";
 
+/// The word that asks for `relay`.
+pub(crate) const RELAY: &str = "relay";
+
 /// The word that asks for `node`.
 pub(crate) const NODE: &str = "node";
 
 /// The program's commands, in the order of help.
-const VERBS: [Verb; 6] = [
+const VERBS: [Verb; 7] = [
     Verb::Hand,
     Verb::Play,
     Verb::Check,
     Verb::Init,
     Verb::Serve,
     Verb::Node,
+    Verb::Relay,
 ];
 
 impl Verb {
@@ -124,6 +131,7 @@ impl Verb {
             Verb::Init => "init",
             Verb::Serve => SERVE,
             Verb::Node => NODE,
+            Verb::Relay => RELAY,
         }
     }
 
@@ -136,6 +144,7 @@ impl Verb {
             Verb::Init => "Makes the empty stores of a match's nodes, or its key",
             Verb::Serve => "Deals a match to its seats over TCP",
             Verb::Node => "Runs one node of a match in a process of its own",
+            Verb::Relay => "Stands between a bot that dials once and the nodes of a match",
         }
     }
 
@@ -148,6 +157,7 @@ impl Verb {
             Verb::Init => AFTER_INIT_HELP,
             Verb::Serve => AFTER_SERVE_HELP,
             Verb::Node => AFTER_NODE_HELP,
+            Verb::Relay => AFTER_RELAY_HELP,
         }
     }
 
@@ -160,6 +170,17 @@ impl Verb {
             Verb::Init => &[Place::Key, Place::Match, Place::OneNode],
             Verb::Serve => &[Place::Times, Place::Match],
             Verb::Node => &[Place::Times, Place::Match, Place::Node],
+            Verb::Relay => &[
+                Place::Port,
+                Place::Listen,
+                Place::TokenFile,
+                Place::Mend,
+                Place::Trace,
+                Place::Stay,
+                Place::GiveUp,
+                Place::Times,
+                Place::Nodes,
+            ],
         }
     }
 }
@@ -185,6 +206,22 @@ enum Place {
     OneNode,
     /// `--key FILE`.
     Key,
+    /// `--port P`.
+    Port,
+    /// `--listen ADDRESS`.
+    Listen,
+    /// `--token-file FILE`.
+    TokenFile,
+    /// `--mend GAME`.
+    Mend,
+    /// `--trace FILE`.
+    Trace,
+    /// `--stay`.
+    Stay,
+    /// `--give-up S`.
+    GiveUp,
+    /// HOST:PORT, once or more.
+    Nodes,
 }
 
 /// The program's command line.
@@ -256,6 +293,34 @@ fn argument_at<'a>(alloc: Global, place: Place) -> Result<Arg<'a>, AllocError> {
         Place::Node => node_at(alloc, "The node's number, counted from 0").required(true),
         Place::OneNode => node_at(alloc, "The node whose store alone is made, from 0"),
         Place::Key => key_option(alloc)?,
+        Place::Port => port_option(alloc),
+        Place::Listen => valued(
+            alloc,
+            "listen",
+            "ADDRESS",
+            "Local address for the bot [default: 127.0.0.1]",
+        ),
+        Place::TokenFile => valued(
+            alloc,
+            "token-file",
+            "FILE",
+            "The file that has the seat's token",
+        ),
+        Place::Mend => valued(
+            alloc,
+            "mend",
+            "GAME",
+            "Mends wrong actions by this game file",
+        ),
+        Place::Trace => valued(
+            alloc,
+            "trace",
+            "FILE",
+            "Traces the bot's lines; -: to standard output",
+        ),
+        Place::Stay => stay_option(alloc),
+        Place::GiveUp => give_up_option(alloc),
+        Place::Nodes => nodes_at(alloc),
     };
     Ok(argument)
 }
@@ -313,6 +378,60 @@ fn key_option<'a>(alloc: Global) -> Result<Arg<'a>, AllocError> {
         .conflicts_with("node")
 }
 
+/// An option with a value.
+fn valued<'a>(alloc: Global, name: &'a str, value: &'a str, help: &'a str) -> Arg<'a> {
+    Arg::new(alloc, name)
+        .long(name)
+        .value_name(value)
+        .help(help)
+}
+
+/// `--port P`.
+fn port_option<'a>(alloc: Global) -> Arg<'a> {
+    valued(alloc, "port", "P", "Local port for the bot; 0: a free one")
+        .value_parser(port_parser())
+        .default_value("0")
+}
+
+/// What reads the P of `--port`.
+fn port_parser<'a>() -> ValueParser<'a> {
+    value_parser!(u32).range(0..=65535)
+}
+
+/// `--give-up S`.
+fn give_up_option<'a>(alloc: Global) -> Arg<'a> {
+    valued(
+        alloc,
+        "give-up",
+        "S",
+        "Seconds without a node until it ends",
+    )
+    .value_parser(seconds_parser())
+    .default_value("600")
+}
+
+/// What reads the S of `--give-up`.
+fn seconds_parser<'a>() -> ValueParser<'a> {
+    value_parser!(u32).range(1..=1_000_000)
+}
+
+/// `--stay`.
+fn stay_option<'a>(alloc: Global) -> Arg<'a> {
+    Arg::new(alloc, "stay")
+        .long("stay")
+        .action(ArgAction::SetTrue)
+        .help("Awaits a further bot where one has left")
+}
+
+/// HOST:PORT of the seat at each node.
+fn nodes_at<'a>(alloc: Global) -> Arg<'a> {
+    Arg::new(alloc, "nodes")
+        .value_name("HOST:PORT")
+        .required(true)
+        .num_args(1..=7)
+        .help("Where the seat is at each node")
+}
+
 /// `--times`.
 fn times_option<'a>(alloc: Global) -> Arg<'a> {
     Arg::new(alloc, "times")
@@ -340,6 +459,7 @@ fn named<'a>(name: &str, matches: &ArgMatches<'a>) -> Result<Task<'a>, Ending> {
         "init" => init_task(matches),
         SERVE => serve_task(matches),
         NODE => node_task(matches),
+        RELAY => Ok(Task::Relay),
         _ => Err(Ending::WrongWords(WrongWords::Incomplete)),
     }
 }

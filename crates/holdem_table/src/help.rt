@@ -258,3 +258,28 @@ says of each number what it means and what to do about it.
 Example, on the machine of node 1:
   holdem_table init match.toml 1
   holdem_table node match.toml 1";
+
+/// Of `relay`: what it does, what it prints, the exit statuses.
+pub(crate) const AFTER_RELAY_HELP: &str = "\
+Takes one connection of a bot at its port, sits for it at all nodes at once,
+and gives it each line of the dealer once and in order, whichever node tells
+it first. An answer goes to one node, and to another where no line follows.
+
+HOST:PORT is where the seat is at a node of `node`, an IP address and a port;
+never give those of `serve`.
+
+The first line of standard output is the number of its port. With --trace
+each line to and from the bot is written with its time, SECONDS.MICROS TO LINE
+or SECONDS.MICROS FROM LINE; what nobody takes of it is dropped and counted.
+Notes go to standard error: who came, each mended action, nodes that were
+lost, the end.
+
+With --mend an answer that the dealer would refuse is replaced, as the
+competition's dealer does: a raise by the nearest end of its range, anything
+else by a call. A note says so.
+
+Exit status:
+  3  each node has refused for ten seconds: the match is over, or lost
+  1  the bot left or named no version 2.0, no node was reached, or the port
+     can't be had
+  2  the command line is wrong, or a file that it names";

@@ -1,9 +1,10 @@
 //! The program `holdem_table`: `hand` runs one dealer over a script, `play` all nodes of a match, `check` checks the log
-//! of a match, `init` makes the stores of a match's nodes, or its key, `serve` deals it to seats over TCP, and `node` runs one of its
-//! nodes in a process of its own.
+//! of a match, `init` makes the stores of a match's nodes, or its key, `serve` deals it to seats over TCP, `node` runs one of its
+//! nodes in a process of its own, and `relay` stands between these and a bot that dials once.
 #![tactic(auto)]
 
 mod arguments;
+mod earlier_store;
 mod help;
 mod identity;
 mod init;
@@ -17,6 +18,9 @@ mod log_files;
 mod made_files;
 mod node;
 mod notes;
+mod own_logs;
+mod relay;
+mod relay_notes;
 mod serve;
 mod store_files;
 mod utc;
@@ -31,6 +35,7 @@ use crate::init_node::init_node;
 use crate::key_file::init_key;
 use crate::late_file::LateFile;
 use crate::node::node;
+use crate::relay::relay;
 use crate::serve::serve;
 use crate::whole_file::read_file;
 use clap::error::ErrorKind;
@@ -109,6 +114,7 @@ fn run_requested(rt: &HostRuntime, matches: &ArgMatches<'_>) -> ExitCode {
         Ok(Task::Init(arguments)) => end(rt, make(rt, arguments)),
         Ok(Task::Serve(arguments)) => conclude(rt, serve(rt, arguments)),
         Ok(Task::Node(arguments)) => run_node(rt, arguments),
+        Ok(Task::Relay) => relay(rt, matches),
         Err(ending) => end(rt, ending),
     }
 }

@@ -1,0 +1,134 @@
+//! How it stands with a node.
+
+use crate::limits::{DIAL_PAUSE, SHORT_PAUSE, SHORT_TIME};
+
+/// How it stands with a node.
+#[derive(Drop)]
+pub(crate) struct NodeState {
+    /// Whether there is a connection.
+    pub(crate) is_up: bool,
+    /// When the connection was taken: the first bytes could be written. None before.
+    pub(crate) taken_at: Option<u64>,
+    /// Whether a dealer's line came over the connection.
+    pub(crate) told: bool,
+    /// Where the last connection was a short one, whether a line had come over it; none once the next one was taken, or refused.
+    pub(crate) was_short: Option<bool>,
+    /// Whether the connection that was taken last came behind a short one.
+    pub(crate) follows_short: bool,
+    /// When it is to be dialled.
+    pub(crate) dial_at: u64,
+    /// Since when it is dialled without success; none where the last connection was taken.
+    pub(crate) refused_since: Option<u64>,
+    /// How many lines came from it that the bot was given, so far.
+    pub(crate) given: u64,
+}
+
+/// How a connection to a node ended.
+#[derive(Clone, Copy, Debug, PartialEq, Eq)]
+pub(crate) enum Parting {
+    /// It was never taken.
+    Refused,
+    /// It ended soon after it was taken, and no line had come.
+    TurnedAway,
+    /// It ended soon after it was taken.
+    Short,
+    /// It lasted.
+    Lasted,
+}
+
+impl NodeState {
+    /// No connection yet, and none is dialled before there is a bot.
+    pub(crate) fn new() -> NodeState {
+        NodeState {
+            is_up: false,
+            taken_at: None,
+            told: false,
+            was_short: None,
+            follows_short: false,
+            dial_at: 0,
+            refused_since: None,
+            given: 0,
+        }
+    }
+
+    /// A bot is there: it is dialled at once.
+    pub(crate) fn await_dial(&mut self, now: u64) {
+        self.dial_at = now;
+        self.was_short = None;
+        self.refused_since = None;
+    }
+
+    /// It was dialled.
+    pub(crate) fn begin(&mut self, now: u64) {
+        if self.refused_since.is_none() {
+            self.refused_since = Some(now);
+        }
+        self.is_up = true;
+        self.taken_at = None;
+        self.told = false;
+    }
+
+    /// Something could be written to it, or came. Where so its connection was taken, and the one before was a short one, it
+    /// answers whether a line had come over that: the node is there, and ended that one.
+    pub(crate) fn take(&mut self, now: u64) -> Option<bool> {
+        if self.taken_at.is_some() {
+            return None;
+        }
+        self.taken_at = Some(now);
+        self.refused_since = None;
+        let was_short = self.was_short;
+        self.was_short = None;
+        self.follows_short = was_short.is_some();
+        was_short
+    }
+
+    /// Its connection ended, or couldn't be dialled.
+    pub(crate) fn end(&mut self, now: u64) -> Parting {
+        let parting = self.parting(now);
+        let (was_short, pause) = match parting {
+            Parting::Short => (Some(true), self.short_pause()),
+            Parting::TurnedAway => (Some(false), self.short_pause()),
+            Parting::Refused | Parting::Lasted => (None, DIAL_PAUSE),
+        };
+        self.is_up = false;
+        self.taken_at = None;
+        self.was_short = was_short;
+        self.dial_at = now.saturating_add(pause);
+        parting
+    }
+
+    /// How long after a short connection it is dialled: the first time soon, to see whether it is lost.
+    fn short_pause(&self) -> u64 {
+        if self.follows_short {
+            DIAL_PAUSE
+        } else {
+            SHORT_PAUSE
+        }
+    }
+
+    /// How a connection that ends now ended.
+    fn parting(&self, now: u64) -> Parting {
+        match self.taken_at {
+            None => Parting::Refused,
+            Some(then) if now.saturating_sub(then) >= SHORT_TIME => Parting::Lasted,
+            Some(_) if self.told => Parting::Short,
+            Some(_) => Parting::TurnedAway,
+        }
+    }
+
+    /// Whether its connection has lasted.
+    pub(crate) fn has_lasted(&self, now: u64) -> bool {
+        match self.taken_at {
+            Some(then) => self.told && now.saturating_sub(then) >= SHORT_TIME,
+            None => false,
+        }
+    }
+
+    /// Whether it has refused for so long.
+    pub(crate) fn has_refused(&self, now: u64, time: u64) -> bool {
+        match self.refused_since {
+            Some(then) => now.saturating_sub(then) >= time,
+            None => false,
+        }
+    }
+}

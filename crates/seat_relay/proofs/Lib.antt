@@ -1,0 +1,10 @@
+pub mod Orders
+pub mod Ascending
+pub mod Parts
+pub mod Saying
+pub mod Links
+pub mod Dealing
+pub mod Nearest
+pub mod Walks
+pub mod Stories
+mod Examples

@@ -1,0 +1,8 @@
+use Rattle.std.proofs.Common.{arith}
+use Rattle.seat_relay.specs.Relaying.{unsaid}
+use Rattle.seat_relay.proofs.Links.{one_more}
+use Rattle.seat_relay.proofs.machine.unsay.Goals as goal
+
+pub loop-link-preserved : goal.loop-link-preserved
+loop-link-preserved c =
+    one_more unsaid c.args.links.now c.loop-link.links c.loop-link.link-index c.unsaid.result (omega arith) c.loop-link.auto.links c.loop-link.invariant c.unsaid.ensures

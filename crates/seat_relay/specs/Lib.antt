@@ -1,0 +1,10 @@
+pub mod Places
+pub mod PlaceInside
+pub mod Relaying
+pub mod Laws
+pub mod MachineInside
+pub mod RelayInside
+pub mod Dealing
+pub mod Mending
+pub mod Events
+pub mod EventsCode

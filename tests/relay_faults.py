@@ -1,0 +1,271 @@
+"""What tests/relay tries of matches whose nodes are lost, while stock bots sit behind relays."""
+import os
+import random
+import signal
+import socket
+import subprocess
+import time
+
+from serving import TOP, Wrong, patience, want, waited
+
+from processes_keys import League
+from processes_match import Match, serve
+from processes_ways import NoHosts
+from relay_match import GAME, REFUSED, VERSION, Dialler, Relay, RelayMatch, StockBot, in_words, test
+
+# How long a stock bot thinks where nodes are lost meanwhile, in seconds.
+PACE = 0.001
+
+
+@test(long_seeds=3)
+def calm(folder, seed, is_long):
+    """Nothing is lost."""
+    match = RelayMatch(60, seed, count=(3, 5, 7)[seed % 3]).begin()
+    match.ends()
+    match.are_whole()
+
+
+def lost_every_second(match, lose, last):
+    """Loses a node each second until a hand is reached. How often it did."""
+    match.await_hand(0)
+    count, due = 0, time.monotonic()
+    while match.newest_hand() < last:
+        due += 1
+        waited(lambda: match.is_alive() and (time.monotonic() >= due or match.newest_hand() >= last), "time", match.last_notes)
+        if match.newest_hand() < last:
+            lose(match.dice.randrange(match.count))
+            count += 1
+    match.ends()
+    return count
+
+
+@test(seeds=2, long_seeds=10)
+def kills(folder, seed, is_long):
+    """A random node is killed each second, and started a moment later."""
+    hands = 1000 if is_long else 250
+    match = RelayMatch(hands, seed, pace=PACE).begin()
+
+    def lose(node):
+        match.kill(node)
+        time.sleep(match.dice.random() * 0.3)
+        match.start(node)
+
+    count = lost_every_second(match, lose, hands - 10)
+    match.are_whole()
+    match.are_shared()
+    return f"{count} kills; from a kill to the next line at a bot: {in_words(match.gaps(), 0.01, 1)}"
+
+
+@test(long_seeds=10)
+def stops(folder, seed, is_long):
+    """A random node hangs (SIGSTOP), for a tenth of a second to three, in the long form to thirty."""
+    hands, most = (1000, 30.0) if is_long else (150, 3.0)
+    match, hung = RelayMatch(hands, seed, pace=PACE).begin(), []
+
+    def lose(node):
+        match.kills.append(time.time())
+        os.kill(match.processes[node].pid, signal.SIGSTOP)
+        hung.append(node)
+        time.sleep(0.1 * (most / 0.1) ** match.dice.random())
+        os.kill(match.processes[node].pid, signal.SIGCONT)
+
+    count = lost_every_second(match, lose, hands - 10)
+    match.are_whole()
+    match.are_shared()
+    return f"{count} stops; from a stop to the next line at a bot: {in_words(match.gaps(), 1.5, 3)}"
+
+
+@test(long_seeds=5)
+def all_killed(folder, seed, is_long):
+    """All nodes are killed at once, and started. No line comes twice; those that were chosen while the relays had no
+    connection may be missing, and are counted."""
+    hands = 1000 if is_long else 150
+    match = RelayMatch(hands, seed, pace=PACE).begin()
+
+    def lose(_):
+        match.kill(*range(match.count))
+        time.sleep(match.dice.random() * 0.5)
+        match.start(*range(match.count))
+
+    count = lost_every_second(match, lose, hands - 10)
+    missing = [match.missing(seat) for seat in range(2)]
+    # At most the lines of one moment may be missing at each time: those that were chosen before any node was reached again.
+    want(sum(missing) <= 4 * count, f"{missing} lines are missing of {count} times")
+    match.are_shared()
+    return f"{count} times, {missing} lines missing"
+
+
+@test()
+def hung_while_another_thinks(folder, seed, is_long):
+    """A node hangs while a player thinks, and until some hands later."""
+    match = RelayMatch(60, seed, pace=0.02).begin()
+    match.await_hand(2)
+    for _ in range(3):
+        hand, node = match.newest_hand(), match.dice.randrange(match.count)
+        os.kill(match.processes[node].pid, signal.SIGSTOP)
+        match.await_hand(hand + 3)
+        os.kill(match.processes[node].pid, signal.SIGCONT)
+        match.await_hand(hand + 5)
+    match.ends()
+    match.are_whole()
+
+
+@test()
+def refused_answer(folder, seed, is_long):
+    """An answer that the dealer refuses comes to each node once, and no connection ends; a legal one behind it is taken."""
+    match = RelayMatch(1, seed)
+    relays = [Relay(match.folder, f"relay{seat}", *match.places(seat)) for seat in range(2)]
+    match.set_up()
+    bots = [Dialler(relay) for relay in relays]
+    # Alice is position 0 of hand 0, which is the big blind: bob acts first.
+    lines = [bot.line() for bot in bots]
+    bots[1].say(lines[1].rstrip() + b":c\r\n")
+    want(bots[1].line().split(b":")[3] == b"c", "the call is told to bob")
+    line = bots[0].line()
+    want(line.split(b":")[3] == b"c", "the call is told to alice")
+    bots[0].say(line.rstrip() + b":f\r\n")
+    time.sleep(6)
+    refusals = [[note for note in match.notes(node) if note.endswith(f"at node {node}: 85 Illegal 21 FoldNotFacing")] for node in range(3)]
+    want([len(notes) for notes in refusals] == [1, 1, 1], f"notes of refusals: {refusals}")
+    want(not any("lost" in note for note in relays[0].notes()), f"a connection ended: {relays[0].notes()}")
+    bots[0].say(line.rstrip() + b":c\r\n")
+    want(bots[0].line().split(b":")[3] == b"cc/", "the legal answer is taken")
+    for bot in bots:
+        bot.close()
+    for relay in relays:
+        relay.ends(1)
+
+
+@test()
+def wrong_actions_with_nodes(folder, seed, is_long):
+    """A bot that was written for the competition's dealer, which mends, plays a match with --mend."""
+    match = RelayMatch(60, seed, options=["--mend", TOP / "examples" / GAME])
+    bot = match.folder / "dealer_bot"
+    subprocess.run([os.environ.get("CC", "cc"), "-O1", "-o", bot, TOP / "tests/dealer_bot.c"], check=True)
+    relays = [Relay(match.folder, f"relay{seat}", *match.places(seat), options=match.options) for seat in range(2)]
+    bots = [subprocess.Popen([bot, str(seat), "127.0.0.1", str(relay.port)]) for seat, relay in enumerate(relays)]
+    try:
+        match.set_up()
+        Match.ends(match)
+        for relay in relays:
+            relay.ends(3)
+        want([one.wait(patience()) for one in bots] == [0, 0], "the bots end with 0")
+    finally:
+        for one in bots:
+            one.kill()
+            one.wait()
+    mended = sum("mended to" in note for relay in relays for note in relay.notes())
+    want(mended > 0, "nothing was mended")
+    return f"{mended} answers mended"
+
+
+@test()
+def two_relays(folder, seed, is_long):
+    """Two relays at one seat of a match with tokens, where the one who comes last has it, turn each other away. One notices, and
+    holds back; once one has ended the other has the seat."""
+    match = League(hands=5, game=GAME)
+    tokens = [match.folder / f"token{seat}" for seat in range(2)]
+    for seat in range(2):
+        tokens[seat].write_text(match.token(seat) + "\n")
+    places = [f"127.0.0.1:{match.seats[node]}" for node in range(3)]
+    other = [f"127.0.0.1:{match.seats[node] + 1}" for node in range(3)]
+    match.set_up()
+    bob = Relay(folder, "bob", *other, options=["--token-file", tokens[1]])
+    bob_bot = Dialler(bob)
+    relays = [Relay(folder, f"alice{number}", *places, options=["--token-file", tokens[0]]) for number in range(2)]
+    bots = [Dialler(relay) for relay in relays]
+    waited(lambda: any("another client has this seat: dials again in" in note for relay in relays for note in relay.notes()), "the note of another client", lambda: str([relay.notes() for relay in relays]))
+    bots[0].close()
+    relays[0].ends(1)
+    want(bob_bot.line().startswith(b"MATCHSTATE:1:0::"), "bob is told the deal")
+    want(bots[1].line().startswith(b"MATCHSTATE:0:0::"), "alice is told the deal")
+    count = sum(note.endswith("seated") for note in relays[1].notes())
+    waited(lambda: sum(note.endswith("seated") for note in relays[1].notes()) >= min(count + 1, 3), "a seat", lambda: str(relays[1].notes()))
+    bots[1].close()
+    bob_bot.close()
+
+
+@test()
+def tokens(folder, seed, is_long):
+    """A relay shows the token of its file; with a wrong one it is turned away, and says so."""
+    match = League(hands=20, game=GAME)
+    match.set_up()
+    files = []
+    for seat in range(2):
+        files.append(match.folder / f"token{seat}")
+        files[seat].write_text(match.token(seat) + "\n")
+    places = [[f"127.0.0.1:{match.seats[node] + seat}" for node in range(3)] for seat in range(2)]
+    wrong = Relay(folder, "wrong", *places[0], options=["--token-file", files[1]])
+    bot = Dialler(wrong)
+    wrong.await_note("turned away: wrong token? dials again in 5 s")
+    bot.close()
+    wrong.ends(1, "the bot ended its connection")
+    relays = [Relay(folder, f"relay{seat}", *places[seat], options=["--token-file", files[seat]]) for seat in range(2)]
+    stock = [StockBot(match.folder, seat, relay.port, seed, is_in_c=seat == 0) for seat, relay in enumerate(relays)]
+    match.ends()
+    for seat, relay in enumerate(relays):
+        relay.ends(3)
+        stock[seat].ends()
+        lines = b"".join(line.encode() + b"\r\n" for line in serve.lines_of(match, match.log(0), seat))
+        want(stock[seat].record() == lines, f"bot {seat} got {stock[seat].record().count(10)} lines")
+    want(not [fault for fault in match.faults() if "seat 1" in fault], f"faults are told: {match.faults()[:4]}")
+
+
+@test()
+def stays(folder, seed, is_long):
+    """With --stay a relay hangs up at all nodes once its bot left, and serves the next one from the newest line on."""
+    match = League(hands=5, game=GAME)
+    match.set_up()
+    for seat in range(2):
+        (match.folder / f"token{seat}").write_text(match.token(seat))
+    relays = []
+    for seat in range(2):
+        places = [f"127.0.0.1:{match.seats[node] + seat}" for node in range(3)]
+        options = ["--token-file", match.folder / f"token{seat}", *(["--stay"] if seat == 1 else [])]
+        relays.append(Relay(folder, f"relay{seat}", *places, options=options))
+    alice, bob = (Dialler(relay) for relay in relays)
+    line = bob.line()
+    want(line.startswith(b"MATCHSTATE:1:0::"), f"bob is told {line!r}")
+    for node in range(3):
+        match.await_told(node, "seats", "alice:seated", "bob:seated")
+    bob.close()
+    for node in range(3):
+        waited(lambda: "bob:seated" not in match.asked(node).get("seats", "bob:seated"), f"node {node} to have bob no more", lambda: str(match.asked(node)))
+    bob = Dialler(relays[1])
+    want(bob.line() == line, "the next bot is told the newest line")
+    bob.say(line.rstrip() + b":c\r\n")
+    want(bob.line().split(b":")[3] == b"c", "and heard")
+    want(relays[1].process.poll() is None, "the relay stays")
+    bob.close()
+    alice.close()
+    relays[0].ends(1, "the bot ended its connection")
+
+
+@test()
+def links_that_are_cut(folder, seed, is_long):
+    """The host of a relay is cut off for good: within half a minute its seat is free at each node. And a node's host is cut
+    off: the relay's connection to it ends as soon."""
+    try:
+        match = League(hands=5, game=GAME, on_hosts=True)
+    except NoHosts as why:
+        return f"not tried: {why}"
+    match.set_up()
+    for seat in range(2):
+        (match.folder / f"token{seat}").write_text(match.token(seat))
+    places = [[f"{match.address(node)}:{match.seats[node] + seat}" for node in range(3)] for seat in range(2)]
+    relays, bots = [], []
+    # Alice's relay is here, at the switch. Bob's is on the host of node 2, with his bot.
+    for seat in range(2):
+        starter = match.hosts.starter(2) if seat == 1 else ()
+        relays.append(Relay(folder, f"relay{seat}", *places[seat], options=["--token-file", match.folder / f"token{seat}"], starter=starter))
+        bots.append(StockBot(match.folder, seat, relays[seat].port, seed, pause=0.05, starter=starter))
+    for node in range(3):
+        match.await_told(node, "seats", "alice:seated", "bob:seated")
+    cut = time.monotonic()
+    match.hosts.cut_off(2)
+    free = waited(lambda: time.monotonic() - cut if "bob:seated" not in match.asked(0).get("seats", "bob:seated") else None, "bob's seat to be free", lambda: str(match.asked(0)))
+    relays[0].await_note("node 2: connection lost")
+    took = time.monotonic() - cut
+    want(5 < free < 45, f"bob's seat was free after {free:.1f} s")
+    want(5 < took < 45, f"alice's connection to node 2 ended after {took:.1f} s")
+    return f"the seat was free after {free:.1f} s, the relay's connection ended after {took:.1f} s"

@@ -1,0 +1,591 @@
+"""What tests/relay tries of a relay by clients in place of nodes and bots, which say what they like."""
+import os
+import re
+import resource
+import socket
+import subprocess
+import time
+from pathlib import Path
+
+from refuser import refuser_in
+from serving import TOP, is_free, want, waited
+
+from processes_match import Match, free_ports
+from relay_match import GAME, VERSION, Dialler, Node, Relay, test
+
+# The button's first line of a hand, and the line behind his call: the big blind, at position 0, faces nothing.
+LINE = b"MATCHSTATE:0:0:c:5d5c|"
+BEFORE = b"MATCHSTATE:0:0::5d5c|"
+END = b"\r\n"
+TRACED = re.compile(rb"([0-9]+\.[0-9]{6}) (TO|FROM) (.*)\n")
+
+
+def relayed(folder, nodes, *options, name="relay"):
+    """A relay for these nodes."""
+    return Relay(folder, name, *(node.address for node in nodes), options=options)
+
+
+def got_by(nodes, place=0):
+    """What each node got behind the version over its connection of this number."""
+    return [node.got[place][len(VERSION) :] if len(node.got) > place else None for node in nodes]
+
+
+@test()
+def any_bytes_of_nodes(folder, seed, is_long):
+    """A node that says what is no dealer's line, or a line above 4096 bytes, is hung up with a note; of the others each line
+    comes once. Comments aren't passed on."""
+    longest = b"MATCHSTATE:0:1::5d5c|" + b"x" * (4096 - 21)
+    right = Node(b"# a comment\r\n;another\r\n" + BEFORE + b"\n" + BEFORE + END + longest + END + BEFORE + END)
+    wrong = {
+        "it sent what is no dealer's line": [bytes(range(256)) * 40, b"\r\n", b"MATCHSTATE:0:0:" + END, b"MATCHSTATE:0:01::|" + END],
+        "it sent a line of more than 4096 bytes": [b"x" * 10000, longest + b"x" + END],
+    }
+    for note, texts in wrong.items():
+        for number, text in enumerate(texts):
+            nodes = [Node(text), right]
+            relay = relayed(folder, nodes, name=f"relay{number}")
+            bot = Dialler(relay)
+            want([bot.line(), bot.line()] == [BEFORE + END, longest + END], f"beside {text[:40]!r} come not the lines")
+            bot.gets_nothing()
+            relay.await_note(f"node 0: disconnected, {note}")
+            waited(lambda: len(nodes[0].got) > 1, "another dial")
+            want(set(nodes[0].got) - {b""} == {VERSION}, f"the wrong node got {nodes[0].got}")
+            want(len(right.connections) == number + 1 + (len(wrong["it sent what is no dealer's line"]) if "4096" in note else 0), "the right node's connection lasts")
+            bot.close()
+            relay.ends(1, "the bot ended its connection")
+
+
+@test()
+def lines_once_and_in_order(folder, seed, is_long):
+    """Lines of several nodes, one of which tells 30,000 old ones, come once each, in order."""
+    lines = [b"MATCHSTATE:0:%d:%s:5d5c|" % (hand, betting) for hand in range(7500) for betting in (b"", b"r300", b"r300c/", b"r300c/c")]
+    nodes = [Node() for _ in range(3)]
+    relay = relayed(folder, nodes)
+    bot = Dialler(relay)
+    waited(lambda: all(node.connections for node in nodes), "all nodes to be dialled")
+    nodes[0].say(END.join(lines[:20000]) + END)
+    for line in lines[:20000]:
+        want(bot.line() == line + END, f"{line} comes next")
+    nodes[1].say(END.join(lines[:20001]) + END)
+    want(bot.line() == lines[20000] + END, "the first line that is new")
+    nodes[0].say(lines[20001] + END)
+    want(bot.line() == lines[20001] + END, "the next one, of another node")
+    nodes[2].say(END.join(lines) + END)
+    for line in lines[20002:]:
+        want(bot.line() == line + END, f"{line} comes next")
+    nodes[1].say(END.join(lines[20001:]) + END)
+    bot.gets_nothing()
+    bot.close()
+    relay.ends(1)
+    want(relay.shares() == [20001, 1, len(lines) - 20002], f"of each node came {relay.shares()}")
+
+
+@test()
+def answers_go_to_one_node(folder, seed, is_long):
+    """An answer goes to the node that told its line first, to others where no line comes in 0.5, then 1 and 2 seconds, and
+    to each once. What isn't an answer to the newest line goes nowhere."""
+    nodes = [Node(), Node(), Node(), Node()]
+    relay = relayed(folder, nodes)
+    bot = Dialler(relay)
+    waited(lambda: all(node.connections for node in nodes), "all nodes to be dialled")
+    nodes[2].say(LINE + END)
+    want(bot.line() == LINE + END, "the line")
+    for node in (nodes[0], nodes[3]):
+        node.say(LINE + END)
+    time.sleep(0.2)
+    bot.say(b"x\r\n;comment\r\n#comment\n" + BEFORE + b":c\r\n" + LINE + b"\r\n" + b"y" * 9000 + END)
+    begun = time.monotonic()
+    bot.say(LINE + b":c\r\n")
+    answer, times = LINE + b":c" + END, {}
+    while len(times) < 3:
+        want(time.monotonic() < begun + 10, f"the answer went to {times}")
+        for number, got in enumerate(got_by(nodes)):
+            want(got in (b"", answer), f"node {number} got {got!r}")
+            if got:
+                times.setdefault(number, time.monotonic() - begun)
+        time.sleep(0.002)
+    want(list(times) == [2, 3, 0], f"the order is {list(times)}")
+    for number, due in ((2, 0), (3, 0.5), (0, 1.5)):
+        # (a busy machine may be late, and never early)
+        want(due - 0.01 <= times[number] < due + 3, f"node {number} was told after {times[number]:.2f} s, not {due}")
+    time.sleep(4.5)
+    want(got_by(nodes) == [answer, b"", answer, answer], f"nodes got {got_by(nodes)}")
+    # The line comes of the node that hadn't told it yet: now it is told the answer too.
+    nodes[1].say(LINE + END)
+    waited(lambda: got_by(nodes)[1] == answer, "the answer at the last node")
+    bot.say(LINE + b":r300" + END)
+    waited(lambda: got_by(nodes)[2] == answer + LINE + b":r300" + END, "another answer")
+    further = b"MATCHSTATE:0:0:cr300:5d5c|"
+    nodes[0].say(further + END)
+    want(bot.line() == further + END, "the next line")
+    time.sleep(1)
+    want(got_by(nodes) == [answer, answer, answer + LINE + b":r300" + END, answer], "an answer is said no more once there is a further line")
+    bot.close()
+    relay.ends(1, "the bot ended its connection")
+    want("bot: disconnected (3 lines were no answers to the newest line, 1 too long)" in relay.notes(), f"{relay.notes()}")
+    want([note for note in relay.notes() if "said again" in note] == [f"node {number}: answer said again" for number in (3, 0, 1)], f"{relay.notes()}")
+
+
+@test()
+def answers_of_lost_connections(folder, seed, is_long):
+    """Where a connection ends over which an answer was said it is said to another node at once, and over the next one again
+    once that tells the line."""
+    nodes = [Node(LINE + END), Node(LINE + END)]
+    relay = relayed(folder, nodes)
+    bot = Dialler(relay)
+    want(bot.line() == LINE + END, "the line")
+    time.sleep(0.2)
+    answer = LINE + b":c" + END
+    bot.say(answer)
+    waited(lambda: answer in got_by(nodes), "the answer at a node")
+    first = got_by(nodes).index(answer)
+    ended = time.monotonic()
+    nodes[first].hang_up()
+    waited(lambda: got_by(nodes)[1 - first] == answer, "the answer at the other node")
+    want(time.monotonic() - ended < 0.3, "at once")
+    waited(lambda: len(nodes[first].got) > 1 and nodes[first].got[1] == VERSION + answer, "the answer over the next connection")
+    bot.close()
+    relay.ends(1)
+
+
+@test()
+def only_node_with_the_line_hangs(folder, seed, is_long):
+    """The only node that has told the newest line hangs with the answer: once another tells the line, that is told it."""
+    nodes = [Node(), Node()]
+    relay = relayed(folder, nodes)
+    bot = Dialler(relay)
+    waited(lambda: all(node.connections for node in nodes), "all nodes to be dialled")
+    nodes[0].say(LINE + END)
+    want(bot.line() == LINE + END, "the line")
+    answer = LINE + b":c" + END
+    bot.say(answer)
+    waited(lambda: got_by(nodes)[0] == answer, "the answer at the node")
+    time.sleep(1.2)
+    want(got_by(nodes)[1] == b"", "who hasn't told the line isn't told the answer")
+    told = time.monotonic()
+    nodes[1].say(LINE + END)
+    waited(lambda: got_by(nodes)[1] == answer, "the answer at the other")
+    want(time.monotonic() - told < 0.3, "at once")
+    bot.close()
+    relay.ends(1)
+
+
+# Each kind of the table of docs/BOTS.md, by game: the betting before it, what the bot says, and what is said for it.
+MENDED = {
+    GAME: {
+        "c": {"f": "c", "r1": "r200", "r199": "r200", "r20001": "r20000", "r99999": "r20000", "r" + "9" * 60: "r20000", "r": "c", "x": "c", "": "c", "C": "c", "r-5": "c", "c ": "c", "r300 chips": "r300", "r0300": "r300", "fold": "c", "call": "c", "f": "c"},
+        "r300c/r20000": {"r20000": "c", "r30000": "c", "fold": "f"},
+    },
+    "l2.game": {"c": {"f": "c", "r100": "r", "R": "c", "x": "c"}, "crrr": {"r": "c"}},
+}
+# Who is to act behind these, by position.
+TO_ACT = {"c": 0, "r300c/r20000": 1, "crrr": 1}
+# What is right goes as it was said.
+RIGHT = {GAME: {"c": ["c", "r200", "r20000", "r300"], "r300c/r20000": ["c", "f"]}, "l2.game": {"c": ["c", "r"], "crrr": ["c", "f"]}}
+
+
+def said_for(folder, game, line, said):
+    """What a node is told where a bot says something to a line, and whether a note says that it was mended."""
+    node = Node(line + END)
+    relay = relayed(folder, [node], "--mend", TOP / "examples" / game)
+    bot = Dialler(relay)
+    want(bot.line() == line + END, "the line")
+    bot.say(line + b":" + said + END)
+    waited(lambda: got_by([node])[0], f"an answer for {said!r}")
+    got = got_by([node])[0]
+    bot.close()
+    relay.ends(1)
+    return got, any("mended to" in note for note in relay.notes()), relay.notes()
+
+
+@test()
+def mended_actions(folder, seed, is_long):
+    """With --mend each kind of a wrong action goes as the competition's dealer mends it, with a note; a right one as it is."""
+    for game, bettings in MENDED.items():
+        for betting, rows in bettings.items():
+            line = b"MATCHSTATE:%d:0:%s:|" % (TO_ACT[betting], betting.encode())
+            for said, meant in [*rows.items(), *((right, right) for right in RIGHT[game].get(betting, []))]:
+                got, is_mended, notes = said_for(folder, game, line, said.encode())
+                want(got == line + b":" + meant.encode() + END, f"{game}, {betting}: for {said!r} the node got {got!r}")
+                want(is_mended == (said != meant), f"{said!r}: {notes}")
+    # Bytes that can't be printed are question marks in the note.
+    _, _, notes = said_for(folder, GAME, LINE, b"\x1b[2J\xff\x00")
+    want(f"bot: {LINE.decode()}:?[2J??: mended to {LINE.decode()}:c" in notes, f"{notes}")
+
+
+@test()
+def wrong_actions_without_mending(folder, seed, is_long):
+    """Without --mend an answer goes as it was said, whatever stands behind its colon."""
+    node = Node(LINE + END)
+    relay = relayed(folder, [node])
+    bot = Dialler(relay)
+    want(bot.line() == LINE + END, "the line")
+    for said in (b":f", b":r1", b":", b":\x00\xff", b"::", b":c:c"):
+        bot.say(LINE + said + b"\n")
+    waited(lambda: got_by([node])[0].endswith(LINE + b":c:c" + END), "the last answer", lambda: str(node.got))
+    answers = got_by([node])[0].split(END)[:-1]
+    want(set(answers) <= {LINE + said for said in (b":f", b":r1", b":", b":\x00\xff", b"::", b":c:c")}, f"{answers}")
+    bot.close()
+    relay.ends(1)
+
+
+@test()
+def a_bot_that_does_not_read(folder, seed, is_long):
+    """What waits for it is bounded, the nodes are held up, and it gets all lines in order once it reads."""
+    lines = b"".join(b"MATCHSTATE:0:%d::5d5c|\r\n" % hand for hand in range(300000))
+    nodes = [Node(lines), Node(lines)]
+    relay = relayed(folder, nodes)
+    bot = Dialler(relay, room=4096)
+    time.sleep(2)
+    kibibytes = int(Path(f"/proc/{relay.process.pid}/statm").read_text().split()[1]) * resource.getpagesize() // 1024
+    want(kibibytes < 16384, f"the relay has {kibibytes} KiB")
+    ticks = sum(map(int, Path(f"/proc/{relay.process.pid}/stat").read_text().rpartition(")")[2].split()[11:13]))
+    time.sleep(1)
+    busy = sum(map(int, Path(f"/proc/{relay.process.pid}/stat").read_text().rpartition(")")[2].split()[11:13])) - ticks
+    want(busy <= 10, f"a relay that waits for its bot is busy for {busy} hundredths of a second")
+    got = bytearray()
+    while len(got) < len(lines):
+        piece = bot.connection.recv(1 << 16)
+        want(piece, f"the connection ended after {len(got)} bytes of {len(lines)}")
+        got += piece
+    want(got == lines, "all lines, in order")
+    bot.gets_nothing()
+    bot.close()
+    relay.ends(1)
+    return f"{kibibytes} KiB"
+
+
+@test()
+def lines_without_an_end(folder, seed, is_long):
+    """A bot that says 10,000 lines without a line feed is heard behind them, and they cost nothing."""
+    node = Node(LINE + END)
+    relay = relayed(folder, [node])
+    bot = Dialler(relay)
+    bot.line()
+    for _ in range(100):
+        bot.say((LINE + b":c\r") * 100)
+    bot.say(b"\n" + LINE + b":c" + END)
+    waited(lambda: got_by([node])[0], "the answer")
+    want(got_by([node])[0] == LINE + b":c" + END, f"the node got {got_by([node])[0][:200]!r}")
+    bot.close()
+    relay.ends(1)
+    want("bot: disconnected (0 lines were no answers to the newest line, 1 too long)" in relay.notes(), f"{relay.notes()}")
+
+
+@test()
+def a_node_that_does_not_read(folder, seed, is_long):
+    """A node that takes nothing holds up itself alone: answers go to the other."""
+    lines = [b"MATCHSTATE:0:%d::%s|" % (hand, b"x" * 3000) for hand in range(4000)]
+    deaf, node = socket.create_server(("127.0.0.1", 0)), Node()
+    deaf.setsockopt(socket.SOL_SOCKET, socket.SO_RCVBUF, 4096)
+    relay = Relay(folder, "relay", f"127.0.0.1:{deaf.getsockname()[1]}", node.address)
+    bot = Dialler(relay)
+    connection, _ = deaf.accept()
+    waited(lambda: node.connections, "the node to be dialled")
+    try:
+        for line in lines[: 4000 if is_long else 400]:
+            connection.sendall(line + END)
+            node.say(line + END)
+            want(bot.line() == line + END, "the line")
+            bot.say(line + b":c" + END)
+            waited(lambda: node.got[0].endswith(line + b":c" + END) or True, "")
+        kibibytes = int(Path(f"/proc/{relay.process.pid}/statm").read_text().split()[1]) * resource.getpagesize() // 1024
+        want(kibibytes < 16384, f"the relay has {kibibytes} KiB")
+    finally:
+        connection.close()
+        deaf.close()
+    bot.close()
+    relay.ends(1)
+
+
+@test()
+def versions(folder, seed, is_long):
+    """A bot that names no version 2.0 is turned away, and no node is dialled. Comments may stand before the version."""
+    for said in (b"VERSION:1.0.0\r\n", b"VERSION:2.0.\r\n", b"VERSION:2.0.1234567890\r\n", LINE + b":c\r\n", b"\n"):
+        node = Node()
+        relay = relayed(folder, [node])
+        bot = Dialler(relay, said)
+        want(bot.line() == b"", f"the connection ends behind {said!r}")
+        relay.ends(1, "the bot's first line isn't VERSION:2.0.0")
+        want(not node.connections, "a node was dialled")
+    for said in (b"VERSION:2.0.0\n", b"VERSION:2.0.123456789\r\n", b"#comment\r\n;another\nVERSION:2.0.7\r\n"):
+        node = Node(LINE + END)
+        relay = relayed(folder, [node])
+        bot = Dialler(relay, said)
+        want(bot.line() == LINE + END, f"a line comes behind {said!r}")
+        waited(lambda: node.got == [VERSION], "the node to get the first lines", lambda: str(node.got))
+        bot.close()
+        relay.ends(1)
+
+
+@test()
+def one_bot_at_a_time(folder, seed, is_long):
+    """A second client waits while the first bot lives. A note names who came. With --stay it is served once that has left."""
+    node = Node(LINE + END)
+    relay = relayed(folder, [node], "--stay")
+    first = Dialler(relay)
+    want(first.line() == LINE + END, "the line")
+    relay.await_note("bot: connected from 127.0.0.1")
+    second = Dialler(relay)
+    second.gets_nothing()
+    want(len(node.connections) == 1, "one connection to the node")
+    first.close()
+    want(second.line() == LINE + END, "the line")
+    waited(lambda: node.got == [VERSION, VERSION], "the node to get the first lines", lambda: str(node.got))
+    second.close()
+    waited(lambda: sum("bot: disconnected" in note for note in relay.notes()) == 2, "the second bot's end")
+    want(relay.process.poll() is None, "the relay stays")
+
+
+def status_of(*words):
+    """The status of a relay that is started so, and what it printed."""
+    ran = subprocess.run([Match.program, "relay", *map(str, words)], stdin=subprocess.DEVNULL, capture_output=True, timeout=20)
+    return ran.returncode, ran.stdout, ran.stderr
+
+
+@test()
+def ports_and_words(folder, seed, is_long):
+    """The local port and address that are asked for; wrong words and files, and a port that another has."""
+    port, node = free_ports(1), Node(LINE + END)
+    for listen, address in (("127.0.0.1", "127.0.0.1"), ("127.0.0.2", "127.0.0.2"), ("[::1]", "::1")):
+        relay = relayed(folder, [node], "--port", port, "--listen", listen)
+        want(relay.port == port, f"its port is {relay.port}, not {port}")
+        with socket.create_connection((address, port)) as bot:
+            bot.sendall(VERSION)
+            want(bot.recv(100) == LINE + END, f"a line comes at {listen}")
+            status, printed, told = status_of("--port", port, "--listen", listen, node.address)
+            want((status, printed) == (1, b"") and b"105 LinkFailed" in told, f"a port that another has: {status, printed, told}")
+        relay.ends(1)
+        waited(lambda: is_free(port), "the port")
+    files = {"none": None, "empty": b"", "long": b"x" * 201, "space": b" x"}
+    for name, text in files.items():
+        if text is not None:
+            (folder / name).write_bytes(text)
+    for words in (
+        [], ["host:1"], ["127.0.0.1"], ["127.0.0.1:70000"], ["127.0.0.1:1"] * 8, ["--port", "70000", node.address], ["--listen", "host", node.address],
+        ["--give-up", "0", node.address], ["--mend", folder / "none", node.address], ["--mend", folder / "empty", node.address],
+        ["--trace", folder / "none/none", node.address], *(["--token-file", folder / name, node.address] for name in files),
+    ):
+        status, printed, told = status_of(*words)
+        want((status, printed) == (2, b"") and told, f"{words}: {status, printed, told}")
+
+
+@test()
+def token_of_a_file(folder, seed, is_long):
+    """The token stands before the version, over each connection, and nothing else of the file."""
+    (folder / "token").write_text("abc.~!\r\nmore\n")
+    node = Node(LINE + END)
+    relay = relayed(folder, [node], "--token-file", folder / "token")
+    bot = Dialler(relay)
+    bot.line()
+    waited(lambda: node.got == [b"#TOKEN abc.~!\r\n" + VERSION], "the node to get the first lines", lambda: str(node.got))
+    time.sleep(1.2)
+    node.hang_up()
+    waited(lambda: len(node.got) > 1 and node.got[1], "another dial")
+    waited(lambda: node.got[1] == b"#TOKEN abc.~!\r\n" + VERSION, "the node to get the first lines", lambda: str(node.got))
+    want("abc" not in "".join(relay.notes()), "the token stands in no note")
+    bot.close()
+    relay.ends(1)
+
+
+def is_right_trace(rows, wanted):
+    """Whether a trace has these ways and lines, at times that are about now and never go back."""
+    found = [TRACED.fullmatch(row) for row in rows]
+    times = [float(row[1]) for row in found if row]
+    return all(found) and [(row[2], row[3]) for row in found] == wanted and times == sorted(times) and all(abs(at - time.time()) < 60 for at in times)
+
+
+@test()
+def traces(folder, seed, is_long):
+    """--trace has each line to and from the bot with its time, in a file or behind the port's line."""
+    for where in ("-", folder / "trace"):
+        node = Node(LINE + END + LINE + END)
+        relay = relayed(folder, [node], "--trace", where)
+        bot = Dialler(relay)
+        bot.line()
+        bot.say(b"nothing\r\n" + LINE + b":c" + END)
+        waited(lambda: got_by([node])[0], "the answer")
+        bot.close()
+        relay.ends(1)
+        rows = (relay.output if where == "-" else where.read_bytes()).splitlines(keepends=True)
+        wanted = [(b"FROM", VERSION[:-2]), (b"TO", LINE), (b"FROM", b"nothing"), (b"FROM", LINE + b":c")]
+        want(is_right_trace(rows, wanted), f"the trace is {rows}")
+
+
+@test()
+def traces_that_cannot_be_written(folder, seed, is_long):
+    """What of the trace can't be written is dropped and counted: the bot gets its lines all the same."""
+    count = 30000
+    lines = [b"MATCHSTATE:0:%d::5d5c|" % hand for hand in range(count)]
+    for where in ("full disk", "nobody reads", "closed"):
+        node = Node(END.join(lines) + END)
+        relay = relayed(folder, [node], "--trace", "/dev/full" if where == "full disk" else "-", name=where.split()[0])
+        if where == "closed":
+            relay.process.stdout.close()
+        bot = Dialler(relay)
+        for line in lines:
+            want(bot.line() == line + END, f"{where}: {line} comes next")
+        bot.close()
+        if where == "closed":
+            waited(lambda: relay.process.poll() is not None, "its end")
+        else:
+            relay.ends(1)
+        found = re.findall(r"; (\d+) lines left out of the trace", " ".join(relay.notes()))
+        dropped = int(found[0]) if found else 0
+        rows = relay.output.count(b"\n")
+        want(dropped > 0 and dropped + rows == count + 1, f"{where}: {rows} lines are in the trace, {dropped} are counted, of {count + 1}: {relay.notes()[-3:]}")
+
+
+@test()
+def times_of_notes(folder, seed, is_long):
+    """With --times each note begins with its time."""
+    node = Node(LINE + END)
+    relay = relayed(folder, [node], "--times")
+    Dialler(relay).line()
+    relay.process.terminate()
+    relay.await_note("bot: connected")
+    want(all(re.match(r"\d{4}-\d\d-\d\dT\d\d:\d\d:\d\d\.\d{3}Z ", note) for note in relay.notes()), f"{relay.notes()}")
+
+
+@test()
+def no_node_is_reached(folder, seed, is_long):
+    """Where no node is reached for --give-up seconds it ends with status 1. The time begins when the bot has come."""
+    port = free_ports(1)
+    relay = Relay(folder, "relay", f"127.0.0.1:{port}", options=["--give-up", 2])
+    time.sleep(2.5)
+    want(relay.process.poll() is None, "no bot came yet")
+    begun, bot = time.monotonic(), Dialler(relay)
+    want(bot.line() == b"", "the connection ends")
+    took = time.monotonic() - begun
+    relay.ends(1, "no node was reached")
+    want(2 <= took < 3.5, f"it gave up after {took:.1f} s")
+
+
+@test()
+def over_or_lost(folder, seed, is_long):
+    """Ten seconds after each node has refused, its bot's connection ends, with status 3. A node that is back counts anew. A bot
+    that reads late gets all lines before that."""
+    lines = [b"MATCHSTATE:0:%d::5d5c|" % hand for hand in range(3000)]
+    node = Node(END.join(lines) + END)
+    port = int(node.address.split(":")[1])
+    relay = relayed(folder, [node])
+    slow = relayed(folder, [node], name="slow")
+    bot, late = Dialler(relay), Dialler(slow, room=4096)
+    for line in lines:
+        want(bot.line() == line + END, f"{line} comes next")
+    time.sleep(1)
+    node.remove()
+    time.sleep(5)
+    again = Node(lines[-1] + END, port=port)
+    waited(lambda: again.connections, "the node to be dialled again")
+    time.sleep(1)
+    again.remove()
+    begun = time.monotonic()
+    want(bot.line() == b"", "the connection ends")
+    took = time.monotonic() - begun
+    relay.ends(3, "each node has refused for ten seconds: over or lost")
+    want(9.5 <= took < 30, f"the connection ended after {took:.1f} s")
+    for line in lines:
+        want(late.line() == line + END, f"a bot that reads late: {line} comes next")
+    want(late.line() == b"", "the connection ends")
+    slow.ends(3)
+
+
+@test()
+def turned_away(folder, seed, is_long):
+    """Nodes that close before any line: a note, and none is dialled for five seconds, then ten."""
+    nodes = [Node(stays=False) for _ in range(3)]
+    relay = relayed(folder, nodes)
+    bot = Dialler(relay)
+    relay.await_note("turned away: wrong token? dials again in 5 s")
+    time.sleep(0.5)
+    counts = [len(node.connections) for node in nodes]
+    time.sleep(3.5)
+    want([len(node.connections) for node in nodes] == counts, "nodes are dialled meanwhile")
+    relay.await_note("turned away: wrong token? dials again in 10 s")
+    bot.close()
+    relay.ends(1)
+
+
+@test()
+def another_client(folder, seed, is_long):
+    """Nodes that close as soon as they have told a line: another has the seat. One that closes alone says nothing of that."""
+    nodes = [Node(LINE + END, stays=False) for _ in range(3)]
+    relay = relayed(folder, nodes)
+    bot = Dialler(relay)
+    want(bot.line() == LINE + END, "the line")
+    relay.await_note("another client has this seat: dials again in 5 s")
+    bot.close()
+    relay.ends(1)
+    nodes = [Node(LINE + END, stays=False), Node(LINE + END), Node(LINE + END)]
+    relay = relayed(folder, nodes, name="other")
+    bot = Dialler(relay)
+    time.sleep(3)
+    want(not [note for note in relay.notes() if "another client" in note], f"{relay.notes()}")
+    want(len(nodes[0].connections) > 5, "it is dialled again and again")
+    bot.close()
+    relay.ends(1)
+
+
+@test()
+def an_answer_before_the_end(folder, seed, is_long):
+    """A bot that answers and ends its connection at once is heard."""
+    for number in range(20):
+        node = Node(LINE + END)
+        relay = relayed(folder, [node], name=f"relay{number}")
+        bot = Dialler(relay)
+        want(bot.line() == LINE + END, "the line")
+        bot.say(LINE + b":c" + END)
+        bot.close()
+        relay.ends(1, "the bot ended its connection")
+        waited(lambda: got_by([node])[0] == LINE + b":c" + END, f"the answer; the node got {node.got}")
+
+
+def with_refusal(folder, library, number):
+    """A relay of whose growths one is refused, and what came of it: the status, the notes, what the node and the bot got."""
+    node, said, got = Node(LINE + END), LINE + b":r1" + END, b""
+    words = [Match.program, "relay", "--mend", TOP / "examples" / GAME, "--trace", folder / "trace", node.address]
+    environment = {**os.environ, "LD_PRELOAD": str(library), "REFUSED_GROWTH": str(number)}
+    process = subprocess.Popen(words, stdin=subprocess.DEVNULL, stdout=subprocess.PIPE, stderr=subprocess.PIPE, env=environment)
+    try:
+        port = process.stdout.readline()
+        if port.strip():
+            with socket.create_connection(("127.0.0.1", int(port))) as bot:
+                try:
+                    bot.sendall(VERSION)
+                    while not got.endswith(END) and (piece := bot.recv(4096)):
+                        got += piece
+                    bot.sendall(said)
+                    waited(lambda: node.got and node.got[-1].endswith(b":r200" + END) or process.poll() is not None, "an answer or the end")
+                except OSError:
+                    pass
+        notes = process.stderr.read().decode(errors="replace").splitlines()
+        return process.wait(10), notes, node.got, got
+    finally:
+        process.kill()
+        process.wait()
+        process.stdout.close()
+        process.stderr.close()
+        node.remove()
+
+
+@test()
+def growths(folder, seed, is_long):
+    """Each growth of a relay is refused once: it ends with 92 OutOfMemory, or goes on without a note or a line of the trace; to
+    node and bot goes nothing but what would go anyway."""
+    library, counts = refuser_in(folder), [0, 0]
+    whole = VERSION + LINE + b":r200" + END
+    for number in range(1, 1000):
+        status, notes, at_node, at_bot = with_refusal(folder, library, number)
+        if "a growth was refused" not in " ".join(notes):
+            break
+        is_ended = at_node[-1:] != [whole]
+        counts[is_ended] += 1
+        want(all(whole.startswith(got) for got in at_node), f"growth {number}: the node got {at_node}")
+        want((LINE + END).startswith(at_bot), f"growth {number}: the bot got {at_bot}")
+        told = [note for note in notes if "a growth was refused" not in note]
+        want(status in (1, 2), f"growth {number}: status {status}, {notes}")
+        if is_ended:
+            want(told[-1:] == ["92 OutOfMemory"], f"growth {number}: {status}, {notes}")
+    want(counts[0] > 0 and counts[1] > 0, f"the counts are {counts}")
+    return f"{counts[1]} refusals ended it, {counts[0]} didn't"
