@@ -15,7 +15,7 @@ sys.path.insert(0, str(Path(__file__).resolve().parent))
 
 from serving import FAST, NAMES, TOP, Wrong, is_free, loaded, patience, want, waited
 
-from player import Process, sit
+from player import batches, dial, send
 from processes_ways import Hosts, Ways
 from table import Game, turn_of
 
@@ -26,6 +26,8 @@ serve = loaded("tests/serve")
 GOES_ON, ENDS = 20, 40
 # How long a bot thinks where a test needs time to do something to its match, in seconds.
 PACE = 0.02
+# How long a bot waits until a process is reached, and then for the line that follows what it said, in seconds.
+PATIENT = 2.0
 # Below those that a system gives to connections; tests that run side by side have a part of these each.
 PORTS = [10000, 32000]
 TESTS = {}
@@ -70,10 +72,27 @@ class Bot(threading.Thread):
         node = 0
         while not self.match.has_ended.is_set():
             self.sittings.append([])
-            place = Process(self.match.address(node), self.match.seats[node] + self.seat)
-            if not sit(place, self.take, self.match.token(self.seat)):
+            if not self.sit((self.match.address(node), self.match.seats[node] + self.seat)):
                 time.sleep(0.01)
             node = (node + 1) % self.match.count
+
+    def sit(self, address):
+        """Answers each line of a process, until the connection ends or what follows is too late. Whether more came than the
+        newest line."""
+        connection, token, count = dial(address, PATIENT), self.match.token(self.seat), 0
+        if connection is None:
+            return False
+        with connection:
+            send(connection, *([f"#TOKEN {token}"] if token else []), "VERSION:2.0.0")
+            connection.settimeout(PATIENT)
+            for lines in batches(connection):
+                for line in lines:
+                    count += 1
+                    action = self.take(line)
+                    if action is not None:
+                        send(connection, f"{line}:{action}")
+                    connection.settimeout(None if action is None else PATIENT)
+        return count > 1
 
     def take(self, line):
         self.sittings[-1].append(line)
@@ -299,8 +318,9 @@ class Match:
         for node in nodes:
             ran = self.run(node, "check", self.word, f"logs/node{node}.log")
             want((ran.returncode, ran.stdout) == (0, "yes\n"), f"check says {ran.stdout!r} of node {node}'s log")
-        for file in self.folder.glob("machine*/logs/node*.log*"):
-            is_beginning_of(log, file)
+        for pattern in ("node*.log", "node*.log.*"):
+            for file in self.folder.glob(f"machine*/logs/{pattern}"):
+                is_beginning_of(log, file)
         for bot in self.bots:
             self.are_of(log, bot)
 

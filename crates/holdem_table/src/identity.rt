@@ -90,8 +90,8 @@ fn read_kept(rt: &HostRuntime, path: &str, notes: &mut Notes<'_>) -> Result<Vec<
     }
 }
 
-/// Why a match isn't served where a file is of another one; a note names the file.
-fn refused(path: &str, difference: Difference, notes: &mut Notes<'_>) -> Unserved {
+/// Why a match isn't served where a file is of another one, or of none that can be told; a note names the file.
+pub(crate) fn refused(path: &str, difference: Difference, notes: &mut Notes<'_>) -> Unserved {
     notes.tell_file(path, Cause::Unknown);
     Unserved::OtherMatch(difference)
 }

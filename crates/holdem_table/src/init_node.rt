@@ -3,6 +3,7 @@
 
 ghost use Rattle.std.specs.Prelude.{◌<◌, length};
 
+use crate::earlier_store::{refuse_logs, refuse_met_peers};
 use crate::identity::difference;
 use crate::init::{make_store, read, refuse_present, sync_folder, tell_unused};
 use crate::kept_match::{kept_path, unmade_file};
@@ -23,9 +24,10 @@ use streamed::Ending;
 /// says whose it is. Of node 0 it makes `match.kept` before that, unless it is there; for the other nodes that file is copied
 /// from the machine of node 0. Each file is on the disk before the next is made.
 ///
-/// The match file's first six keys are looked at, and its game file. `StoreExists` (103) comes where the node's store is there;
-/// `Unreadable` (104) where `match.kept` isn't there for a node other than 0, `OtherMatch` (109) where it is of another match
-/// or of one that `serve` deals; then nothing is made. `Store` (63) comes where a file can't be made or written. What was made
+/// The match file's first six keys are looked at, its game file, and `logs` where it is there. `StoreExists` (103) comes where
+/// the node's store is there, or what an earlier store of it left: a file that says which store of a peer it met, or a log of
+/// the match. `Unreadable` (104) comes where such a log can't be read, or `match.kept` isn't there for a node other than 0,
+/// `OtherMatch` (109) where that is of another match or of one that `serve` deals. Then nothing is made. `Store` (63) comes where a file can't be made or written. What was made
 /// by then stays, and a `nodeI.kept` without its store is made anew. Notes go to standard error, as of `init`.
 pub(crate) fn init_node(rt: &HostRuntime, path: &str, node: u8) -> Ending {
     match make_node(rt, path, node, &mut Notes::new(rt, false)) {
@@ -45,10 +47,16 @@ fn make_node(rt: &HostRuntime, path: &str, node: u8, notes: &mut Notes<'_>) -> R
     if node as usize >= config.nodes() {
         return Err(Ending::Match(MatchFault::BadEntry(Key::Node)));
     }
+    let store = store_path(rt.alloc(), folder, node)?;
+    refuse_present(rt, store.as_str(), notes)?;
+    refuse_met_peers(rt, folder, node, config.nodes() as u8, notes)?;
+    if let Some(logs) = file.logs() {
+        refuse_logs(rt, logs, node, &config, notes)?;
+    }
     make_files(rt, folder, node, &config, &game, notes)
 }
 
-/// Makes the files in this folder.
+/// Makes the files in this folder, where the node had no store.
 fn make_files(
     rt: &HostRuntime,
     folder: &str,
@@ -60,7 +68,6 @@ fn make_files(
     requires { node < length config.now.sources }
 {
     let store = store_path(rt.alloc(), folder, node)?;
-    refuse_present(rt, store.as_str(), notes)?;
     keep_identity(rt, folder, node, config, game, notes)?;
     keep_node(rt, folder, node, config, notes)?;
     make_store(rt, store.as_str(), (node, config.nodes() as u8), notes)?;
@@ -102,7 +109,7 @@ fn compare(config: &Config, text: &[u8], path: &str, notes: &mut Notes<'_>) -> R
 }
 
 /// The ending where a file can't be read; a note names it, unless it is for want of memory.
-fn unread(path: &str, error: &io::Error, notes: &mut Notes<'_>) -> Ending {
+pub(crate) fn unread(path: &str, error: &io::Error, notes: &mut Notes<'_>) -> Ending {
     let ending = Ending::unread(error);
     if let Ending::Unreadable = ending {
         notes.tell_file(path, Cause::of(error.kind()));

@@ -1,10 +1,11 @@
 //! The lives of its peers' stores that a node knows, each in a file beside its own store.
 
+use crate::identity::refused;
 use crate::kept_match::unread;
 use crate::made_files::put;
 use crate::notes::Notes;
 use dealer_node::NodeFault;
-use match_file::{life_text, read_life};
+use match_file::{Difference, life_text, read_life};
 use match_runs::{Cause, Unserved};
 use node_runs::{LifeKeeper, life_path};
 use peer_codes::Life;
@@ -33,8 +34,8 @@ impl<'a> LifeFiles<'a> {
         }
     }
 
-    /// What is kept of each node, by number; none of a peer whose file isn't there, or was written in part. A note names a
-    /// file that can't be read.
+    /// What is kept of each node, by number; none of a peer whose file isn't there. `OtherMatch` (109) comes where a file says
+    /// no life. A note names it, and one that can't be read.
     pub(crate) fn read(
         &self,
         nodes: u8,
@@ -54,7 +55,7 @@ impl<'a> LifeFiles<'a> {
         match fs::read(self.rt, path) {
             Ok(text) => match read_life(&text) {
                 Some(bytes) => Ok(Some(Life { bytes })),
-                None => Ok(None),
+                None => Err(refused(path, Difference::Unread, notes)),
             },
             Err(error) if error.kind() == io::ErrorKind::NotFound => Ok(None),
             Err(error) => Err(unread(path, &error, notes)),

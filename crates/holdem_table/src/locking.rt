@@ -13,13 +13,36 @@ pub(crate) fn locked(
     notes: &mut Notes<'_>,
 ) -> io::Result<File> {
     let file = opened?;
-    match file.try_lock() {
-        Ok(()) => {}
-        Err(TryLockError::WouldBlock) => return Err(io::Error::from(io::ErrorKind::WouldBlock)),
-        Err(TryLockError::Error(_)) => notes.tell_unlocked(path),
+    if !has_lock(rt, &file, path)? {
+        notes.tell_unlocked(path);
     }
-    if leads_to(rt, path, &file)? {
-        Ok(file)
+    Ok(file)
+}
+
+/// The same, but none where the system gives no locks: a note says so, and the file is closed.
+pub(crate) fn surely_locked(
+    rt: &HostRuntime,
+    opened: io::Result<File>,
+    path: &str,
+    notes: &mut Notes<'_>,
+) -> io::Result<Option<File>> {
+    let file = opened?;
+    if has_lock(rt, &file, path)? {
+        return Ok(Some(file));
+    }
+    notes.tell_unlocked(path);
+    Ok(None)
+}
+
+/// Whether the system gave a lock of a file that was opened at this path.
+fn has_lock(rt: &HostRuntime, file: &File, path: &str) -> io::Result<bool> {
+    let is_given = match file.try_lock() {
+        Ok(()) => true,
+        Err(TryLockError::WouldBlock) => return Err(io::Error::from(io::ErrorKind::WouldBlock)),
+        Err(TryLockError::Error(_)) => false,
+    };
+    if leads_to(rt, path, file)? {
+        Ok(is_given)
     } else {
         Err(io::Error::from(io::ErrorKind::WouldBlock))
     }

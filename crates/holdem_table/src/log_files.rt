@@ -95,7 +95,7 @@ fn had(
 }
 
 /// Why it isn't served where a log can't be had; a note names it, unless it is for want of memory.
-fn no_log(path: &str, error: &io::Error, notes: &mut Notes<'_>) -> Unserved {
+pub(crate) fn no_log(path: &str, error: &io::Error, notes: &mut Notes<'_>) -> Unserved {
     if error.kind() == io::ErrorKind::OutOfMemory {
         return Unserved::from(AllocError);
     }
@@ -132,6 +132,16 @@ pub(crate) fn begin_log(
     notes: &mut Notes<'_>,
 ) -> Result<File, Unserved> {
     LogPlace { rt, folder, node }.begin(log, old_logs, notes)
+}
+
+/// The greatest number of the logs that are kept of a node; none where none is.
+pub(crate) fn newest_kept(
+    rt: &HostRuntime,
+    folder: &str,
+    node: u8,
+    notes: &mut Notes<'_>,
+) -> Result<Option<u32>, Unserved> {
+    LogPlace { rt, folder, node }.newest(notes)
 }
 
 /// Where the log of a node lies, and those that are kept of it.

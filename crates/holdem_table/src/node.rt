@@ -9,21 +9,22 @@ use crate::key_file::key_at;
 use crate::life_files::LifeFiles;
 use crate::log_files::{begin_log, open_log};
 use crate::notes::Notes;
+use crate::own_logs::OwnLogs;
 use crate::serve::{configure, read};
-use crate::store_files::{cause, open_store};
+use crate::store_files::{cause, open_own_store};
 use clockwork::limits::SHORTEST;
 use dealer_kind::Config;
 use dealer_node::NodeFault;
 use match_file::{Key as Entry, MatchFault, MatchFile, NodeEntries};
-use match_runs::{Cause, Unserved, log_path, store_path};
+use match_runs::{Cause, Unserved, kept_log_path, log_path, store_path};
 use node_links::Own;
 use node_peers::Peers;
-use node_runs::{NodeEnd, NodeNote, node_run};
+use node_runs::{ComparedWire, KeptLog, NodeEnd, NodeNote, node_run};
 use node_seats::{Seats, TokenDigest};
 use node_service::{LocalNode, NodeServer, Terms};
 use node_status::Askers;
 use node_wires::{BindFault, Failed, TcpWire};
-use peer_codes::Key;
+use peer_codes::{Key, Life};
 use promise_store::FileDisk;
 use serving::ServeFault;
 use stations::Station;
@@ -32,14 +33,15 @@ use std::fs::File;
 use std::net::SocketAddr;
 
 /// The process of a node over files and sockets.
-type TcpNode<'a> = NodeServer<FileDisk, TcpWire<'a>>;
+type TcpNode<'k, 'a> = NodeServer<FileDisk, ComparedWire<'k, TcpWire<'a>>>;
 
 /// Runs a node of the match of a match file until the match is over and all other nodes know it: speaks with the other nodes,
 /// listens for its seats, and keeps its store and its log.
 ///
 /// The match file's entries are looked at, the key read, the match compared with the one that the store was made for, the
-/// store locked and read, the ports bound, and the log opened and locked, in this order, before anything is changed. Notes go to standard
-/// error, one a line; the one before a fault names its address or file, where it has one.
+/// store locked and read, what is kept of peers and logs read, the ports bound, and the log opened and locked, in this order,
+/// before anything is changed. A log that would contradict a kept one is never written: the node ends (129). Notes go to
+/// standard error, one a line; the one before a fault names its address or file, where it has one.
 pub(crate) fn node(rt: &HostRuntime, arguments: NodeArguments<'_>) -> Result<(), NodeEnd> {
     let mut notes = Notes::new(rt, arguments.has_times);
     let text = read(rt, arguments.path, &mut notes)?;
@@ -102,10 +104,17 @@ fn run_entries(
     let port = access.seats.port();
     let mut lives = LifeFiles::new(rt, place.stores, node);
     let mut old_logs = Vec::new(rt.alloc());
-    let mut server = place.begin(config, access, &lives, &mut old_logs, notes)?;
-    match node_run(rt.alloc(), &mut server, &mut lives, port, notes) {
-        Ok(()) => Ok(()),
-        Err(end) => {
+    let (opened, kept) = place.open(&config, access, &lives, &mut old_logs, notes)?;
+    let mut server = place.begin(config, opened, KeptLog::new(&kept.text), notes)?;
+    let Err(end) = node_run(rt.alloc(), &mut server, &mut lives, port, notes) else {
+        return Ok(());
+    };
+    match (end, server.wire().differing_hand()) {
+        (NodeEnd::Unserved(Unserved::Fault(ServeFault::LogFailed)), Some(hand)) => {
+            place.tell_difference(hand, &kept, notes)?;
+            Err(NodeEnd::LogDiffers)
+        }
+        _ => {
             place.tell_end(&server, &lives, end, notes)?;
             Err(end)
         }
@@ -127,6 +136,31 @@ struct Access {
     tokens: Option<Vec<TokenDigest>>,
     /// After how many milliseconds a seat is played for.
     patience: Option<u32>,
+}
+
+/// What a node has before its store is opened.
+#[derive(Drop)]
+struct Opened<'a> {
+    /// How many nodes the match has.
+    nodes: u8,
+    identity: Identity,
+    disk: FileDisk,
+    /// The lives of its peers that it keeps, by number.
+    known: Vec<Option<Life>>,
+    /// Its wires, with its log.
+    wire: TcpWire<'a>,
+    key: Option<Key>,
+    seats: Seats,
+    patience: Option<u32>,
+}
+
+/// The kept log that the node's log must not contradict.
+#[derive(Drop)]
+struct Kept {
+    /// Its number; 0 where there is none.
+    number: u32,
+    /// What it has; nothing where there is none.
+    text: Vec<u8>,
 }
 
 /// Where the files of a node lie.
@@ -195,23 +229,26 @@ impl<'a> Place<'a> {
         Ok(Some(digests))
     }
 
-    /// Opens the store, the ports and the log, and makes the server. Logs of earlier starts stay open, and so locked.
-    fn begin(
+    /// Reads what lies beside the store, locks the store, and opens the ports and the log. Logs of earlier starts stay open, and
+    /// so locked. What is kept of the log is read last, or first written.
+    fn open(
         &self,
-        config: Config,
+        config: &Config,
         access: Access,
         lives: &LifeFiles<'_>,
         old_logs: &mut Vec<File>,
         notes: &mut Notes<'_>,
-    ) -> Result<TcpNode<'a>, Unserved>
-        requires { self.now.node < length config.sources }
+    ) -> Result<(Opened<'a>, Kept), Unserved>
+        requires { self.now.node < length config.now.sources }
     {
         let nodes = config.nodes() as u8;
         config.limits();
         let players = config.game().players() as u8;
-        let identity = identify(self.rt, self.stores, self.node, &config, notes)?;
-        let disk = open_store(self.rt, self.stores, (self.node, nodes), notes)?;
+        let identity = identify(self.rt, self.stores, self.node, config, notes)?;
+        let disk = open_own_store(self.rt, self.stores, (self.node, nodes), notes)?;
         let known = lives.read(nodes, notes)?;
+        let own_logs = self.own_logs(identity.life);
+        let first = own_logs.first(notes)?;
         let Access {
             peers,
             seats,
@@ -222,18 +259,63 @@ impl<'a> Place<'a> {
         } = access;
         let mut wire = self.bind(peers, seats, players, status, notes)?;
         wire.add_log(self.begin_log(old_logs, notes)?);
-        // Behind all that may be refused of the log, since opening a store of version 1 writes there.
+        let kept = kept_log(&own_logs, first, notes)?;
+        let seats = Seats::new(self.rt.alloc(), players, tokens)?;
+        let opened = Opened {
+            nodes,
+            identity,
+            disk,
+            known,
+            wire,
+            key,
+            seats,
+            patience,
+        };
+        Ok((opened, kept))
+    }
+
+    /// Opens the store, behind all that may be refused of the log, since opening one of version 1 writes there; and makes the
+    /// server.
+    fn begin<'k>(
+        &self,
+        config: Config,
+        opened: Opened<'a>,
+        kept: KeptLog<'k>,
+        notes: &mut Notes<'_>,
+    ) -> Result<TcpNode<'k, 'a>, Unserved>
+        requires { self.now.node < length config.sources }
+    {
+        let Opened {
+            nodes,
+            identity,
+            disk,
+            known,
+            wire,
+            key,
+            seats,
+            patience,
+        } = opened;
         let station = self.open_station(config, disk, notes)?;
         let alloc = self.rt.alloc();
         let peers = Peers::new(alloc, self.own(nodes, identity, key), &known, SHORTEST)?;
-        let seats = Seats::new(alloc, players, tokens)?;
         let askers = Askers::new(alloc)?;
         let member = LocalNode::new(alloc, station);
+        let wire = ComparedWire::new(wire, kept);
         let terms = Terms {
             nodes,
             patience: patience.map(in_microseconds),
         };
         Ok(NodeServer::new(alloc, member, wire, peers, seats, askers, terms))
+    }
+
+    /// The logs of the node, whose store has this life.
+    fn own_logs(&self, life: Life) -> OwnLogs<'a> {
+        OwnLogs {
+            rt: self.rt,
+            folder: self.logs,
+            node: self.node,
+            life,
+        }
     }
 
     /// What the node says of itself to others, in a match of so many, and what it proves it by.
@@ -299,10 +381,27 @@ impl<'a> Place<'a> {
         }
     }
 
+    /// Tells the hand whose line would have differed in the log from that of this kept one.
+    fn tell_difference(
+        &self,
+        hand: u32,
+        kept: &Kept,
+        notes: &mut Notes<'_>,
+    ) -> Result<(), Unserved> {
+        let log = log_path(self.rt.alloc(), self.logs, self.node)?;
+        let kept = kept_log_path(self.rt.alloc(), self.logs, self.node, kept.number)?;
+        notes.tell_node(&NodeNote::LogDiffers {
+            log: log.as_str(),
+            hand,
+            kept: kept.as_str(),
+        });
+        Ok(())
+    }
+
     /// Tells the file that was at fault where the process ends, if one was.
     fn tell_end(
         &self,
-        server: &TcpNode<'_>,
+        server: &TcpNode<'_, '_>,
         lives: &LifeFiles<'_>,
         end: NodeEnd,
         notes: &mut Notes<'_>,
@@ -325,8 +424,26 @@ impl<'a> Place<'a> {
     }
 }
 
+/// The newest kept log of a node's store, by the first number of such.
+fn kept_log(
+    own_logs: &OwnLogs<'_>,
+    first: Option<u32>,
+    notes: &mut Notes<'_>,
+) -> Result<Kept, Unserved> {
+    match own_logs.newest(first, notes)? {
+        Some(number) => Ok(Kept {
+            number,
+            text: own_logs.read(number, notes)?,
+        }),
+        None => Ok(Kept {
+            number: 0,
+            text: Vec::new(own_logs.rt.alloc()),
+        }),
+    }
+}
+
 /// Why the system refused a call of the node's disk, if it refused one.
-fn store_cause(server: &TcpNode<'_>) -> Cause {
+fn store_cause(server: &TcpNode<'_, '_>) -> Cause {
     match server.station().node().disk() {
         Some(disk) => cause(disk),
         None => Cause::Unknown,
@@ -334,8 +451,8 @@ fn store_cause(server: &TcpNode<'_>) -> Cause {
 }
 
 /// Why the system refused text for the log, if it refused some.
-fn log_cause(server: &TcpNode<'_>) -> Cause {
-    match server.wire().failed() {
+fn log_cause(server: &TcpNode<'_, '_>) -> Cause {
+    match server.wire().wire().failed() {
         Some(Failed::Log { kind }) => Cause::of(kind),
         _ => Cause::Unknown,
     }

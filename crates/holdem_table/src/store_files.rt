@@ -3,7 +3,7 @@
 ghost use Rattle.std.specs.Prelude.{◌≡◌, ◌≤◌, IfOk, length};
 
 use crate::kept_match::unread;
-use crate::locking::locked;
+use crate::locking::{locked, surely_locked};
 use crate::notes::Notes;
 use dealer_node::NodeFault;
 use match_links::limits::NODES;
@@ -35,29 +35,51 @@ pub(crate) fn open_stores(
     Ok(disks)
 }
 
-/// Opens and locks the store of a node, one of so many, and looks whether it is one; the same as of all.
-pub(crate) fn open_store(
+/// Opens and locks the store of a node that runs in a process of its own, one of so many, and looks whether it is one. It
+/// writes nothing there. A store of which the system gives no lock is refused (108), as one in use is: nothing would keep a
+/// second process from it. A note says which it was.
+pub(crate) fn open_own_store(
     rt: &HostRuntime,
     folder: &str,
     (node, nodes): (u8, u8),
     notes: &mut Notes<'_>,
 ) -> Result<FileDisk, Unserved> {
     let path = store_path(rt.alloc(), folder, node)?;
-    let file = open_file(rt, path.as_str(), notes)?;
-    look_at_store(rt, file, path.as_str(), (node, nodes), notes)
+    let opened = store_at(rt, path.as_str());
+    match surely_locked(rt, opened, path.as_str(), notes) {
+        Ok(Some(file)) => look_at_store(rt, file, path.as_str(), (node, nodes), notes),
+        Ok(None) => Err(Unserved::StoreInUse),
+        Err(error) => Err(no_store(path.as_str(), &error, notes)),
+    }
 }
 
-/// A store file that is there, locked. A note names one that isn't there, or is in use (108).
-fn open_file(rt: &HostRuntime, path: &str, notes: &mut Notes<'_>) -> Result<File, Unserved> {
-    let opened = File::options().read(true).write(true).open(rt, path);
-    match locked(rt, opened, path, notes) {
-        Ok(file) => Ok(file),
-        Err(error) if error.kind() == io::ErrorKind::WouldBlock => {
-            notes.tell_file(path, Cause::InUse);
-            Err(Unserved::StoreInUse)
-        }
-        Err(error) => Err(unread(path, &error, notes)),
+/// Opens and locks the store of a node, one of so many, and looks whether it is one; the same as of all.
+fn open_store(
+    rt: &HostRuntime,
+    folder: &str,
+    (node, nodes): (u8, u8),
+    notes: &mut Notes<'_>,
+) -> Result<FileDisk, Unserved> {
+    let path = store_path(rt.alloc(), folder, node)?;
+    let opened = store_at(rt, path.as_str());
+    match locked(rt, opened, path.as_str(), notes) {
+        Ok(file) => look_at_store(rt, file, path.as_str(), (node, nodes), notes),
+        Err(error) => Err(no_store(path.as_str(), &error, notes)),
     }
+}
+
+/// The store file that is at this path, opened.
+fn store_at(rt: &HostRuntime, path: &str) -> io::Result<File> {
+    File::options().read(true).write(true).open(rt, path)
+}
+
+/// Why it isn't served where a store file can't be had: it is in use (108), or can't be read. A note names it.
+fn no_store(path: &str, error: &io::Error, notes: &mut Notes<'_>) -> Unserved {
+    if error.kind() == io::ErrorKind::WouldBlock {
+        notes.tell_file(path, Cause::InUse);
+        return Unserved::StoreInUse;
+    }
+    unread(path, error, notes)
 }
 
 /// The disk of a file that has a store of this node of so many. A note names one that hasn't.

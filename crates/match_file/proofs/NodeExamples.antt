@@ -10,9 +10,10 @@ use Rattle.toml.specs.Data.{Data, string, integer, array, table, Members, no_mem
 use Rattle.toml.specs.View.{items_of}
 use Rattle.dealer_kind.specs.declared.source.Source.TheVariants.{Seed, Listed}
 use Rattle.match_file.specs.declared.node_kept.NodeKept.{NodeKept}
+use Rattle.match_file.specs.declared.logs_kept.LogsKept.{LogsKept}
 use Rattle.match_file.specs.declared.key.Key.TheVariants.{Logs, Port, Away, Peers, Seats}
 use Rattle.match_file.specs.declared.match_fault.MatchFault.TheVariants.{BadEntry}
-use Rattle.match_file.specs.Identities.{identified_text, node_kept_text, life_text}
+use Rattle.match_file.specs.Identities.{identified_text, node_kept_text, life_text, logs_kept_text}
 use Rattle.match_file.specs.SourceTexts.{deal_line, source_text}
 use Rattle.match_file.specs.Unused.{unused_keys, unused_by_node}
 use Rattle.match_file.specs.NodeEntries.{IsUnrun}
@@ -46,6 +47,18 @@ unfolding encode_with
 cut_line [] same many = omega (arith, many)
 cut_line (a ∷ []) same many = omega (arith, many)
 cut_line (a ∷ b ∷ life) same many = cc
+
+abbrev logs_from_3 : LogsKept
+logs_from_3 = record { life = replicate 16 255; first = 3 }
+
+logs_of_a_store : logs_kept_text logs_from_3 ≡ codes "life ffffffffffffffffffffffffffffffff\nfirst 3\n"
+unfolding digits encode_with
+logs_of_a_store = refl
+
+-- numbers have no leading zeros
+no_leading_zero : logs_kept_text logs_from_3 ≢ codes "life ffffffffffffffffffffffffffffffff\nfirst 03\n"
+unfolding digits encode_with
+no_leading_zero same = let e : 51 ≡ 48 = ap (λ (text : List ℕ). slice_index text 44) same in omega (arith, e)
 
 -- ---- sources
 

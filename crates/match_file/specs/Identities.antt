@@ -1,8 +1,9 @@
 -- What is kept of a match, and of its nodes, whose nodes run in processes of their own.
-use Rattle.std.specs.Prelude.{◌≡◌, ◌<◌, ℕ, List, [], ◌++◌, length, codes, decimal}
+use Rattle.std.specs.Prelude.{◌≡◌, ◌<◌, ◌^◌, ℕ, List, [], ◌++◌, length, codes, decimal}
 use Rattle.hex.specs.Hex.{IsBytes, encode_lower}
 use Rattle.match_file.specs.Kept.{line}
 use Rattle.match_file.specs.declared.node_kept.NodeKept.{NodeKept}
+use Rattle.match_file.specs.declared.logs_kept.LogsKept.{LogsKept}
 
 -- a line with the identity in small hex digits, and the text of the kept match behind it
 abbrev pub identified_text : List ℕ → List ℕ → List ℕ
@@ -28,3 +29,13 @@ pub record IsNodeKept (kept : NodeKept) : Type 0 where
 -- what a node keeps of a peer's store
 abbrev pub life_text : List ℕ → List ℕ
 life_text life = life_line life []
+
+-- which of the kept logs of a node are of its store: the store's life, and the number of the first
+abbrev pub logs_kept_text : LogsKept → List ℕ
+logs_kept_text kept = life_line kept.life (line (codes "first ") (decimal kept.first) [])
+
+-- of bytes, as many as there must be
+pub record IsLogsKept (kept : LogsKept) : Type 0 where
+  pub first : kept.first < 2 ^ 32
+  pub life_bytes : IsBytes kept.life
+  pub life_length : length kept.life ≡ 16

@@ -48,8 +48,8 @@ impl MatchFile {
         }
     }
 
-    /// The folder of the nodes' logs, a path from the working folder.
-    pub(crate) fn logs(&self) -> Option<&str>
+    /// The folder of the nodes' logs, a path from the working folder; none where the key is missing or has no text.
+    pub fn logs(&self) -> Option<&str>
         ensures { MatchOption result (IsAbsent (SaysFolder Logs (members self.now))) (λ folder. SaysFolder Logs (members self.now) folder.now) }
     {
         text_at(&self.table, Key::Logs)

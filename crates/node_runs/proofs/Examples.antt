@@ -1,5 +1,5 @@
 -- Notes, files and ends of a node's process, on values.
-use Rattle.std.proofs.Common.{◌≡◌, ℕ, List, [], ◌∷◌, ◌++◌, Some, None, Ok, Err, refl}
+use Rattle.std.proofs.Common.{◌≡◌, inl, inr, ℕ, List, [], ◌∷◌, ◌++◌, slice_index, Some, None, Ok, Err, refl, ap, arith}
 use Rattle.std.specs.Prelude.{codes}
 use Rattle.std.specs.Fmt.{digits}
 use Rattle.std.specs.Net.Addr.{ipv4_octets}
@@ -19,8 +19,9 @@ use Rattle.match_file.specs.declared.match_fault.MatchFault.TheVariants as file
 use Rattle.match_runs.specs.declared.unserved.Unserved.TheVariants as unserved
 use Rattle.node_service.specs.declared.server_notice.ServerNotice.{ServerNotice}
 use Rattle.node_service.specs.declared.server_notice.ServerNotice.TheVariants as told
-use Rattle.node_runs.specs.BesideStore.{node_kept_name, life_name}
+use Rattle.node_runs.specs.BesideStore.{node_kept_name, life_name, logs_kept_name}
 use Rattle.node_runs.specs.KeyFiles.{fault_of, keyed}
+use Rattle.node_runs.specs.KeptLogs.{BeginsWell, ArePrintable, GoesOn}
 use Rattle.node_runs.specs.NodeNotes.{note_text, note_line}
 use Rattle.node_runs.specs.NodeEnds.{status_of, end_text}
 use Rattle.node_runs.specs.ServerNotes.{notice_lines}
@@ -34,6 +35,10 @@ use Rattle.node_runs.specs.declared.node_note.NodeNote.TheVariants as note
 kept_of_node_2 : node_kept_name (codes "stores") 2 ≡ codes "stores/node2.kept"
 unfolding digits
 kept_of_node_2 = refl
+
+logs_of_node_2 : logs_kept_name (codes "logs") 2 ≡ codes "logs/node2.logs.kept"
+unfolding digits
+logs_of_node_2 = refl
 
 life_of_a_peer : life_name (codes "stores") 2 0 ≡ codes "stores/node2.peer0.kept"
 unfolding digits
@@ -107,6 +112,29 @@ three_callers : note_text (note.Callers 3 (Record BadLength)) ≡ codes "caller:
 unfolding digits
 three_callers = refl
 
+-- ---- kept logs
+
+-- the line of a hand begins well, and one of blanks doesn't; a byte 0 isn't printable, a blank is
+a_hand : BeginsWell (codes "STATE:0:f:TdAs|8hTc:5|-5:alice|bob")
+a_hand = inr (inl (codes "0:f:TdAs|8hTc:5|-5:alice|bob", refl))
+
+no_zero : ¬ (ArePrintable (codes "S" ++ 0 ∷ []))
+no_zero printable = omega (arith, printable.1.0.0)
+
+a_blank : ArePrintable (codes " ")
+a_blank = ((omega arith, omega arith), tt)
+
+-- what is still to come is "ab": a text may be part of it, or go beyond it; "ac" may not be next
+part_of_it : GoesOn (codes "a") (codes "ab") (codes "b")
+part_of_it = inl refl
+
+beyond_it : GoesOn (codes "abc") (codes "ab") []
+beyond_it = inr ((codes "c", refl), refl)
+
+other_text : (rest : List ℕ) → ¬ (GoesOn (codes "ac") (codes "ab") rest)
+other_text rest (inl same) = let e : 98 ≡ 99 = ap (λ (text : List ℕ). slice_index text 1) same in omega (arith, e)
+other_text rest (inr begins) = let e : 99 ≡ 98 = ap (λ (text : List ℕ). slice_index text 1) begins.0.1 in omega (arith, e)
+
 -- ---- ends
 
 store_at_fault : status_of (end.Unserved (unserved.Fault (serve.Node (fault.Store Disk)))) ≡ 3
@@ -123,6 +151,12 @@ log_at_fault = refl
 
 store_in_use : status_of (end.Unserved unserved.StoreInUse) ≡ 2
 store_in_use = refl
+
+log_that_differs : status_of end.LogDiffers ≡ 3
+log_that_differs = refl
+
+log_that_differs_is_told : end_text end.LogDiffers ≡ codes "129 LogDiffers"
+log_that_differs_is_told = refl
 
 store_of_another_life : end_text end.StoreReplaced ≡ codes "127 StoreReplaced"
 store_of_another_life = refl

@@ -2,3 +2,5 @@ mod Examples
 mod RunExamples
 pub mod Feeds
 pub mod Runs
+pub mod CountedLines
+pub mod OneLog

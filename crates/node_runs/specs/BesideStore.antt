@@ -1,4 +1,4 @@
--- What the files beside a node's store are called.
+-- What the files beside a node's store and its logs are called.
 use Rattle.std.specs.Prelude.{ℕ, List, ◌++◌, codes, decimal}
 use Rattle.match_runs.specs.NodeFiles.{file_name}
 
@@ -9,3 +9,7 @@ node_kept_name folder node = file_name folder node (codes ".kept")
 -- and which store it knows of a peer
 abbrev pub life_name : List ℕ → ℕ → ℕ → List ℕ
 life_name folder node peer = file_name folder node (codes ".peer" ++ decimal peer ++ codes ".kept")
+
+-- and which of its kept logs are of its store
+abbrev pub logs_kept_name : List ℕ → ℕ → List ℕ
+logs_kept_name folder node = file_name folder node (codes ".logs.kept")

@@ -23,6 +23,8 @@ abbrev pub note_text : NodeNote → List ℕ
 note_text (note.Begins name node front) = codes "match " ++ name ++ codes " node " ++ decimal node ++ codes " front " ++ decimal front
 note_text (note.PassedOver key) = codes "key " ++ key.now ++ codes " isn't used by node"
 note_text (note.NotCopied path) = path.now ++ codes ": not found: copy it from the machine of node 0"
+note_text (note.NotReplaced path) = path.now ++ codes ": left by an earlier store: a lost store can't be replaced"
+note_text (note.LogDiffers log hand kept) = log.now ++ codes ": hand " ++ decimal hand ++ codes " differs from that of " ++ kept.now
 note_text note.NoKey = codes "no key: peers and seats are trusted by their addresses"
 note_text (note.BadKey path fault) = path.now ++ fault_line fault
 note_text (note.Status address) = codes "status at " ++ socket_text address

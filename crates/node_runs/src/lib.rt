@@ -4,10 +4,13 @@
 //! that the process is to end. What happened in each turn it tells a writer of notes, one line each: it makes a `NodeNote`
 //! of it, and `tell_node_note` writes one. The life of a peer's store that is seen first it has kept by a `LifeKeeper`.
 //! `NodeEnd` is how `node` ends otherwise than well: its exit status, and the last line that standard error gets. `read_key`
-//! and `key_text` are what the file of a match's key has, `KeyFault` why a file is none. Nothing here opens a file or a socket.
+//! and `key_text` are what the file of a match's key has, `KeyFault` why a file is none. A `ComparedWire` keeps a log from
+//! contradicting a `KeptLog`. Nothing here opens a file or a socket.
 #![tactic(auto)]
 
 mod beside_store;
+mod compared_wire;
+mod kept_log;
 mod key_file;
 mod life_keeper;
 mod node_end;
@@ -15,7 +18,9 @@ mod node_note;
 mod running;
 mod server_notes;
 
-pub use beside_store::{life_path, node_kept_path};
+pub use beside_store::{life_path, logs_kept_path, node_kept_path};
+pub use compared_wire::ComparedWire;
+pub use kept_log::KeptLog;
 pub use key_file::{KeyFault, MOST_BYTES, key_text, read_key};
 pub use life_keeper::LifeKeeper;
 pub use node_end::NodeEnd;

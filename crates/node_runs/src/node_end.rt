@@ -16,10 +16,12 @@ pub enum NodeEnd {
     Unserved(Unserved),
     /// 127: the node's store is another than the one that a peer knows, so it was lost and made anew.
     StoreReplaced,
+    /// 129: its log would contradict one that an earlier start kept.
+    LogDiffers,
 }
 
 impl NodeEnd {
-    /// The program's exit status: 3 where the node's own store is at fault (91, 95), 2 where what it is asked for is refused,
+    /// The program's exit status: 3 where the node's own store is at fault (91, 95) or its log would differ (129), 2 where what it is asked for is refused,
     /// and 1 where the system refuses something else, want of memory too.
     pub fn status(self) -> u8
         ensures { result ≡ status_of self }
@@ -29,6 +31,7 @@ impl NodeEnd {
             | NodeEnd::Unserved(Unserved::Fault(ServeFault::Node(NodeFault::Conflict))) => 3,
             NodeEnd::Unserved(why) => why.conclusion().status(),
             NodeEnd::StoreReplaced => 2,
+            NodeEnd::LogDiffers => 3,
         }
     }
 }
@@ -43,6 +46,7 @@ impl fmt::Display for NodeEnd {
                 write!(f, "{conclusion}")
             }
             NodeEnd::StoreReplaced => f.write_str("127 StoreReplaced"),
+            NodeEnd::LogDiffers => f.write_str("129 LogDiffers"),
         }
     }
 }

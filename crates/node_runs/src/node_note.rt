@@ -31,6 +31,14 @@ pub enum NodeNote<'a> {
     PassedOver(&'a str),
     /// The file that the machine of node 0 has, and this one hasn't.
     NotCopied(&'a str),
+    /// A file that a lost store of the node left, in whose place none is made.
+    NotReplaced(&'a str),
+    /// The hand whose line would have differed in a log from that of a kept one: the log, and the kept one.
+    LogDiffers {
+        log: &'a str,
+        hand: u32,
+        kept: &'a str,
+    },
     /// No key is named: whoever has a trusted address speaks for a node or a seat.
     NoKey,
     /// The file of the key can't be one.
@@ -96,6 +104,14 @@ fn put_note(out: &mut Vec<u8>, note: &NodeNote<'_>) -> Result<(), AllocError>
         NodeNote::NotCopied(path) => {
             put_both(out, path, ": not found: copy it from the machine of node 0")
         }
+        NodeNote::NotReplaced(path) => {
+            put_both(
+                out,
+                path,
+                ": left by an earlier store: a lost store can't be replaced",
+            )
+        }
+        NodeNote::LogDiffers { log, hand, kept } => put_difference(out, log, *hand, kept),
         NodeNote::NoKey => {
             out.extend_from_slice(b"no key: peers and seats are trusted by their addresses")
         }
@@ -139,6 +155,23 @@ fn put_both(out: &mut Vec<u8>, front: &str, behind: &str) -> Result<(), AllocErr
 {
     out.extend_from_slice(front.as_bytes())?;
     out.extend_from_slice(behind.as_bytes())
+}
+
+/// Appends which hand of a log would have differed from that of a kept one.
+fn put_difference(out: &mut Vec<u8>, log: &str, hand: u32, kept: &str) -> Result<(), AllocError>
+    ensures { OnOk result (out.new.items ≡ out.old.items ++ (log.now ++ codes ": hand " ++ decimal hand ++ codes " differs from that of " ++ kept.now)) }
+{
+    put_hand(out, log, hand)?;
+    put_both(out, " differs from that of ", kept)
+}
+
+/// Appends a hand of a log.
+fn put_hand(out: &mut Vec<u8>, log: &str, hand: u32) -> Result<(), AllocError>
+    ensures { OnOk result (out.new.items ≡ out.old.items ++ (log.now ++ codes ": hand " ++ decimal hand)) }
+{
+    out.extend_from_slice(log.as_bytes())?;
+    let text = format!(in *out.allocator(); ": hand {hand}")?;
+    out.extend_from_slice(text.as_bytes())
 }
 
 /// Appends what happened to a peer.
