@@ -9,8 +9,11 @@ import time
 
 sys.dont_write_bytecode = True
 
-from dealer_runs import OPTIONS, WAIT, Bot, Run, are_ended, at_turn, calls, children, compiled, goes, hangs, here, rows, slow, test, waits
-from serving import want
+from dealer_runs import (
+    IS_LONG, OPTIONS, WAIT, Bot, Run, are_ended, are_killed, at_turn, calls, children, compiled, goes, hangs, here, memory_of, rows,
+    rows_with_nodes, slow, test, waits,
+)
+from serving import want, waited
 
 from match_engine import AGAIN, DEFAULT, Limits, Match, Settings, Watcher
 
@@ -24,41 +27,50 @@ def bots_in_c(run, program, *seeds):
     return [subprocess.Popen(some, stdout=subprocess.DEVNULL) for some in words]
 
 
-@rows("killed and resumed", [(f"match {number}", number) for number in range(KILLED)])
-def killed_and_resumed(number):
+@rows_with_nodes("killed and resumed", [(f"match {number}", number) for number in range(KILLED)])
+def killed_and_resumed(number, nodes):
     """A match of two bots in C, killed at random moments, comes to the same log as one that wasn't, and its score."""
-    dice, hands = random.Random(number), 250
+    dice, hands = random.Random(number), 100 if nodes and not IS_LONG else 250
     calm = Run("-qT", *here(), hands=hands, seed=number)
     program = compiled(calm.folder)
     bots = bots_in_c(calm, program, 1, 2)
-    calm.ends(0)
+    calm.ends(0, 3 * WAIT)
     want([bot.wait(WAIT) for bot in bots] == [0, 0], "a bot ended otherwise than by 0")
     actions = [line.split()[0] for line in calm.transactions().splitlines()]
-    first, kills = None, int(OPTIONS["--kills"]) // KILLED
+    first, done, kills = None, 0, int(OPTIONS["--kills"]) // KILLED
     for kill in range(kills + 1):
-        run = Run("-qTa", *here(), hands=hands, seed=number, folder=first and first.folder)
+        run = Run("-qTa", *nodes, *here(), hands=hands, seed=number, folder=first and first.folder)
         first = first or run
         bots = bots_in_c(run, program, 1, 2)
         if kill == kills:
             break
-        time.sleep(dice.uniform(0, 0.25))
+        time.sleep(dice.uniform(0, 1 if nodes else 0.25))
         started = children(run.process.pid)
+        if not started:
+            break
+        done += 1
         run.process.send_signal(signal.SIGKILL)
         run.process.wait()
         until = time.monotonic() + 1
         while not are_ended(started) and time.monotonic() < until:
             time.sleep(0.01)
-        want(are_ended(started) and len(started) in (0, 1, 2), f"processes of it are alive a second later: {started}")
+        want(are_killed(started) and len(started) <= (5 if nodes else 2), f"processes of it are alive a second later: {started}")
+        waited(lambda: are_ended(started), "the end of its processes")
         [bot.wait(WAIT) for bot in bots]
-    run.ends(0)
+        if nodes and not memory_of(run).exists():
+            # It was over: nothing can be resumed, and nothing has to be.
+            want(run.log() == calm.log(), "the log is another one")
+            return f"killed {done} times"
+    run.ends(0, 3 * WAIT)
     want(run.is_right() == calm.log(), "the log is another one")
     want(run.printed == calm.printed, "the score is another one")
     want([line.split()[0] for line in run.transactions().splitlines()] == actions, "other transactions")
+    return f"killed {done} times"
 
 
-def stopped_in_hand(hand, hands=6):
+def stopped_in_hand(hand, *options, hands=6):
     """A match of callers whose second bot goes home in a hand."""
-    run = Run("-T", *here(), hands=hands)
+    run = Run("-T", *options, *here(), hands=hands)
     run.play(calls(run.game), at_turn(run.game, 4 * hand + 1, goes))
     run.ends(1)
     return run
@@ -101,14 +113,14 @@ def not_resumed(other, first, text):
     want((run.log(), run.transactions()) == before, "a file has changed")
 
 
-@test
-def limits_go_on_behind_a_resumption():
+@rows_with_nodes("limits go on", [("behind a resumption",)])
+def limits_go_on_behind_a_resumption(nodes):
     """The transaction file tells of 7.9 s of bob's, where the whole match has 8 s."""
-    run = stopped_in_hand(1, hands=2)
+    run = stopped_in_hand(1, *nodes, hands=2)
     lines = run.transactions().splitlines(True)
     lines[0] = "c 1000.000000 1007.900000\n"
     (run.folder / "m.tlog").write_text("".join(lines))
-    again = Run("-aT", *here(), "--t_per_hand", "4000", hands=2, folder=run.folder)
+    again = Run("-aT", *nodes, *here(), "--t_per_hand", "4000", hands=2, folder=run.folder)
     again.play(calls(again.game), at_turn(again.game, 0, waits(0.4)))
     again.fails(r"seat 2 \(bob\): out of time: all responses in this match took 8\.\d{3} s, and the limit is 8.000 s")
 

@@ -1,7 +1,9 @@
 """What tests/dealer_tool stands on: runs of tools/dealer in folders of their own, and bots that are threads here."""
+import hashlib
 import os
 import re
 import shutil
+import signal
 import socket
 import subprocess
 import sys
@@ -25,7 +27,9 @@ HEAD = ["#--t_response 600000", "#--t_hand 600000", "#--t_per_hand 7000"]
 TIME = r"([0-9]+\.[0-9]{6})"
 # All tests by their titles, and what the command line asks for.
 TESTS = []
-OPTIONS = {"--kills": 20, "--title": ""}
+OPTIONS = {"--kills": 20, "--title": "", "--lanes": 8}
+IS_LONG = "--long" in sys.argv
+NODES, MEMORY = ("--nodes", "3"), Path(f"/dev/shm/holdem_table.{os.getuid()}")
 
 
 def test(function):
@@ -41,6 +45,21 @@ def rows(title, table):
         return function
 
     return add
+
+
+def rows_with_nodes(title, table):
+    """The same twice, without nodes and with three: the options for that come behind what is in the row."""
+    def add(function):
+        rows(title, [(*row, ()) for row in table])(function)
+        rows(f"with nodes, {title}", [(*row, NODES) for row in table])(function)
+        return function
+
+    return add
+
+
+def memory_of(run):
+    """Where the match of a run has its stores in memory: under the digest of its path."""
+    return MEMORY / hashlib.sha256(bytes(run.folder.resolve() / run.name)).hexdigest()[:32]
 
 
 def here():
@@ -142,9 +161,10 @@ class Run:
 
     @classmethod
     def remove_all(cls):
-        """Ends what a test that failed has left, and removes the folders."""
+        """Ends what a test that failed has left, and removes the folders, also those of stores."""
         for run in cls.made:
             run.kill()
+            shutil.rmtree(memory_of(run), ignore_errors=True)
         for folder in cls.folders:
             shutil.rmtree(folder, ignore_errors=True)
 
@@ -158,7 +178,7 @@ class Bot(threading.Thread):
 
     def __init__(self, port, act, address="127.0.0.1", version=b"VERSION:2.0.0\r\n"):
         super().__init__(daemon=True)
-        self.lines, self.said, self.act, self.version, self.is_closed = [], [], act, version, False
+        self.lines, self.said, self.act, self.version, self.is_closed, self.was_reset = [], [], act, version, False, False
         self.connection = socket.create_connection((address, port), timeout=WAIT)
         self.start()
 
@@ -174,15 +194,18 @@ class Bot(threading.Thread):
                     self.said += data.decode("latin-1").splitlines()
                     self.connection.sendall(data)
             self.is_closed = True
+        except ConnectionError:
+            self.was_reset = True
         except (Gone, OSError):
             pass
         finally:
             self.connection.close()
 
-    def ends(self):
-        """It is told nothing more: its connection was closed in order. What it got."""
+    def ends(self, may_be_reset=False):
+        """It is told nothing more: its connection was closed in order, or, where something that it said wasn't read and that may
+        be, by a reset. What it got."""
         self.join(WAIT)
-        want(self.is_closed, "a bot's connection didn't end in order")
+        want(self.is_closed or (may_be_reset and self.was_reset), "a bot's connection didn't end in order")
         return self.lines
 
 
@@ -266,3 +289,17 @@ def fields_of(number):
 
 def are_ended(processes):
     return all((fields_of(number) or [""] * 20)[19] != start for number, start in processes)
+
+
+def are_killed(processes):
+    """Whether processes have ended, or end as soon as the machine has time for it: they are sent signal 9."""
+    return all(are_ended([process]) or is_sent_kill(process[0]) for process in processes)
+
+
+def is_sent_kill(number):
+    """Whether signal 9 waits for a process, or it has ended meanwhile."""
+    try:
+        status = Path(f"/proc/{number}/status").read_text()
+    except OSError:
+        return True
+    return any(int(word, 16) >> signal.SIGKILL - 1 & 1 for word in re.findall(r"(?:Sig|Shd)Pnd:\s*([0-9a-f]+)", status))

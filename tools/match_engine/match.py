@@ -48,6 +48,9 @@ class Settings(NamedTuple):
     sync_actions: bool = False
     # The watcher is asked what becomes of a seat whose player failed; else the match ends.
     may_return: bool = False
+    # How many nodes keep the match, each in a process of its own, and the folder of their stores, else in memory; 0 is none.
+    nodes: int = 0
+    stores: Optional[Path] = None
     program: Path = PROGRAM
 
 
@@ -82,6 +85,9 @@ class Watcher:
 
     def finished(self, at):
         """The last hand is over, and all lines are sent."""
+
+    def troubled(self, text):
+        """With nodes: one ended, and what becomes of it; or the match has failed, and where its stores are."""
 
     def is_coming(self, seat):
         """Asked now and then while a player's connection is waited for: False where it won't come."""
@@ -139,6 +145,14 @@ def header(settings):
     return f"# name/game/hands {name} {re.sub('[^!-~]', '_', settings.game)[-200:]} {settings.hands}"
 
 
+def game_at(path):
+    """The bytes of a game file."""
+    try:
+        return Path(path).read_bytes()
+    except OSError as why:
+        raise MatchFault(f"the game file {path} can't be read: {why.strerror}") from why
+
+
 class Match:
     """A match on its way."""
 
@@ -163,10 +177,7 @@ class Match:
     def prepare(self):
         """Files come last: where anything else is wrong, what an earlier match left is as it was."""
         settings = self.settings
-        try:
-            game = Path(settings.game).read_bytes()
-        except OSError as why:
-            raise MatchFault(f"the game file {settings.game} can't be read: {why.strerror}") from why
+        game = game_at(settings.game)
         self.dealer = self.kept(Dealer(settings.program, settings.game, game, settings.hands, settings.names))
         self.deals = iter(settings.deals) if settings.deals is not None else self.kept(
             Draw(settings.program, game, settings.hands, self.players, settings.seed)

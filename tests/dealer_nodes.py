@@ -1,0 +1,399 @@
+"""Tests of tests/dealer_tool with nodes: nodes and tools that are killed, stores, resumptions, and the course of a match by its
+traces."""
+import os
+import random
+import shutil
+import signal
+import socket
+import subprocess
+import sys
+import time
+from pathlib import Path
+
+sys.dont_write_bytecode = True
+
+from dealer_files import bots_in_c, stopped_in_hand
+from dealer_runs import (
+    IS_LONG, MEMORY, NODES, NOLIMIT_2P, TOP, WAIT, Run, are_killed, calls, children, compiled, game_of, here, memory_of, rows, slow, test,
+)
+from serving import Wrong, want, waited
+
+from match_engine.course import Acted, Course, Ended
+from match_engine.slots import FIRST, Slot, bound
+
+# A random node is killed so often, in seconds.
+KILL_EACH = 0.3
+# In the short form, and in the long one: matches whose nodes are killed, their hands, and tools that play at once.
+MATCHES, HANDS, AT_ONCE = (200, 200, 16) if IS_LONG else (3, 60, 4)
+
+
+def node_processes(run):
+    """The processes of a run's nodes, by number."""
+    found = {}
+    for process, _ in children(run.process.pid):
+        try:
+            words = Path(f"/proc/{process}/cmdline").read_bytes().split(b"\0")
+        except OSError:
+            continue
+        if words[1:2] == [b"node"]:
+            found[int(words[3])] = int(process)
+    return found
+
+
+def kill(process):
+    """Ends a process by signal 9; whether it was there."""
+    try:
+        os.kill(process, signal.SIGKILL)
+    except ProcessLookupError:
+        return False
+    return True
+
+
+def kill_node(run, number):
+    """Ends a node by signal 9, if it runs."""
+    process = node_processes(run).get(number)
+    if process is not None:
+        kill(process)
+
+
+def script_match(folder, *options, hands, seed):
+    """A match as play_match.pl has it: a link ./dealer in another folder, and bots that are given this machine's own address and
+    a port; one is a program in C, one in Python."""
+    run = Run(*options, folder=folder, command="./dealer", hands=hands, seed=seed)
+    host = socket.gethostbyname(socket.gethostname())
+    python = [sys.executable, TOP / "tests/dealer_bot.py", TOP / "examples" / NOLIMIT_2P, "6"]
+    bots = [subprocess.Popen([*words, host, str(port)]) for words, port in zip(([folder / "dealer_bot", "5"], python), run.ports)]
+    return run, bots
+
+
+def linked_folder():
+    """A folder with a link to the tool, and the bot in C."""
+    folder = Run(command="true").folder
+    (folder / "dealer").symlink_to(TOP / "tools/dealer")
+    compiled(folder)
+    return folder
+
+
+@rows("nodes are killed", [(f"in match {number}", number) for number in range(MATCHES)])
+def nodes_are_killed(number):
+    """A random node is killed each 300 ms: score, log and actions are those without nodes."""
+    calm, bots = script_match(linked_folder(), "-qT", hands=HANDS, seed=number)
+    calm.ends(0, 3 * WAIT)
+    want([bot.wait(WAIT) for bot in bots] == [0, 0], "a bot ended otherwise than by 0")
+    run, bots = script_match(linked_folder(), "-qT", *NODES, hands=HANDS, seed=number)
+    dice, kills, until = random.Random(number), 0, time.monotonic() + 3 * WAIT
+    while run.process.poll() is None and time.monotonic() < until:
+        time.sleep(KILL_EACH)
+        running = node_processes(run)
+        if running and kill(dice.choice(list(running.values()))):
+            kills += 1
+    run.ends(0)
+    want(kills > 0 and [bot.wait(WAIT) for bot in bots] == [0, 0], f"a bot ended otherwise than by 0; {kills} nodes were killed")
+    want(run.is_right() == calm.log(), "the log is another one")
+    want(run.printed == calm.printed, "the score is another one")
+    actions = [[line.split()[0] for line in it.transactions().splitlines()] for it in (calm, run)]
+    want(actions[0] == actions[1], "other transactions")
+    return f"{kills} nodes killed"
+
+
+@test
+def two_of_five_nodes_are_killed():
+    """And come back no more, since their stores are gone; the match goes on."""
+    run = Run("-T", "--nodes", "5", *here(), hands=8)
+    run.play(slow(run.game, 0.01), slow(run.game, 0.01))
+    waited(lambda: len(run.log().splitlines()) > 2, "two hands")
+    for number in (1, 4):
+        spoil_store(run, number)
+    run.ends(0)
+    run.is_right()
+    out = [text for text in run.warnings() if "stays out" in text]
+    want(sorted(text.split()[1] for text in out) == ["1", "4"], f"warnings {run.warnings()}")
+
+
+def spoil_store(run, number):
+    """Ends a node, and takes its store away."""
+    (memory_of(run) / f"stores/node{number}.journal").rename(memory_of(run) / f"stores/old{number}")
+    kill_node(run, number)
+
+
+@test
+def a_match_ends_where_most_nodes_are_out():
+    """What is left of it stays in memory."""
+    run = Run("-T", *NODES, *here(), hands=1000)
+    run.play(slow(run.game, 0.01), slow(run.game, 0.01))
+    waited(lambda: len(run.log().splitlines()) > 1, "a hand")
+    for number in (0, 2):
+        spoil_store(run, number)
+    run.fails(r"2 of 3 nodes are out; the last note of node 2: \d+ \w.*")
+    want(sum("stays out: 1" in text or "stays out: 9" in text for text in run.warnings()) == 2, f"warnings {run.warnings()}")
+    want(run.warnings()[-1] == f"the stores are kept in {memory_of(run)}", f"warnings {run.warnings()}")
+    want(memory_of(run).is_dir(), "the stores are gone")
+
+
+# Stores
+
+
+@test
+def nobody_else_sees_the_stores():
+    """The folder and the files in it are for their owner alone; nothing is left of a match that is over."""
+    run = Run("-T", *NODES, *here(), hands=3)
+    run.play(calls(run.game), slow(run.game, 0.05))
+    waited(lambda: node_processes(run), "nodes")
+    folder = memory_of(run)
+    modes = {path.name: path.stat().st_mode & 0o777 for path in [MEMORY, folder, *folder.iterdir()]}
+    for name in (MEMORY.name, folder.name, "stores", "logs"):
+        want(modes.pop(name) == 0o700, f"{name} is open to others")
+    want({"key", "token0", "token1", "m.toml", "game", "made"} <= set(modes), f"there are {set(modes)}")
+    want({modes[name] for name in ("key", "token0", "token1", "m.toml", "game", "made")} == {0o600}, f"modes {modes}")
+    run.ends(0)
+    want(not folder.exists(), "the folder is still there")
+
+
+@test
+def stores_on_a_disk():
+    """They are kept where a match ends early, and removed where it is over."""
+    place = Run(command="true").folder / "place"
+    place.mkdir()
+    run = stopped_in_hand(2, *NODES, "--stores", str(place))
+    kept = list(place.iterdir())
+    want(len(kept) == 1 and kept[0].stat().st_mode & 0o777 == 0o700, f"there are {kept}")
+    want({path.name for path in (kept[0] / "stores").iterdir()} >= {f"node{node}.journal" for node in range(3)}, "no stores")
+    again = Run("-aT", *NODES, "--stores", str(place), *here(), hands=6, folder=run.folder)
+    again.play()
+    again.ends(0)
+    want(again.is_right().startswith(run.log()[: -len(run.printed) or None]), "the log begins otherwise")
+    want(not list(place.iterdir()), "the stores are still there")
+
+
+@test
+def a_folder_of_others_is_refused():
+    """A link in place of the folder, which another user may have put there, is not followed."""
+    place = Run(command="true").folder / "place"
+    (place / "elsewhere").mkdir(parents=True)
+    run = Run("-T", *NODES, "--stores", str(place), *here())
+    run.ports
+    name = next(path.name for path in place.iterdir() if path.name != "elsewhere")
+    run.kill()
+    shutil.rmtree(place / name)
+    (place / name).symlink_to(place / "elsewhere")
+    again = Run("-T", *NODES, "--stores", str(place), *here(), folder=run.folder)
+    again.refuses(f"{place / name}: expected a folder of this user's that nobody else may enter")
+
+
+@test
+def an_address_is_one_match_alone():
+    one, other = Slot(3, 2), Slot(3, 2)
+    try:
+        want(one.address != other.address, "two matches have one address")
+        try:
+            bound(one.address, FIRST, True).close()
+            raise Wrong("the lock can be taken twice")
+        except OSError:
+            pass
+    finally:
+        one.close()
+        other.close()
+
+
+# Resumptions
+
+
+@test
+def a_match_with_nodes_goes_on_where_it_was():
+    """Also where a kill has left half a line in both files, or the log lacks a hand, or the transaction file actions."""
+    run = stopped_in_hand(2, *NODES)
+    kept, log = run.transactions(), run.log()
+    want(len(log.splitlines()) == 3, "other hands in the log")
+    (run.folder / "m.tlog").write_text("".join(kept.splitlines(True)[:-3]) + "r300 17958")
+    (run.folder / "m.log").write_text("".join(log.splitlines(True)[:-1]) + log.splitlines()[-1][:9])
+    again = Run("-aT", *NODES, *here(), hands=6, folder=run.folder)
+    bots = again.play()
+    again.ends(0)
+    want(again.is_right().startswith(log), "the log begins otherwise")
+    lines = again.transactions().splitlines()
+    want(len(lines) == 48 and [line.split()[0] for line in lines] == ["c"] * 48, f"{len(lines)} transactions")
+    want(lines[: len(kept.splitlines()) - 3] == kept.splitlines()[:-3], "the transactions begin otherwise")
+    want([bot.lines[0].split(":")[2] for bot in bots] == ["2", "2"], "the bots begin in another hand")
+    whole = Run("-aT", *NODES, *here(), hands=6, folder=run.folder)
+    whole.refuses(f"{memory_of(run)}: there are no stores with which the match of m.tlog could go on")
+    want(again.log() == whole.log() and not memory_of(run).exists(), "something has changed")
+
+
+@test
+def a_match_goes_on_without_its_nodes():
+    """By the transaction file alone, as after a lost power supply."""
+    run = stopped_in_hand(2, *NODES)
+    shutil.rmtree(memory_of(run))
+    log = run.log()
+    run = Run("-aT", *NODES, *here(), hands=6, folder=run.folder)
+    run.refuses(f"{memory_of(run)}: there are no stores")
+    run = Run("-aT", *here(), hands=6, folder=run.folder)
+    run.play()
+    run.ends(0)
+    want(run.is_right().startswith(log), "the log begins otherwise")
+
+
+def change(run, name, old, new):
+    path = run.folder / name
+    path.write_text(path.read_text().replace(old, new, 1))
+
+
+@rows("with nodes not resumed", [
+    ("with another seed", {"seed": 8}, None, "{folder}: the stores are of another match: look at game, seed, hands, names and --nodes"),
+    ("with fewer hands", {"hands": 3}, None, "{folder}: the stores are of another match"),
+    ("with other nodes", {"nodes": "5"}, None, "{folder}: the stores are of another match"),
+    ("with another log", {}, ("m.log", "STATE:1:c", "STATE:1:r"), "m.log: what is in it isn't what the stores have"),
+    ("with another action", {}, ("m.tlog", "c ", "f "), "m.tlog: line 1 is of another match: it has f, and the stores have c"),
+    ("with a line that is none", {}, ("m.tlog", "c ", "call "), "m.tlog: line 1 is no transaction: 'call "),
+])
+def with_nodes_not_resumed(other, edit, text):
+    """Nothing is asked of a bot then, and both files stay as they are."""
+    run = stopped_in_hand(3, *NODES)
+    if edit:
+        change(run, *edit)
+    before = run.log(), run.transactions()
+    words = {"hands": 6, "seed": 7, "nodes": "3", **other}
+    again = Run("-aT", "--nodes", words.pop("nodes"), *here(), folder=run.folder, **words)
+    again.refuses(text.format(folder=memory_of(run)))
+    want((run.log(), run.transactions()) == before, "a file has changed")
+    want(memory_of(run).is_dir(), "the stores are gone")
+
+
+@test
+def two_tools_with_nodes_have_no_match_together():
+    one = Run("-T", *NODES, *here(), hands=2)
+    one.ports
+    for options, text in (
+        (["-T"], "m.tlog: another dealer is writing this file"), (["-aT"], "m.tlog: another dealer is writing this file"),
+        (["-q"], "m.log: another dealer is writing this file"), (["-l"], f"{memory_of(one)}: another dealer is playing this match"),
+    ):
+        other = Run(*options, *NODES, *here(), folder=one.folder, hands=2)
+        other.refuses(text)
+    other = Run("-T", *here(), folder=one.folder, hands=2)
+    other.refuses("m.tlog: another dealer is writing this file")
+    one.play()
+    one.ends(0)
+    one.is_right()
+
+
+@test
+def several_with_nodes_play_at_once():
+    runs = [Run("-qT", *NODES, *here(), hands=20, seed=seed) for seed in range(AT_ONCE)]
+    program = compiled(runs[0].folder)
+    bots = [bot for seed, run in enumerate(runs) for bot in bots_in_c(run, program, seed, 99)]
+    for run in runs:
+        run.ends(0)
+        run.is_right()
+    want([bot.wait(WAIT) for bot in bots] == [0] * 2 * AT_ONCE, "a bot ended otherwise than by 0")
+
+
+@rows("nodes and relays end with the tool", [(name, getattr(signal, name)) for name in ("SIGTERM", "SIGINT", "SIGKILL")])
+def nodes_and_relays_end_with_the_tool(number):
+    """Stopped ones too."""
+    run = Run(*NODES, *here(), hands=1000)
+    run.play(calls(run.game), slow(run.game, 0.02))
+    waited(lambda: len(run.log().splitlines()) > 1, "a hand")
+    started = children(run.process.pid)
+    for child, _ in started:
+        os.kill(int(child), signal.SIGSTOP)
+    run.process.send_signal(number)
+    want(run.process.wait(WAIT) in (1, -number), f"status {run.process.returncode}")
+    time.sleep(1)
+    want(len(started) == 5 and are_killed(started), f"children: {started}")
+
+
+@test
+def a_match_with_nodes_ends_with_a_relay():
+    run = Run(*NODES, *here(), hands=1000)
+    run.play(calls(run.game), slow(run.game, 0.02))
+    waited(lambda: len(run.log().splitlines()) > 1, "a hand")
+    nodes = {str(process) for process in node_processes(run).values()}
+    relay = next(process for process, _ in children(run.process.pid) if process not in nodes)
+    os.kill(int(relay), signal.SIGKILL)
+    run.fails(r"the relay of seat [12] was ended by SIGKILL: .*")
+
+
+@test
+def decks_of_the_original_are_dealt_by_nodes_too():
+    logs = []
+    for options in ((), NODES):
+        run = Run("--decks", "original", *options, *here(), hands=5, seed=5489)
+        run.play()
+        run.ends(0)
+        logs.append(run.is_right())
+    want(logs[0] == logs[1], "the logs differ")
+
+
+# The course of a match
+
+
+def line(position, hand, betting):
+    return f"MATCHSTATE:{position}:{hand}:{betting}:|"
+
+
+def told(course):
+    """All that is known to have happened."""
+    return list(iter(course.next, None))
+
+
+@test
+def a_course_waits_for_what_belongs_to_an_action():
+    """Two players, of whom position 1 begins; hand 0, so that positions are seats."""
+    course = Course(game_of(NOLIMIT_2P), 2)
+    course.sent(0, 10, line(0, 0, ""))
+    course.sent(1, 11, line(1, 0, ""))
+    want([seat for seat, _ in course.unanswered()] == [1], "seat 1 isn't asked")
+    # Seat 0 is sent the line behind the action before the trace of seat 1 has told it.
+    course.sent(0, 14, line(0, 0, "r300"))
+    want(told(course) == [], "an action is told before its seat's trace")
+    want(course.received(1, 12, line(1, 0, "") + ":r299") is None, "the answer is passed over")
+    want(told(course) == [], "an action is told before its line")
+    want([seat for seat, _ in course.unanswered()] == [0], "seat 1 is asked again")
+    course.sent(1, 13, line(1, 0, "r300"))
+    want(told(course) == [Acted(1, "r300", "r299", 11, 12)], "another action")
+    # A line was missed by seat 0, and the hand's end is known by the log alone.
+    course.received(0, 15, line(0, 0, "r300") + ":c")
+    course.sent(1, 19, line(1, 1, ""))
+    course.sent(0, 19, line(0, 1, ""))
+    want(told(course) == [], "what isn't known is told")
+    course.logged("STATE:0:r300f:AcAd|KcKd:0|0:a|b")
+    want(told(course) == [Acted(0, "f", "c", 14, 15), Ended("STATE:0:r300f:AcAd|KcKd:0|0:a|b")], "another end")
+    want(course.place() == (1, 0) and not course.is_over(), "another place")
+
+
+@rows("a course passes over", [
+    ("an old line", line(1, 0, "c") + ":c", "it doesn't answer the newest line"), ("no answer", "x", "it doesn't answer the newest line"),
+    ("the line alone", line(1, 0, ""), "it doesn't answer the newest line"), ("a comment", "# c", None),
+])
+def a_course_passes_over(said, why):
+    course = Course(game_of(NOLIMIT_2P), 2)
+    course.sent(1, 11, line(1, 0, ""))
+    want(course.received(1, 12, said) == (why and f"passed over, since {why}: {said}"), "another warning")
+    want([seat for seat, _ in course.unanswered()] == [1], "the seat isn't asked any more")
+
+
+@test
+def a_course_passes_over_a_second_answer_and_one_out_of_turn():
+    course = Course(game_of(NOLIMIT_2P), 2)
+    course.sent(1, 11, line(1, 0, ""))
+    course.sent(0, 11, line(0, 0, ""))
+    course.received(1, 12, line(1, 0, "") + ":c")
+    again = course.received(1, 13, line(1, 0, "") + ":f")
+    want(again == f"passed over, since the newest line was answered before: {line(1, 0, '')}:f", f"{again}")
+    out = course.received(0, 13, line(0, 0, "") + ":c")
+    want(out == f"passed over, since it isn't this seat's turn: {line(0, 0, '')}:c", f"{out}")
+    course.sent(1, 14, line(1, 0, "c"))
+    want(told(course) == [Acted(1, "c", "c", 11, 12)], "the first answer doesn't count")
+
+
+@test
+def a_course_is_told_where_a_player_has_left():
+    """Nothing more comes of his trace then; what he did is known by the others'."""
+    course = Course(game_of(NOLIMIT_2P), 1)
+    course.sent(0, 10, line(0, 0, ""))
+    course.sent(1, 10, line(1, 0, ""))
+    course.sent(0, 14, line(0, 0, "f"))
+    course.gone(1)
+    course.logged("STATE:0:f:AcAd|KcKd:50|-50:a|b")
+    want(told(course) == [Acted(1, "f"), Ended("STATE:0:f:AcAd|KcKd:50|-50:a|b")], "another course")
+    want(course.is_told(), "the last line isn't told")
