@@ -13,7 +13,7 @@ own_of peers = peers.lines.own
 abbrev pub passed_of : Peers → List Passage
 passed_of peers = peers.lines.passed.items
 
--- the frames that were handed to them so far, each for one of them, in order: those and no others are said to them
+-- the frames that were handed to them so far, each for one of them, in order
 abbrev pub frames_of : Peers → List Passage
 frames_of peers = peers.lines.sent.items
 

@@ -6,7 +6,7 @@ ghost use Rattle.seat_relay.specs.Laws.{LinesAscend, LinesAreABeginning, Answers
 
 use matchstate::laws::a_view_has_one_line;
 
-/// Whatever nodes tell, each line that a bot is given stands behind the one before it in the match: none comes twice.
+/// Whatever nodes tell, each line that a bot is given stands behind the one before it in the match: no two of one place come.
 pub fn lines_ascend()
     ensures { LinesAscend }
 {}
@@ -22,7 +22,7 @@ pub fn answers_are_current()
     ensures { AnswersAreCurrent }
 {}
 
-/// To each node an answer is said once, and once more over each connection that began since.
+/// To each node no more answers are said than texts of the bot and connections to it, together.
 pub fn answers_are_few()
     ensures { AnswersAreFew }
 {}
