@@ -4,3 +4,4 @@ mod Lists
 mod Ticking
 mod Later
 mod Ordering
+mod Measures

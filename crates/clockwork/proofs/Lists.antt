@@ -1,5 +1,5 @@
 -- Lists of which each item was changed, and the least of numbers.
-use Rattle.std.proofs.Common.{ℕ, zero, suc, ◌≡◌, ◌≢◌, ◌+◌, ◌<◌, Bool, true, cond, List, [], ◌∷◌, inl, inr, refl, arith}
+use Rattle.std.proofs.Common.{ℕ, zero, suc, ◌≡◌, ◌≢◌, ◌+◌, ◌<◌, ◌≤◌, Bool, true, cond, List, [], ◌∷◌, inl, inr, refl, arith}
 use Rattle.std.specs.Prelude.{map, fold, min, count_by, find, All, IfSome}
 use Rattle.std.specs.List.{list_any}
 use Rattle.std.proofs.lemmas.Bool.{cases_Bool, or_cases, both_ways}
@@ -27,6 +27,25 @@ module _ {X : Type 0} where
 
   pub count_alike : (p q : X → Bool) (change : X → X) → ((x : X) → q (change x) ≡ p x) → (xs : List X) → count_by q (map change xs) ≡ count_by p xs
   count_alike p q change same xs = counted_alike p q change same xs 0 0 refl
+
+  counted_fewer : (p q : X → Bool) → ((x : X) → p x ≡ true → q x ≡ true) → (xs : List X) (a b : ℕ) → a ≤ b
+      → fold (λ n x. n + cond (p x) 1 0) a xs ≤ fold (λ n x. n + cond (q x) 1 0) b xs
+  counted_fewer p q within [] a b fewer = fewer
+  counted_fewer p q within (x ∷ xs) a b fewer =
+      let one : a + cond (p x) 1 0 ≤ b + cond (q x) 1 0 =
+      elim (cases_Bool (p x)) [
+        | inl so ↦ let also = within x so in rw so (rw also (omega (arith, fewer)))
+        | inr not_so ↦ rw not_so (omega (arith, fewer))
+      ] in
+      counted_fewer p q within xs (a + cond (p x) 1 0) (b + cond (q x) 1 0) one
+
+  pub count_fewer : (p q : X → Bool) → ((x : X) → p x ≡ true → q x ≡ true) → (xs : List X) → count_by p xs ≤ count_by q xs
+  count_fewer p q within xs = counted_fewer p q within xs 0 0 (omega arith)
+
+  pub fold_alike : (f : ℕ → X → ℕ) (change : X → X) → ((n : ℕ) (x : X) → f n (change x) ≡ f n x) → (xs : List X) (a b : ℕ) → a ≡ b
+      → fold f a (map change xs) ≡ fold f b xs
+  fold_alike f change same [] a b is = is
+  fold_alike f change same (x ∷ xs) a b is = let one = same b x in fold_alike f change same xs (f a (change x)) (f b x) (cc)
 
   pub any_alike : (p q : X → Bool) (change : X → X) → ((x : X) → q (change x) ≡ p x) → (xs : List X) → list_any q (map change xs) ≡ list_any p xs
   any_alike p q change same [] = refl

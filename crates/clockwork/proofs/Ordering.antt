@@ -1,12 +1,12 @@
 -- Why a seat is played for, and that it is.
-use Rattle.std.proofs.Common.{ℕ, ◌≡◌, ◌+◌, ◌-◌, ◌*◌, ◌<◌, ◌≤◌, true, Option, Some, None, inl, inr, refl, arith}
+use Rattle.std.proofs.Common.{ℕ, ◌≡◌, ◌+◌, ◌-◌, ◌<◌, ◌≤◌, true, Option, Some, None, inl, inr, refl, arith}
 use Rattle.std.specs.Prelude.{min, nat_lt, IfSome}
 use Rattle.std.proofs.lemmas.Bool.{cases_Bool, le-ltb}
 use Rattle.clockwork.specs.declared.action_timeout.Awaited.{Awaited}
 use Rattle.clockwork.specs.declared.answer.Due.TheVariants.{Now, Nothing}
-use Rattle.clockwork.specs.declared.limits.TheConstants.{LONGEST, STEP, LOOK}
+use Rattle.clockwork.specs.declared.limits.TheConstants.{ORDERED_AGAIN, LOOK}
 use Rattle.clockwork.specs.Waits.{left}
-use Rattle.clockwork.specs.ActionTimeout.{is_ours, away_wait, order_left, away_left, away_due_of, seated_after, HasWaitedFor, IsOrderedLongAgo, IsOrderedInTime, IsSeatedOnce}
+use Rattle.clockwork.specs.ActionTimeout.{is_ours, away_wait, order_left, away_left, away_due_of, HasWaitedFor, IsOrderedLongAgo, IsOrderedInTime, IsSeatedOnce}
 use Rattle.clockwork.proofs.Ticking.{max_parts, none_left, tick_of_none, none_of_tick, until_of}
 
 pub order_by : (awaited : Awaited) → away_due_of awaited ≡ Now → (is_ours awaited ≡ true) × (away_left awaited ≡ 0)
@@ -31,14 +31,14 @@ parts_of_none awaited none = max_parts (left awaited.time awaited.since (away_wa
 pub has_waited : (awaited : Awaited) → away_left awaited ≡ 0 → HasWaitedFor awaited
 has_waited awaited none = none_left (away_wait awaited) (awaited.time - awaited.since) (parts_of_none awaited none).0
 
-long_ago : (time : ℕ) (ordered : Option ℕ) (patience : ℕ) → order_left time ordered patience ≡ 0 → IfSome ordered (λ moment. min patience LONGEST ≤ time - moment)
+long_ago : (time : ℕ) (ordered : Option ℕ) (patience : ℕ) → order_left time ordered patience ≡ 0 → IfSome ordered (λ moment. min patience ORDERED_AGAIN ≤ time - moment)
 long_ago time None patience none = tt
-long_ago time (Some moment) patience none = none_left (min patience LONGEST) (time - moment) none
+long_ago time (Some moment) patience none = none_left (min patience ORDERED_AGAIN) (time - moment) none
 
 pub ordered_long_ago : (awaited : Awaited) → away_left awaited ≡ 0 → IsOrderedLongAgo awaited
 ordered_long_ago awaited none = long_ago awaited.time awaited.ordered awaited.patience (parts_of_none awaited none).1
 
-none_of_long_ago : (time : ℕ) (ordered : Option ℕ) (patience : ℕ) → IfSome ordered (λ moment. min patience LONGEST ≤ time - moment) → order_left time ordered patience ≡ 0
+none_of_long_ago : (time : ℕ) (ordered : Option ℕ) (patience : ℕ) → IfSome ordered (λ moment. min patience ORDERED_AGAIN ≤ time - moment) → order_left time ordered patience ≡ 0
 none_of_long_ago time None patience ago = refl
 none_of_long_ago time (Some moment) patience ago = omega arith
 

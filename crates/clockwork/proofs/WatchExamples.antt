@@ -1,9 +1,11 @@
 -- What is kept from turn to turn, on values; moments in microseconds.
-use Rattle.std.proofs.Common.{◌≡◌, ℕ, true, false, Option, Some, None, refl}
+use Rattle.std.proofs.Common.{◌≡◌, ℕ, true, false, List, [], ◌∷◌, Option, Some, None, refl, arith}
 use Rattle.clockwork.specs.declared.known.PeerReport.{PeerReport}
 use Rattle.clockwork.specs.declared.watch.Seen.{Seen}
 use Rattle.clockwork.specs.declared.watch.Watch.{Watch}
+use Rattle.clockwork.specs.declared.longest.Measure.{Measure}
 use Rattle.clockwork.specs.Silence.{is_heard}
+use Rattle.clockwork.specs.Measuring.{fresh, noted, lately, AreInOrder, AreWithin}
 use Rattle.clockwork.specs.PeerReports.{report_after}
 use Rattle.clockwork.specs.Watches.{watch_of, seen_at, stood, ticked_at}
 
@@ -60,3 +62,32 @@ work_stays = refl
 
 work_behind : (stood (stood ticked true false 500) true true 600).work_since ≡ None
 work_behind = refl
+
+-- ---- the longest of the last minute; parts are of half a minute
+
+a_quick_one_has_nothing_forgotten : lately (noted (noted fresh 10000000 20000000) 1000 79000000) 80000000 ≡ 10000000
+a_quick_one_has_nothing_forgotten = refl
+
+it_counts_for_a_minute : lately (noted fresh 10000000 20000000) 80000000 ≡ 10000000
+it_counts_for_a_minute = refl
+
+half_a_minute_later_it_is_forgotten : lately (noted fresh 10000000 20000000) 110000000 ≡ 0
+half_a_minute_later_it_is_forgotten = refl
+
+calls_are_measured : (seen_at ticked (seen 6 None) 7 400).calls ≡ record { begun = 0; newest = 7; middle = 0; oldest = 0 }
+calls_are_measured = refl
+
+abbrev measures : List Measure
+measures = record { length = 1000; at = 80000000 } ∷ record { length = 5000; at = 20000000 } ∷ []
+
+in_order : AreInOrder measures 90000000
+in_order = (omega arith, (omega arith, tt))
+
+one_that_lies_ahead : AreInOrder measures 79000000 → ⊥
+one_that_lies_ahead order = let first = order.0 in omega arith
+
+the_older_is_longer_but_too_old : AreWithin measures 90000000 60000001 1000
+the_older_is_longer_but_too_old = ((λ young. omega arith), ((λ young. absurd (omega arith)), tt))
+
+not_where_it_is_young : AreWithin measures 80000000 60000001 1000 → ⊥
+not_where_it_is_young within = let older = within.1.0 (omega arith) in omega arith

@@ -3,7 +3,7 @@ use Rattle.std.specs.Prelude.{◌≡◌, ℕ, ◌+◌, ◌-◌, ◌*◌, ◌≤�
 use Rattle.clockwork.specs.declared.action_timeout.Awaited.{Awaited}
 use Rattle.clockwork.specs.declared.answer.Due.{Due}
 use Rattle.clockwork.specs.declared.answer.Due.TheVariants.{Now}
-use Rattle.clockwork.specs.declared.limits.TheConstants.{STEP, LONGEST, LOOK}
+use Rattle.clockwork.specs.declared.limits.TheConstants.{STEP, ORDERED_AGAIN, LOOK}
 use Rattle.clockwork.specs.Waits.{left}
 use Rattle.clockwork.specs.Dues.{due_in}
 
@@ -18,7 +18,7 @@ away_wait awaited = awaited.patience + STEP * awaited.rank
 -- it isn't ordered again before the patience has passed once more, or eight seconds
 abbrev pub order_left : ℕ → Option ℕ → ℕ → ℕ
 order_left time None patience = 0
-order_left time (Some moment) patience = left time moment (min patience LONGEST)
+order_left time (Some moment) patience = left time moment (min patience ORDERED_AGAIN)
 
 unfoldable pub away_left : Awaited → ℕ
 away_left awaited = max (left awaited.time awaited.since (away_wait awaited)) (order_left awaited.time awaited.ordered awaited.patience)
@@ -39,7 +39,7 @@ HasWaitedFor awaited = away_wait awaited ≤ awaited.time - awaited.since
 
 -- the last order, if any, was as long ago, or eight seconds
 abbrev pub IsOrderedLongAgo : Awaited → Type 0
-IsOrderedLongAgo awaited = IfSome awaited.ordered (λ moment. min awaited.patience LONGEST ≤ awaited.time - moment)
+IsOrderedLongAgo awaited = IfSome awaited.ordered (λ moment. min awaited.patience ORDERED_AGAIN ≤ awaited.time - moment)
 
 -- where the order would be this node's it is given once the patience and the steps of those before it have passed, at the latest
 abbrev pub IsOrderedInTime : Awaited → Type 0

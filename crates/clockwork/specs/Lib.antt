@@ -1,4 +1,5 @@
 pub mod Silence
+pub mod Measuring
 pub mod Waits
 pub mod Presence
 pub mod Ranks

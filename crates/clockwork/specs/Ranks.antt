@@ -10,7 +10,7 @@ is_before None peer number = false
 is_before (Some beat) peer number = nat_lt peer number
 
 unfoldable pub rank_by_number : ℕ → ℕ → ℕ → List Peer → ℕ
-rank_by_number time pace number peers = count_by (λ peer. is_before (told time pace peer.link) peer.number number) peers
+rank_by_number time slow number peers = count_by (λ peer. is_before (told time slow peer.link) peer.number number) peers
 
 -- how late a node's turn comes where nodes are counted cyclically from behind a leader on
 unfoldable pub turn : ℕ → ℕ → ℕ
@@ -22,7 +22,7 @@ comes_sooner None leader peer number = false
 comes_sooner (Some beat) leader peer number = nat_lt (turn leader peer) (turn leader number)
 
 unfoldable pub rank_behind : ℕ → ℕ → ℕ → ℕ → List Peer → ℕ
-rank_behind time pace leader number peers = count_by (λ peer. comes_sooner (told time pace peer.link) leader peer.number number) peers
+rank_behind time slow leader number peers = count_by (λ peer. comes_sooner (told time slow peer.link) leader peer.number number) peers
 
 -- present, with this front or a greater one and a lower number
 unfoldable pub is_as_far : Option PeerReport → ℕ → ℕ → ℕ → Bool
@@ -30,4 +30,4 @@ is_as_far None front peer number = false
 is_as_far (Some beat) front peer number = not (nat_lt beat.front front) && nat_lt peer number
 
 unfoldable pub rank_as_far : ℕ → ℕ → ℕ → ℕ → List Peer → ℕ
-rank_as_far time pace front number peers = count_by (λ peer. is_as_far (told time pace peer.link) front peer.number number) peers
+rank_as_far time slow front number peers = count_by (λ peer. is_as_far (told time slow peer.link) front peer.number number) peers

@@ -6,9 +6,10 @@ use Rattle.clockwork.specs.declared.known.Peer.{Peer}
 use Rattle.clockwork.specs.declared.known.Known.{Known}
 use Rattle.clockwork.specs.declared.watch.Seen.{Seen}
 use Rattle.clockwork.specs.declared.watch.Watch.{Watch}
+use Rattle.clockwork.specs.Measuring.{fresh, noted, lately}
 
 abbrev pub watch_of : Seen → ℕ → Watch
-watch_of seen now = record { seen = seen; moved = now; promised_since = now; was_led = seen.campaigns; work_since = None; behind_since = None; ticks = None; last_call = 0 }
+watch_of seen now = record { seen = seen; moved = now; promised_since = now; was_led = seen.campaigns; work_since = None; behind_since = None; ticks = None; calls = fresh }
 
 abbrev pub is_same : Option ℕ → Option ℕ → Bool
 is_same (Some one) (Some other) = one == other
@@ -39,7 +40,7 @@ seen_at w seen took now = record {
   work_since = w.work_since;
   behind_since = w.behind_since;
   ticks = if seen.front == w.seen.front then w.ticks else quiet w.ticks;
-  last_call = took;
+  calls = noted w.calls took now;
 }
 
 -- work counts while the node isn't behind
@@ -73,5 +74,5 @@ known_of w number peers now = record {
   work_since = begun w.work_since now;
   behind_since = begun w.behind_since now;
   ticks = w.ticks;
-  last_call = w.last_call;
+  longest_call = lately w.calls now;
 }

@@ -9,10 +9,10 @@ use Rattle.clockwork.specs.declared.known.Peer.{Peer}
 use Rattle.clockwork.specs.declared.known.Known.{Known}
 use Rattle.clockwork.specs.declared.standing.Standing.{Standing}
 use Rattle.clockwork.specs.declared.standing.Standing.TheVariants.{Campaigns, Fresh, Led, Lost, Idle, Follows}
-use Rattle.clockwork.specs.declared.limits.TheConstants.{STEP, LONGEST}
+use Rattle.clockwork.specs.declared.limits.TheConstants.{STEP}
 use Rattle.clockwork.specs.Waits.{left, doubled, in_vain, again}
 use Rattle.clockwork.specs.Ranks.{rank_by_number, rank_behind}
-use Rattle.clockwork.specs.Presence.{told, slowest, soon_of}
+use Rattle.clockwork.specs.Presence.{told, pace_of, most_of, soon_of}
 use Rattle.clockwork.specs.Standings.{is_campaign, is_follower}
 
 -- the match isn't over, and an act waits, a vote of the node's own stands at its front, or no hand runs
@@ -39,36 +39,33 @@ campaigns_by (Some beat) = beat.campaigns
 
 -- one step for each present peer that comes before the node: by number, or counted cyclically from behind a leader on
 unfoldable pub steps_by_number : Known → ℕ → ℕ
-steps_by_number known pace = STEP * rank_by_number known.time pace known.number known.peers.now
+steps_by_number known slow = STEP * rank_by_number known.time slow known.number known.peers.now
 
 unfoldable pub steps_behind : Known → ℕ → ℕ → ℕ
-steps_behind known pace leader = STEP * rank_behind known.time pace leader known.number known.peers.now
+steps_behind known slow leader = STEP * rank_behind known.time slow leader known.number known.peers.now
 
 -- an act waits that went on to another node than the one whose ballot is promised now, or to none, and no vote stands where it would be
 unfoldable pub is_untold : Known → Bool
 is_untold known = known.act_waits && (not known.vote_waits && nat_lt known.work_since known.promised_since)
 
-abbrev pub soon_in : Known → ℕ
-soon_in known = soon_of (slowest known.time known.last_call known.peers.now)
-
 -- where the leader is there and campaigns no longer: that one has the act that went on to it, or sees that no hand runs, and ticks itself
 unfoldable pub idle_wait : Known → ℕ → ℕ → ℕ
-idle_wait known pace leader = if known.act_waits then soon_in known else soon_in known + steps_behind known pace leader
+idle_wait known slow leader = if known.act_waits then soon_of slow else soon_of slow + steps_behind known slow leader
 
 -- by how it stands to the node whose ballot it has promised
 unfoldable pub row_left : Known → ℕ → Standing → ℕ
-row_left known pace Campaigns = left known.time (max known.work_since known.moved) (doubled pace (in_vain known.ticks) LONGEST)
-row_left known pace Fresh = left known.time known.work_since (steps_by_number known pace)
-row_left known pace Led = 0
-row_left known pace (Lost leader since) =
-    if known.act_waits then 0 else left known.time (max known.work_since since) (steps_behind known pace leader)
-row_left known pace (Idle leader since) = left known.time (max known.work_since since) (idle_wait known pace leader)
-row_left known pace (Follows leader) =
-    left known.time (max known.work_since (max known.moved known.promised_since)) (doubled pace (in_vain known.ticks) LONGEST + steps_behind known pace leader)
+row_left known slow Campaigns = left known.time (max known.work_since known.moved) (doubled (pace_of slow) (in_vain known.ticks) (most_of slow))
+row_left known slow Fresh = left known.time known.work_since (steps_by_number known slow)
+row_left known slow Led = 0
+row_left known slow (Lost leader since) =
+    if known.act_waits then 0 else left known.time (max known.work_since since) (steps_behind known slow leader)
+row_left known slow (Idle leader since) = left known.time (max known.work_since since) (idle_wait known slow leader)
+row_left known slow (Follows leader) =
+    left known.time (max known.work_since (max known.moved known.promised_since)) (doubled (pace_of slow) (in_vain known.ticks) (most_of slow) + steps_behind known slow leader)
 
 -- some present peer told that it campaigns
 unfoldable pub one_campaigns : ℕ → ℕ → List Peer → Bool
-one_campaigns time pace peers = list_any (λ peer. campaigns_by (told time pace peer.link)) peers
+one_campaigns time slow peers = list_any (λ peer. campaigns_by (told time slow peer.link)) peers
 
 -- a node whose only work is a vote leaves that to a peer that campaigns, or may do so where none was heard of yet, for as long as it leaves an
 -- act to its leader
@@ -76,14 +73,17 @@ abbrev pub votes_alone : Known → Bool
 votes_alone known = not known.act_waits && known.hand_runs
 
 unfoldable pub yield_left : Known → ℕ → ℕ
-yield_left known pace =
-    if votes_alone known && (not known.was_led || one_campaigns known.time pace known.peers.now) then left known.time (max known.work_since known.moved) (doubled pace (in_vain known.ticks) LONGEST + steps_by_number known pace)
+yield_left known slow =
+    if votes_alone known && (not known.was_led || one_campaigns known.time slow known.peers.now) then left known.time (max known.work_since known.moved) (doubled (pace_of slow) (in_vain known.ticks) (most_of slow) + steps_by_number known slow)
     else 0
 
--- at once where it campaigns and one who owes an answer from before is back, or where its act never went on to the one that leads, and then
--- soon again; else not before the doubled wait
+-- where it campaigns and one who owes an answer from before is back: at once, but from the second tick in vain on after the doubled wait
+unfoldable pub back_left : Known → ℕ → ℕ
+back_left known slow = if nat_lt 1 (in_vain known.ticks) then again known.time known.ticks (pace_of slow) (most_of slow) else 0
+
+-- where its act never went on to the one that leads at once too, and then soon again; else not before the doubled wait
 unfoldable pub work_left : Known → ℕ → Standing → ℕ
-work_left known pace standing =
-    if is_campaign standing && one_reopened known then 0
-    else if is_follower standing && is_untold known then again known.time known.ticks (soon_in known) LONGEST
-    else max (max (row_left known pace standing) (yield_left known pace)) (again known.time known.ticks pace LONGEST)
+work_left known slow standing =
+    if is_campaign standing && one_reopened known then back_left known slow
+    else if is_follower standing && is_untold known then again known.time known.ticks (soon_of slow) (most_of slow)
+    else max (max (row_left known slow standing) (yield_left known slow)) (again known.time known.ticks (pace_of slow) (most_of slow))

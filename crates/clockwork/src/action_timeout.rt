@@ -7,7 +7,7 @@ ghost use Rattle.clockwork.specs.ActionTimeout.{is_ours, away_wait, order_left, 
 
 use crate::answer::Due;
 use crate::clock::due_in;
-use crate::limits::{LONGEST, LOOK, STEP};
+use crate::limits::{LOOK, ORDERED_AGAIN, STEP};
 use crate::waits::left;
 
 /// What a process knows of the seat to act, in a match in which one that does nothing is played for.
@@ -80,7 +80,7 @@ fn order_left(time: u64, ordered: Option<u64>, patience: u64) -> u64
     ensures { result ≡ order_left time ordered patience }
 {
     match ordered {
-        Some(moment) => left(time, moment, patience.min(LONGEST)),
+        Some(moment) => left(time, moment, patience.min(ORDERED_AGAIN)),
         None => 0,
     }
 }

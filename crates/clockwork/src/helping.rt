@@ -5,7 +5,7 @@ ghost use Rattle.clockwork.specs.Helping.{lag_within, waits_since, lagging, lagg
 
 use crate::known::{Known, Peer, PeerReport};
 use crate::limits::{LOOK, MOST_HELP, STEP};
-use crate::presence::{lag_of, slowest, told};
+use crate::presence::{lag_of, pace_of, told};
 use crate::ranks::rank_as_far;
 use crate::waits::{again, left};
 
@@ -16,26 +16,24 @@ pub(crate) struct Wait {
     pub(crate) length: u64,
 }
 
-/// How long a peer's front has been below this node's without having moved when the peer lags: `lag` where no repeat is at or above its
-/// front, `pace` where one is at its front. One above its front makes it ask, so that it doesn't lag.
+/// How long a peer's front has been below this node's without having moved when the peer lags: `lag_of` where no repeat is at or above
+/// its front, `pace_of` where one is at its front. One above its front makes it ask, so that it doesn't lag.
 #[tactic(auto, unfolding(crate::specs::Helping::lag_within))]
-fn lag_within(pace: u64, lag: u64, accepted: Option<u32>, front: u32) -> Option<u64>
-    requires pace { pace ≤ LONGEST }
-    requires lag { lag ≤ LONGEST }
-    ensures value { result ≡ lag_within pace lag accepted front }
+fn lag_within(slow: u64, accepted: Option<u32>, front: u32) -> Option<u64>
+    ensures value { result ≡ lag_within slow accepted front }
     ensures most { IfSome result (λ wait. wait ≤ LONGEST) }
 {
     match accepted {
         Some(slot) => {
             if slot < front {
-                Some(lag)
+                Some(lag_of(slow))
             } else if slot == front {
-                Some(pace)
+                Some(pace_of(slow))
             } else {
                 None
             }
         }
-        None => Some(lag),
+        None => Some(lag_of(slow)),
     }
 }
 
@@ -54,22 +52,14 @@ fn waits_since(since: u64, length: Option<u64>) -> Option<Wait>
 /// The wait after which a peer lags, where one runs: it is present, its front is below this node's, and no repeat makes it
 /// ask.
 #[tactic(auto, unfolding(crate::specs::Helping::lagging))]
-fn lagging(
-    pace: u64,
-    lag: u64,
-    front: u32,
-    accepted: Option<u32>,
-    told: Option<PeerReport>,
-) -> Option<Wait>
-    requires pace { pace ≤ LONGEST }
-    requires lag { lag ≤ LONGEST }
-    ensures value { result ≡ lagging pace lag front accepted told }
+fn lagging(slow: u64, front: u32, accepted: Option<u32>, told: Option<PeerReport>) -> Option<Wait>
+    ensures value { result ≡ lagging slow front accepted told }
     ensures most { IfSome result (λ wait. wait.length ≤ LONGEST) }
 {
     match told {
         Some(beat) => {
             if beat.front < front {
-                waits_since(beat.below, lag_within(pace, lag, accepted, beat.front))
+                waits_since(beat.below, lag_within(slow, accepted, beat.front))
             } else {
                 None
             }
@@ -93,43 +83,36 @@ fn lagging_left(time: u64, more: u64, wait: Option<Wait>) -> u64
 
 /// What is left until this node is to tick for some peer that lags, by the peers alone.
 #[tactic(auto, unfolding(crate::specs::Helping::least_left))]
-fn least_left(time: u64, pace: u64, lag: u64, front: u32, more: u64, peers: &[Peer]) -> u64
-    requires pace { pace ≤ LONGEST }
-    requires lag { lag ≤ LONGEST }
-    requires more { more ≤ LONGEST }
-    ensures { result ≡ least_left time pace lag front more peers.now }
+fn least_left(time: u64, slow: u64, front: u32, more: u64, peers: &[Peer]) -> u64
+    requires { more ≤ LONGEST }
+    ensures { result ≡ least_left time slow front more peers.now }
 {
     peers.iter().fold(LOOK, |least, peer| {
-        least.min(peer_left(time, pace, lag, front, more, *peer))
+        least.min(peer_left(time, slow, front, more, *peer))
     })
 }
 
-fn peer_left(time: u64, pace: u64, lag: u64, front: u32, more: u64, peer: Peer) -> u64
-    requires pace { pace ≤ LONGEST }
-    requires lag { lag ≤ LONGEST }
-    requires more { more ≤ LONGEST }
-    ensures { result ≡ lagging_left time more (lagging pace lag front peer.accepted (told time pace peer.link)) }
+fn peer_left(time: u64, slow: u64, front: u32, more: u64, peer: Peer) -> u64
+    requires { more ≤ LONGEST }
+    ensures { result ≡ lagging_left time more (lagging slow front peer.accepted (told time slow peer.link)) }
 {
-    let wait = lagging(pace, lag, front, peer.accepted, told(time, pace, peer.link));
+    let wait = lagging(slow, front, peer.accepted, told(time, slow, peer.link));
     lagging_left(time, more, wait)
 }
 
 /// What is left until this node is to tick for a peer that lags.
 #[tactic(auto, unfolding(crate::specs::Helping::help_left))]
-pub(crate) fn help_left(known: &Known<'_>, pace: u64) -> u64
-    requires peers { length known.now.peers.now ≤ MOST_PEERS }
-    requires pace { pace ≤ LONGEST }
-    ensures { result ≡ help_left known.now pace }
+pub(crate) fn help_left(known: &Known<'_>, slow: u64) -> u64
+    requires { length known.now.peers.now ≤ MOST_PEERS }
+    ensures { result ≡ help_left known.now slow }
 {
-    let lag = lag_of(slowest(known));
-    let rank = rank_as_far(known.time, pace, known.front, known.number, known.peers);
+    let rank = rank_as_far(known.time, slow, known.front, known.number, known.peers);
     least_left(
         known.time,
-        pace,
-        lag,
+        slow,
         known.front,
         STEP * rank as u64,
         known.peers,
     )
-    .max(again(known.time, known.ticks, lag, MOST_HELP))
+    .max(again(known.time, known.ticks, lag_of(slow), MOST_HELP))
 }

@@ -38,8 +38,8 @@ pub struct Known<'a> {
     pub behind_since: u64,
     /// This process's own ticks, where it has ticked.
     pub ticks: Option<Ticks>,
-    /// How long the last call of the node took.
-    pub last_call: u64,
+    /// The longest call of the node in the last minute (`Longest`).
+    pub longest_call: u64,
 }
 
 /// The ticks of a process.
@@ -60,6 +60,10 @@ pub struct Peer {
     /// as the peer is below this node's front; where the slot is above the peer's own front, it makes the peer ask for what
     /// it lacks.
     pub accepted: Option<u32>,
+    /// The longest that was measured of it in the last minute (`Longest`), also over earlier connections: of the times from a
+    /// beat until one came that says that the peer had got it, and of its silences above a third of a second (`A_SILENCE`)
+    /// in which it stood. One whose way was cut goes on, so that such a silence isn't counted.
+    pub longest: u64,
     /// The connection to it.
     pub link: Link,
 }
@@ -80,8 +84,6 @@ pub struct OpenLink {
     pub opened: u64,
     /// When something last came over it; at first, when it opened.
     pub heard: u64,
-    /// How long it last took from a beat until one came that says that the peer had got it, once that was measured.
-    pub round_trip: Option<u64>,
     /// A Prepare or an Accept that was sent to the peer before this connection opened is unanswered, and its answer would
     /// still serve: it is of the ballot in which this node campaigns, and of no slot below the front.
     pub unanswered: bool,

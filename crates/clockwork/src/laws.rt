@@ -1,15 +1,24 @@
 //! What holds of what is due.
 
 ghost use Rattle.clockwork.specs.Laws.{ComesInTime};
+ghost use Rattle.clockwork.specs.Measuring.{CountForAMinute};
 ghost use Rattle.clockwork.specs.ActionTimeout.{IsOrderedInTime, IsSeatedOnce};
 
 use crate::action_timeout::Awaited;
 use crate::known::Known;
+use crate::longest::Measure;
 
-/// Where a node is quorate, and is behind, has work or has a peer that lags, a tick is due ten seconds later, if nothing
-/// else comes to be known by then but that its present peers are heard; no moment that is known may lie ahead.
-pub fn a_tick_comes_within_ten_seconds(known: &Known<'_>)
+/// Where a node is quorate, and is behind, has work or has a peer that lags, a tick is due after the wait for answers (`pace`),
+/// or two seconds where that is shorter, doubled for each tick in vain, and a step for each present peer; if nothing else
+/// comes to be known by then but that its present peers are heard. No moment that is known may lie ahead.
+pub fn a_tick_that_is_needed_comes(known: &Known<'_>)
     ensures { ComesInTime known.now }
+{}
+
+/// Of all that was measured, the newest first, each counts for a minute as the longest (`Longest`), if it is that, and none
+/// that was measured half a minute before does.
+pub fn what_was_measured_counts_for_a_minute(_measures: &[Measure], _now: u64)
+    ensures { CountForAMinute _measures.now _now }
 {}
 
 /// Where the order to play for the seat to act would be this node's, it is given once the patience and a step for each

@@ -5,10 +5,15 @@
 //! and not by many ballots at once.
 //!
 //! A process keeps a `Watch`, which has what is seen of its node and since when, and of each peer what that has told over
-//! an open connection and since when (`report_after`). Of both it makes a `Known`, and asks whenever something came, a
-//! connection opened or ended, or the moment of the last answer has come. By `has_work` and `is_behind` it knows when
-//! `work_since` and `behind_since` begin anew, by `is_quorate` whether it may keep its seats, by `pace` how long a silent
-//! peer counts as present (`is_heard`), by `replays` that nobody is to be played for. There are no faults.
+//! an open connection and since when (`report_after`), and how long it took lately (`Longest`). Of these it makes a `Known`,
+//! and asks whenever something came, a connection opened or ended, or the moment of the last answer has come. By `has_work`
+//! and `is_behind` it knows when `work_since` and `behind_since` begin anew, by `is_quorate` whether it may keep its seats, by
+//! `most_silence` how long a silent peer counts as present (`is_heard`) and by `closing` when its connection is closed, by
+//! `replays` that nobody is to be played for. There are no faults.
+//!
+//! Three lengths follow from the longest call or way of the last minute, so that slow disks and ways aren't taken for lost
+//! ones: how long a node waits for answers (`pace`), how long a silent peer counts as present, and after which silence its
+//! connection is closed. They are not one, since a lost leader is to be missed long before a campaign is given up.
 //!
 //! The tests of `clockwork_lines` have the rules row by row, and `tests/processes_sim` lets simulated processes tick by them.
 #![tactic(auto)]
@@ -20,6 +25,7 @@ mod helping;
 mod known;
 pub mod laws;
 pub mod limits;
+mod longest;
 mod peer_report;
 mod presence;
 mod ranks;
@@ -33,9 +39,10 @@ pub use action_timeout::{Awaited, away_due, seated_after};
 pub use answer::Due;
 pub use clock::due;
 pub use known::{Known, Link, OpenLink, Peer, PeerReport, Ticks};
+pub use longest::{Longest, Measure};
 pub use peer_report::report_after;
-pub use presence::{is_behind, is_quorate, pace};
+pub use presence::{is_behind, is_quorate, most_silence, pace};
 pub use ranks::rank;
-pub use silence::is_heard;
+pub use silence::{closing, is_heard};
 pub use watch::{Seen, Watch};
 pub use work::{has_work, replays};

@@ -15,11 +15,24 @@ pub const STEP: u64 = 30_000;
 /// The least of what a node waits for answers, for another's lead, and until a silent peer counts as absent.
 pub const SHORTEST: u64 = 1_000_000;
 
-/// The most of these, also where they are doubled, and the most of every other wait for a tick but its steps.
-pub const LONGEST: u64 = 8_000_000;
+/// The most of what a node waits for answers and for another's lead, also where that is doubled, and the most of every other
+/// wait for a tick but its steps.
+pub const LONGEST: u64 = 256_000_000;
 
-/// Between these two bounds, so many times as long as the slowest of the present peers and the node itself last took.
+/// Between these two bounds, a node waits for answers so many times as long as the slowest took (`Longest`).
 pub const SLACK: u64 = 8;
+
+/// A wait is doubled up to so many times as long as a node waits for answers at first, and to `LONGEST`.
+pub const DOUBLED: u64 = 8;
+
+/// The most for which a silent peer counts as present.
+pub const MOST_SILENT: u64 = 64_000_000;
+
+/// Between `SHORTEST` and that, a silent peer counts as present so many times as long as the slowest took.
+pub const SILENT: u64 = 2;
+
+/// What was measured counts for twice so long, and for less than three times.
+pub const PART: u64 = 30_000_000;
 
 /// The least time for which the front of a peer has been below this node's without having moved when the peer lags.
 pub const LAG: u64 = 200_000;
@@ -32,6 +45,9 @@ pub const ALONE: u64 = 200_000;
 
 /// How long it waits where a node ahead of it may still tell it what it lacks.
 pub const BEHIND: u64 = 2_000_000;
+
+/// The order to play for a seat isn't given again before so long has passed, or the patience where that is shorter.
+pub const ORDERED_AGAIN: u64 = 8_000_000;
 
 /// A process looks again after at most so long, whatever it waits for.
 pub const LOOK: u64 = 1_000_000;

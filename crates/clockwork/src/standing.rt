@@ -1,9 +1,9 @@
 ghost use Rattle.std.specs.Prelude.{◌≡◌, ◌==◌, ◌≤◌, find};
-ghost use Rattle.clockwork.specs.declared.limits.TheConstants.{SHORTEST, LONGEST, LATEST};
+ghost use Rattle.clockwork.specs.declared.limits.TheConstants.{LATEST};
 ghost use Rattle.clockwork.specs.Standings.{idle_since, gone_since, standing_over, standing_behind, standing, standing_to, is_campaign, is_follower};
 
 use crate::known::{Known, Link, Peer, PeerReport};
-use crate::presence::told;
+use crate::presence::{silence_of, told};
 use crate::silence::is_heard;
 
 /// How a node stands to the node whose ballot it has promised.
@@ -36,19 +36,18 @@ fn idle_since(beat: Option<PeerReport>) -> Option<u64>
 
 /// Since when a peer is known to be gone: its connection ended, or it has been silent for too long.
 #[tactic(auto, unfolding(crate::specs::Standings::gone_since))]
-fn gone_since(time: u64, pace: u64, link: Link) -> Option<u64>
+fn gone_since(time: u64, slow: u64, link: Link) -> Option<u64>
     requires time { time ≤ LATEST }
-    requires least { SHORTEST ≤ pace }
-    requires most { pace ≤ LONGEST }
-    ensures { result ≡ gone_since time pace link }
+    ensures { result ≡ gone_since time slow link }
 {
     match link {
         Link::Closed { since } => Some(since),
         Link::Open(connection) => {
-            if is_heard(connection.heard, time, pace) {
+            let silence = silence_of(slow);
+            if is_heard(connection.heard, time, silence) {
                 None
             } else {
-                Some(connection.heard + pace)
+                Some(connection.heard + silence)
             }
         }
     }
@@ -56,16 +55,14 @@ fn gone_since(time: u64, pace: u64, link: Link) -> Option<u64>
 
 /// How a node stands to a leader over this link.
 #[tactic(auto, unfolding(crate::specs::Standings::standing_over))]
-fn standing_over(time: u64, pace: u64, leader: u8, link: Link) -> Standing
+fn standing_over(time: u64, slow: u64, leader: u8, link: Link) -> Standing
     requires time { time ≤ LATEST }
-    requires least { SHORTEST ≤ pace }
-    requires most { pace ≤ LONGEST }
-    ensures { result ≡ standing_over time pace leader link }
+    ensures { result ≡ standing_over time slow leader link }
 {
-    if let Some(since) = gone_since(time, pace, link) {
+    if let Some(since) = gone_since(time, slow, link) {
         return Standing::Lost { leader, since };
     }
-    match idle_since(told(time, pace, link)) {
+    match idle_since(told(time, slow, link)) {
         Some(since) => Standing::Idle { leader, since },
         None => Standing::Follows { leader },
     }
@@ -73,14 +70,12 @@ fn standing_over(time: u64, pace: u64, leader: u8, link: Link) -> Standing
 
 /// How it stands to a leader among the peers; one that is none of them is lost since ever.
 #[tactic(auto, unfolding(crate::specs::Standings::standing_behind))]
-fn standing_behind(time: u64, pace: u64, leader: u8, peers: &[Peer]) -> Standing
+fn standing_behind(time: u64, slow: u64, leader: u8, peers: &[Peer]) -> Standing
     requires time { time ≤ LATEST }
-    requires least { SHORTEST ≤ pace }
-    requires most { pace ≤ LONGEST }
-    ensures { result ≡ standing_behind time pace leader (find (λ peer. peer.number == leader) peers.now) }
+    ensures { result ≡ standing_behind time slow leader (find (λ peer. peer.number == leader) peers.now) }
 {
     match peer_of(leader, peers) {
-        Some(peer) => standing_over(time, pace, leader, peer.link),
+        Some(peer) => standing_over(time, slow, leader, peer.link),
         None => Standing::Lost { leader, since: 0 },
     }
 }
@@ -106,24 +101,20 @@ pub(crate) fn is_follower(standing: Standing) -> bool
 }
 
 /// How the node stands to the node whose ballot it has promised.
-pub(crate) fn standing_of(known: &Known<'_>, pace: u64) -> Standing
+pub(crate) fn standing_of(known: &Known<'_>, slow: u64) -> Standing
     requires time { known.now.time ≤ LATEST }
-    requires least { SHORTEST ≤ pace }
-    requires most { pace ≤ LONGEST }
-    ensures { result ≡ standing known.now pace known.now.promised }
+    ensures { result ≡ standing known.now slow known.now.promised }
 {
     match known.promised {
-        Some(leader) => standing_to(known, pace, leader),
+        Some(leader) => standing_to(known, slow, leader),
         None => Standing::Fresh,
     }
 }
 
 #[tactic(auto, unfolding(crate::specs::Standings::standing_to))]
-fn standing_to(known: &Known<'_>, pace: u64, leader: u8) -> Standing
+fn standing_to(known: &Known<'_>, slow: u64, leader: u8) -> Standing
     requires time { known.now.time ≤ LATEST }
-    requires least { SHORTEST ≤ pace }
-    requires most { pace ≤ LONGEST }
-    ensures { result ≡ standing_to known.now pace leader }
+    ensures { result ≡ standing_to known.now slow leader }
 {
     let is_own = leader == known.number;
     if is_own && known.campaigns {
@@ -135,5 +126,5 @@ fn standing_to(known: &Known<'_>, pace: u64, leader: u8) -> Standing
     if is_own {
         return Standing::Led;
     }
-    standing_behind(known.time, pace, leader, known.peers)
+    standing_behind(known.time, slow, leader, known.peers)
 }

@@ -2,6 +2,7 @@ ghost use Rattle.std.specs.Prelude.{◌≡◌, true};
 ghost use Rattle.clockwork.specs.Watches.{watch_of, is_same, quiet, since, seen_at, stood, ticked_at, known_of};
 
 use crate::known::{Known, Peer, Ticks};
+use crate::longest::Longest;
 
 /// What is seen of a node between two calls.
 #[derive(Clone, Copy, Debug, PartialEq, Eq)]
@@ -38,8 +39,8 @@ pub struct Watch {
     pub behind_since: Option<u64>,
     /// The process's own ticks.
     pub ticks: Option<Ticks>,
-    /// How long the last call of the node took.
-    pub last_call: u64,
+    /// How long calls of the node took.
+    pub calls: Longest,
 }
 
 fn is_same(one: Option<u8>, other: Option<u8>) -> bool
@@ -92,7 +93,7 @@ impl Watch {
             work_since: None,
             behind_since: None,
             ticks: None,
-            last_call: 0,
+            calls: Longest::new(),
         }
     }
 
@@ -109,7 +110,7 @@ impl Watch {
         }
         self.was_led = self.was_led || seen.campaigns;
         self.seen = seen;
-        self.last_call = took;
+        self.calls.note(took, now);
     }
 
     /// A peer has told that it campaigns.
@@ -165,7 +166,7 @@ impl Watch {
                 None => now,
             },
             ticks: self.ticks,
-            last_call: self.last_call,
+            longest_call: self.calls.lately(now),
         }
     }
 }

@@ -1,12 +1,12 @@
 ghost use Rattle.std.specs.Prelude.{◌≡◌, ◌≤◌, length};
-ghost use Rattle.clockwork.specs.declared.limits.TheConstants.{SHORTEST, LONGEST, LATEST, MOST_PEERS};
-ghost use Rattle.clockwork.specs.Work.{has_work, opened_since, is_reopened, one_reopened, steps_by_number, steps_behind, is_untold, idle_wait, row_left, campaigns_by, one_campaigns, yield_left, work_left};
+ghost use Rattle.clockwork.specs.declared.limits.TheConstants.{LONGEST, LATEST, MOST_PEERS};
+ghost use Rattle.clockwork.specs.Work.{has_work, opened_since, is_reopened, one_reopened, steps_by_number, steps_behind, is_untold, idle_wait, row_left, campaigns_by, one_campaigns, yield_left, back_left, work_left};
 ghost use Rattle.clockwork.specs.Standings.{standing};
 ghost use Rattle.clockwork.specs.Laws.{replays};
 
 use crate::known::{Known, Link, Peer, PeerReport, Ticks};
-use crate::limits::{LONGEST, STEP};
-use crate::presence::{is_behind, slowest, soon_of, told};
+use crate::limits::STEP;
+use crate::presence::{is_behind, most_of, pace_of, soon_of, told};
 use crate::ranks::{rank_behind, rank_by_number};
 use crate::standing::{Standing, is_campaign, is_follower, standing_of};
 use crate::waits::{again, doubled, in_vain, left};
@@ -69,33 +69,31 @@ fn is_untold(known: &Known<'_>) -> bool
 /// How long a node with work waits where its leader is there and campaigns no longer: that one has the act that went on to
 /// it, or sees that no hand runs, and ticks itself.
 #[tactic(auto, unfolding(crate::specs::Work::idle_wait))]
-fn idle_wait(known: &Known<'_>, pace: u64, leader: u8) -> u64
+fn idle_wait(known: &Known<'_>, slow: u64, leader: u8) -> u64
     requires peers { length known.now.peers.now ≤ MOST_PEERS }
-    requires pace { pace ≤ LONGEST }
-    ensures { result ≡ idle_wait known.now pace leader }
+    ensures { result ≡ idle_wait known.now slow leader }
 {
-    let soon = soon_of(slowest(known));
+    let soon = soon_of(slow);
     if known.act_waits {
         soon
     } else {
-        soon + steps_behind(known, pace, leader)
+        soon + steps_behind(known, slow, leader)
     }
 }
 
 /// What is left until a node with work is to tick for the first time, by how it stands to its leader.
 #[tactic(auto, unfolding(crate::specs::Work::row_left))]
-fn row_left(known: &Known<'_>, pace: u64, standing: Standing) -> u64
+fn row_left(known: &Known<'_>, slow: u64, standing: Standing) -> u64
     requires peers { length known.now.peers.now ≤ MOST_PEERS }
-    requires pace { pace ≤ LONGEST }
-    ensures { result ≡ row_left known.now pace standing }
+    ensures { result ≡ row_left known.now slow standing }
 {
     match standing {
         Standing::Campaigns => left(
             known.time,
             known.work_since.max(known.moved),
-            doubled(pace, in_vain(known.ticks), LONGEST),
+            doubled(pace_of(slow), in_vain(known.ticks), most_of(slow)),
         ),
-        Standing::Fresh => left(known.time, known.work_since, steps_by_number(known, pace)),
+        Standing::Fresh => left(known.time, known.work_since, steps_by_number(known, slow)),
         Standing::Led => 0,
         Standing::Lost { leader, since } => {
             if known.act_waits {
@@ -104,41 +102,42 @@ fn row_left(known: &Known<'_>, pace: u64, standing: Standing) -> u64
                 left(
                     known.time,
                     known.work_since.max(since),
-                    steps_behind(known, pace, leader),
+                    steps_behind(known, slow, leader),
                 )
             }
         }
         Standing::Idle { leader, since } => left(
             known.time,
             known.work_since.max(since),
-            idle_wait(known, pace, leader),
+            idle_wait(known, slow, leader),
         ),
         Standing::Follows { leader } => left(
             known.time,
             known.work_since.max(known.moved.max(known.promised_since)),
-            doubled(pace, in_vain(known.ticks), LONGEST) + steps_behind(known, pace, leader),
+            doubled(pace_of(slow), in_vain(known.ticks), most_of(slow))
+                + steps_behind(known, slow, leader),
         ),
     }
 }
 
 /// One step for each present peer with a lower number.
 #[tactic(auto, unfolding(crate::specs::Work::steps_by_number))]
-pub(crate) fn steps_by_number(known: &Known<'_>, pace: u64) -> u64
+pub(crate) fn steps_by_number(known: &Known<'_>, slow: u64) -> u64
     requires peers { length known.now.peers.now ≤ MOST_PEERS }
-    ensures value { result ≡ steps_by_number known.now pace }
+    ensures value { result ≡ steps_by_number known.now slow }
     ensures most { result ≤ LONGEST }
 {
-    STEP * rank_by_number(known.time, pace, known.number, known.peers) as u64
+    STEP * rank_by_number(known.time, slow, known.number, known.peers) as u64
 }
 
 /// One step for each present peer that comes before the node, counted cyclically from behind a leader on.
 #[tactic(auto, unfolding(crate::specs::Work::steps_behind))]
-fn steps_behind(known: &Known<'_>, pace: u64, leader: u8) -> u64
+fn steps_behind(known: &Known<'_>, slow: u64, leader: u8) -> u64
     requires peers { length known.now.peers.now ≤ MOST_PEERS }
-    ensures value { result ≡ steps_behind known.now pace leader }
+    ensures value { result ≡ steps_behind known.now slow leader }
     ensures most { result ≤ LONGEST }
 {
-    STEP * rank_behind(known.time, pace, leader, known.number, known.peers) as u64
+    STEP * rank_behind(known.time, slow, leader, known.number, known.peers) as u64
 }
 
 /// Whether a present peer told that it campaigns.
@@ -154,56 +153,68 @@ fn campaigns_by(told: Option<PeerReport>) -> bool
 
 /// Whether some present peer told that it campaigns.
 #[tactic(auto, unfolding(crate::specs::Work::one_campaigns))]
-fn one_campaigns(time: u64, pace: u64, peers: &[Peer]) -> bool
-    ensures { result ≡ one_campaigns time pace peers.now }
+fn one_campaigns(time: u64, slow: u64, peers: &[Peer]) -> bool
+    ensures { result ≡ one_campaigns time slow peers.now }
 {
     peers
         .iter()
-        .any(|peer| campaigns_by(told(time, pace, peer.link)))
+        .any(|peer| campaigns_by(told(time, slow, peer.link)))
 }
 
 /// What is left until a node ticks whose only work is a vote of its own, where a present peer campaigns, or none was heard of
 /// since the process began: that one is told of the vote, and is left as much time as a leader.
 #[tactic(auto, unfolding(crate::specs::Work::yield_left))]
-fn yield_left(known: &Known<'_>, pace: u64) -> u64
+fn yield_left(known: &Known<'_>, slow: u64) -> u64
     requires peers { length known.now.peers.now ≤ MOST_PEERS }
-    requires pace { pace ≤ LONGEST }
-    ensures { result ≡ yield_left known.now pace }
+    ensures { result ≡ yield_left known.now slow }
 {
     if !known.act_waits
         && known.hand_runs
-        && (!known.was_led || one_campaigns(known.time, pace, known.peers))
+        && (!known.was_led || one_campaigns(known.time, slow, known.peers))
     {
         left(
             known.time,
             known.work_since.max(known.moved),
-            doubled(pace, in_vain(known.ticks), LONGEST) + steps_by_number(known, pace),
+            doubled(pace_of(slow), in_vain(known.ticks), most_of(slow))
+                + steps_by_number(known, slow),
         )
     } else {
         0
     }
 }
 
-/// What is left until a node with work is to tick: at once where it campaigns and a connection opened since its last tick
-/// to a peer that owes an answer from before; where its act never went on to the one that leads, at once too, and after a
+/// What is left until a node that campaigns is to tick where a connection opened since its last tick to a peer that owes an
+/// answer from before: nothing, but from the second tick in vain on what is left of the doubled wait, since connections of
+/// slow peers end and open again and again.
+#[tactic(auto, unfolding(crate::specs::Work::back_left))]
+fn back_left(known: &Known<'_>, slow: u64) -> u64
+    ensures { result ≡ back_left known.now slow }
+{
+    if in_vain(known.ticks) > 1 {
+        again(known.time, known.ticks, pace_of(slow), most_of(slow))
+    } else {
+        0
+    }
+}
+
+/// What is left until a node with work is to tick: where it campaigns and a connection opened since its last tick to a peer
+/// that owes an answer from before, by that; where its act never went on to the one that leads, at once, and after a
 /// tick in vain soon again; else by how it stands to its leader, where a vote is all its work not while a peer that
 /// campaigns may still go on, and after a tick in vain not before the doubled wait.
 #[tactic(auto, unfolding(crate::specs::Work::work_left))]
-pub(crate) fn work_left(known: &Known<'_>, pace: u64) -> u64
+pub(crate) fn work_left(known: &Known<'_>, slow: u64) -> u64
     requires time { known.now.time ≤ LATEST }
     requires peers { length known.now.peers.now ≤ MOST_PEERS }
-    requires least { SHORTEST ≤ pace }
-    requires most { pace ≤ LONGEST }
-    ensures { result ≡ work_left known.now pace (standing known.now pace known.now.promised) }
+    ensures { result ≡ work_left known.now slow (standing known.now slow known.now.promised) }
 {
-    let standing = standing_of(known, pace);
+    let standing = standing_of(known, slow);
     if is_campaign(standing) && one_reopened(known) {
-        return 0;
+        return back_left(known, slow);
     }
     if is_follower(standing) && is_untold(known) {
-        return again(known.time, known.ticks, soon_of(slowest(known)), LONGEST);
+        return again(known.time, known.ticks, soon_of(slow), most_of(slow));
     }
-    row_left(known, pace, standing)
-        .max(yield_left(known, pace))
-        .max(again(known.time, known.ticks, pace, LONGEST))
+    row_left(known, slow, standing)
+        .max(yield_left(known, slow))
+        .max(again(known.time, known.ticks, pace_of(slow), most_of(slow)))
 }

@@ -2,7 +2,7 @@ ghost use Rattle.std.specs.Prelude.{◌≤◌, ◌≡◌, length};
 ghost use Rattle.clockwork.specs.declared.limits.TheConstants.{LATEST, MOST_PEERS};
 
 use clockwork::limits::{LATEST, MOST_PEERS};
-use clockwork::{Awaited, Known, Link, OpenLink, Peer, PeerReport, Ticks};
+use clockwork::{Awaited, Known, Link, Longest, OpenLink, Peer, PeerReport, Ticks};
 use std::alloc::{AllocError, Global};
 
 /// How many words of a line tell of the process itself, and of each peer.
@@ -15,6 +15,9 @@ pub const OF_A_SEAT: usize = 11;
 
 /// How many words a line has that tells when a bot took a seat.
 pub const OF_A_SEATING: usize = 3;
+
+/// How many words a line has that tells of a measure and of those before it.
+pub const OF_A_MEASURE: usize = 6;
 
 /// The numbers of a line; what is none stands as none.
 pub fn numbers_of(alloc: Global, line: &str) -> Result<Vec<Option<u64>>, AllocError> {
@@ -76,6 +79,19 @@ pub fn awaited_of(numbers: &[Option<u64>]) -> Awaited
     }
 }
 
+/// What is kept of measures once the one of a line was noted, and when that was.
+pub fn longest_of(numbers: &[Option<u64>]) -> (Longest, u64) {
+    let mut longest = Longest {
+        begun: number(numbers, 0),
+        newest: number(numbers, 1),
+        middle: number(numbers, 2),
+        oldest: number(numbers, 3),
+    };
+    let now = number(numbers, 5);
+    longest.note(number(numbers, 4), now);
+    (longest, now)
+}
+
 /// What a process knows, by the first words of a line and its peers.
 pub fn known_of<'a>(numbers: &[Option<u64>], peers: &'a [Peer]) -> Known<'a>
     ensures time { result.time ≤ LATEST }
@@ -98,7 +114,7 @@ pub fn known_of<'a>(numbers: &[Option<u64>], peers: &'a [Peer]) -> Known<'a>
         work_since: number(numbers, 12),
         behind_since: number(numbers, 13),
         ticks: ticks_of(numbers),
-        last_call: number(numbers, 16),
+        longest_call: number(numbers, 16),
     }
 }
 
@@ -132,6 +148,7 @@ fn peer_of(words: &[Option<u64>]) -> Peer {
     Peer {
         number: byte(words, 0),
         accepted: accepted_of(words),
+        longest: number(words, 5),
         link: link_of(words),
     }
 }
@@ -148,7 +165,6 @@ fn link_of(words: &[Option<u64>]) -> Link {
         Link::Open(OpenLink {
             opened: number(words, 3),
             heard: number(words, 4),
-            round_trip: optional(words, 5),
             unanswered: flag(words, 6),
             beat: beat_of(words),
         })
