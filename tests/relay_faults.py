@@ -95,6 +95,59 @@ def all_killed(folder, seed, is_long):
     return f"{count} times, {missing} lines missing"
 
 
+class AskedMatch(RelayMatch):
+    """A match whose nodes can be asked how they are."""
+
+    def node_entries(self, node):
+        return [f'status = "{self.address(node)}:{self.statuses[node]}"']
+
+    def told(self, word):
+        """What each node tells by a word, a tenth of a second later; nothing of those that can't be asked."""
+        time.sleep(0.1)
+        return [League.asked(self, node).get(word) for node in range(self.count)]
+
+    def await_commands(self, count):
+        """Waits until some node has so many commands."""
+        has = lambda: max(int(front or 0) for front in self.told("front"))
+        while (before := has()) < count:
+            waited(lambda: self.is_alive() and has() > before, "a further command", self.last_notes)
+            time.sleep(0.5)
+
+    def bots_think(self, pause):
+        """Other bots come in place of those that are there, which think for so long."""
+        for bot in self.stock:
+            bot.remove()
+        place = self.folder / "later"
+        place.mkdir()
+        self.stock = [StockBot(place, seat, relay.port, self.seed, pause) for seat, relay in enumerate(self.relays)]
+
+    def await_all(self):
+        """Waits until all nodes have the match, but for what is chosen meanwhile."""
+        fronts = lambda: [int(front or 0) for front in self.told("front")]
+        waited(lambda: (lambda found: max(found) - min(found) < 64)(fronts()), "all to have the match", self.last_notes)
+
+
+@test(seeds=0, long_seeds=1)
+def leaders_killed(folder, seed, is_long):
+    """Sixty times the leader of a match of 25,000 commands is killed, each time half a second after another process was started,
+    which still learns the match. Tried with --long, or with --seed."""
+    match = AskedMatch(10_000, seed, options=["--stay"]).begin()
+    match.await_commands(25_000)
+    match.bots_think(0.02)
+    for _ in range(60):
+        leader = waited(lambda: "yes" in (found := match.told("leads")) and [found.index("yes")], "a leader", match.last_notes)[0]
+        other = match.dice.choice([node for node in range(match.count) if node != leader])
+        Match.kill(match, other)
+        match.start(other)
+        time.sleep(0.5)
+        match.kill(leader)
+        time.sleep(0.5)
+        match.start(leader)
+        match.await_all()
+    Match.kill(match, *range(match.count))
+    return f"from a kill to the next line at a bot: {in_words(match.gaps(), 0.05, 0.5)}"
+
+
 @test()
 def hung_while_another_thinks(folder, seed, is_long):
     """A node hangs while a player thinks, and until some hands later."""

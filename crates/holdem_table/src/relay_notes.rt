@@ -2,6 +2,22 @@
 
 use relay_runs::{RelayNotice, RelayServer};
 use std::alloc::{AllocError, Global};
+use std::net::IpAddr;
+
+/// A node sent what is neither a dealer's line nor a comment.
+const NO_LINE: &str = "disconnected, it sent what is no dealer's line";
+
+/// A node sent a line that is too long.
+const LONG_LINE: &str = "disconnected, it sent a line of more than 4096 bytes";
+
+/// The bot's first line that is passed over.
+const UNFIT: &str =
+    "bot: passed over a line that is no answer to the newest line (further ones are counted)";
+
+/// Why no node is dialled for a while: two at one seat, or a wrong token.
+const TAKEN: &str = "another client has this seat:";
+
+const TURNED_AWAY: &str = "turned away: wrong token?";
 
 /// Appends text.
 fn put(line: &mut Vec<u8>, text: &str) -> Result<(), AllocError> {
@@ -20,77 +36,78 @@ fn put_sent(line: &mut Vec<u8>, bytes: &[u8]) -> Result<(), AllocError> {
     Ok(())
 }
 
+/// Appends what is told of a node.
+fn put_node(alloc: Global, line: &mut Vec<u8>, node: u8, what: &str) -> Result<(), AllocError> {
+    put(line, format!(in alloc; "node {node}: {what}")?.as_str())
+}
+
+/// Appends why no node is dialled for so many seconds.
+fn put_hold(alloc: Global, line: &mut Vec<u8>, why: &str, seconds: u64) -> Result<(), AllocError> {
+    put(
+        line,
+        format!(in alloc; "{why} dials again in {seconds} s")?.as_str(),
+    )
+}
+
+/// Appends that a bot came, and from where if that is known.
+fn put_came(alloc: Global, line: &mut Vec<u8>, address: &Option<IpAddr>) -> Result<(), AllocError> {
+    put(line, "bot: connected")?;
+    match address {
+        Some(address) => put(line, format!(in alloc; " from {address}")?.as_str()),
+        None => Ok(()),
+    }
+}
+
+/// Appends that the bot is gone, and how many of its lines were passed over.
+fn put_gone(
+    alloc: Global,
+    line: &mut Vec<u8>,
+    unfit: u64,
+    too_long: u64,
+) -> Result<(), AllocError> {
+    put(
+        line,
+        format!(in alloc;
+            "bot: disconnected ({unfit} lines were no answers to the newest line, {too_long} too long)"
+        )?.as_str(),
+    )
+}
+
+/// Appends what the bot said, and what was said instead.
+fn put_mended(line: &mut Vec<u8>, said: &[u8], instead: &[u8]) -> Result<(), AllocError> {
+    put(line, "bot: ")?;
+    put_sent(line, said)?;
+    put(line, ": mended to ")?;
+    put_sent(line, instead)
+}
+
+/// Appends the note of a notice.
+fn put_text(alloc: Global, line: &mut Vec<u8>, notice: &RelayNotice) -> Result<(), AllocError> {
+    match notice {
+        RelayNotice::BotCame { address } => put_came(alloc, line, address),
+        RelayNotice::BotGone { unfit, too_long } => put_gone(alloc, line, *unfit, *too_long),
+        RelayNotice::Sits { node } => put_node(alloc, line, *node, "seated"),
+        RelayNotice::Lost { node } => put_node(alloc, line, *node, "connection lost"),
+        RelayNotice::NotLine { node } => put_node(alloc, line, *node, NO_LINE),
+        RelayNotice::TooLong { node } => put_node(alloc, line, *node, LONG_LINE),
+        RelayNotice::Unfit => put(line, UNFIT),
+        RelayNotice::Mended { said, instead } => put_mended(line, said, instead),
+        RelayNotice::SaidAgain { node } => put_node(alloc, line, *node, "answer said again"),
+        RelayNotice::AnotherClient { seconds } => put_hold(alloc, line, TAKEN, *seconds),
+        RelayNotice::TurnedAway { seconds } => put_hold(alloc, line, TURNED_AWAY, *seconds),
+        RelayNotice::LeftOut { count } => {
+            put(line, format!(in alloc; "{count} notes left out")?.as_str())
+        }
+    }
+}
+
 /// Appends the note of a notice, with its line feed.
 pub(crate) fn put_notice(
     alloc: Global,
     line: &mut Vec<u8>,
     notice: &RelayNotice,
 ) -> Result<(), AllocError> {
-    match notice {
-        RelayNotice::BotCame {
-            address: Some(address),
-        } => {
-            put(
-                line,
-                format!(in alloc; "bot: connected from {address}")?.as_str(),
-            )?;
-        }
-        RelayNotice::BotCame { address: None } => put(line, "bot: connected")?,
-        RelayNotice::BotGone { unfit, too_long } => put(
-            line,
-            format!(in alloc;
-                "bot: disconnected ({unfit} lines were no answers to the newest line, {too_long} too long)"
-            )?.as_str(),
-        )?,
-        RelayNotice::Sits { node } => {
-            put(line, format!(in alloc; "node {node}: seated")?.as_str())?;
-        }
-        RelayNotice::Lost { node } => {
-            put(
-                line,
-                format!(in alloc; "node {node}: connection lost")?.as_str(),
-            )?;
-        }
-        RelayNotice::NotLine { node } => put(
-            line,
-            format!(in alloc;
-                "node {node}: disconnected, it sent what is no dealer's line"
-            )?.as_str(),
-        )?,
-        RelayNotice::TooLong { node } => put(
-            line,
-            format!(in alloc;
-                "node {node}: disconnected, it sent a line of more than 4096 bytes"
-            )?.as_str(),
-        )?,
-        RelayNotice::Unfit => put(
-            line,
-            "bot: passed over a line that is no answer to the newest line (further ones are counted)",
-        )?,
-        RelayNotice::Mended { said, instead } => {
-            put(line, "bot: ")?;
-            put_sent(line, said)?;
-            put(line, ": mended to ")?;
-            put_sent(line, instead)?;
-        }
-        RelayNotice::SaidAgain { node } => {
-            put(
-                line,
-                format!(in alloc; "node {node}: answer said again")?.as_str(),
-            )?;
-        }
-        RelayNotice::AnotherClient { seconds } => put(
-            line,
-            format!(in alloc; "another client has this seat: dials again in {seconds} s")?.as_str(),
-        )?,
-        RelayNotice::TurnedAway { seconds } => put(
-            line,
-            format!(in alloc; "turned away: wrong token? dials again in {seconds} s")?.as_str(),
-        )?,
-        RelayNotice::LeftOut { count } => {
-            put(line, format!(in alloc; "{count} notes left out")?.as_str())?;
-        }
-    }
+    put_text(alloc, line, notice)?;
     put(line, "\n")
 }
 

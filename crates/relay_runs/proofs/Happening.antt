@@ -1,10 +1,11 @@
 -- What one event more adds to what a bot is given, and to what a node is answered.
-use Rattle.std.proofs.Common.{◌≡◌, ℕ, ◌==◌, ◌||◌, Bool, true, false, if◌then◌else◌, List, [], ◌∷◌, ◌++◌, append_assoc, append-nil, Option, Some, refl, ap, sym, subst, ◌∙◌}
+use Rattle.std.proofs.Common.{◌≡◌, ℕ, ◌+◌, ◌==◌, ◌||◌, Bool, true, false, if◌then◌else◌, List, [], ◌∷◌, ◌++◌, append_assoc, append-nil, Option, Some, refl, ap, sym, subst, ◌∙◌, arith}
 use Rattle.seat_relay.specs.declared.link.Link.TheVariants.{Said as WasSaid}
 use Rattle.seat_relay.specs.Relaying.{Line, Standing, Event, Begins, Ends, Tells, Says, Pushes, happens, after, answered, given, all_given, last_after, is_news, is_again, echoes, is_even, link_at, with_news, caught_up, with_answer, with_link}
+use Rattle.seat_relay.specs.Laws.{begun}
 use Rattle.relay_runs.specs.Said.{ended, bytes_of_lines, bytes_of_answers, over_by, over_behind, begins_at, has_begun}
 
-last_kept : (s : Standing) (e : Event) → (happens s e).last ≡ last_after s.last e
+pub last_kept : (s : Standing) (e : Event) → (happens s e).last ≡ last_after s.last e
 unfolding happens
 last_kept s (Begins node) = refl
 last_kept s (Ends node) = refl
@@ -29,11 +30,32 @@ unfolding after over_behind
 over_more node s before [] e = refl
 over_more node s before (x ∷ more) e = over_more node (happens s x) (over_by node s before x) more e
 
-pub begun_before : (node : ℕ) (events : List Event) (e : Event) → begins_at node e ≡ false → has_begun node (events ++ e ∷ []) ≡ true → has_begun node events ≡ true
-begun_before node [] e isnt begun =
-    (elim (begins_at node e) as (λ (b : Bool). b ≡ false → (b || false) ≡ true → false ≡ true) [ true ↦ λ n h. absurd cc | false ↦ λ n h. h ]) isnt begun
-begun_before node (x ∷ more) e isnt begun =
-    (elim (begins_at node x) as (λ (b : Bool). (b || has_begun node (more ++ e ∷ [])) ≡ true → (b || has_begun node more) ≡ true) [ true ↦ λ h. refl | false ↦ λ h. begun_before node more e isnt h ]) begun
+pub begun_then : (node : ℕ) (events : List Event) (e : Event) → has_begun node (events ++ e ∷ []) ≡ (has_begun node events || begins_at node e)
+begun_then node [] e = elim (begins_at node e) as (λ (b : Bool). (b || false) ≡ b) [ true ↦ refl | false ↦ refl ]
+begun_then node (x ∷ more) e =
+    elim (begins_at node x) as (λ (b : Bool). (b || has_begun node (more ++ e ∷ [])) ≡ ((b || has_begun node more) || begins_at node e)) [ true ↦ refl | false ↦ begun_then node more e ]
+
+-- where a connection begins by an event
+pub begun_now : (node : ℕ) (events : List Event) (e : Event) → begins_at node e ≡ true → has_begun node (events ++ e ∷ []) ≡ true
+begun_now node events e is = begun_then node events e ∙ (ap (λ (b : Bool). has_begun node events || b) is ∙ (elim (has_begun node events) as (λ (b : Bool). (b || true) ≡ true) [ true ↦ refl | false ↦ refl ]))
+
+-- and where none does
+pub begun_before : (node : ℕ) (events : List Event) (e : Event) → begins_at node e ≡ false → has_begun node (events ++ e ∷ []) ≡ has_begun node events
+begun_before node events e isnt =
+    begun_then node events e ∙ (ap (λ (b : Bool). has_begun node events || b) isnt ∙ (elim (has_begun node events) as (λ (b : Bool). (b || false) ≡ b) [ true ↦ refl | false ↦ refl ]))
+
+-- how many have begun
+pub begun_more : (node : ℕ) (events : List Event) (e : Event) → begun node (events ++ e ∷ []) ≡ begun node events + (if begins_at node e then 1 else 0)
+begun_more node [] (Begins other) = omega arith
+begun_more node [] (Ends other) = refl
+begun_more node [] (Tells other line) = refl
+begun_more node [] (Says text) = refl
+begun_more node [] (Pushes other) = refl
+begun_more node (Begins one ∷ more) e = let h : begun node (more ++ e ∷ []) ≡ begun node more + (if begins_at node e then 1 else 0) = begun_more node more e in omega arith
+begun_more node (Ends one ∷ more) e = begun_more node more e
+begun_more node (Tells one line ∷ more) e = begun_more node more e
+begun_more node (Says text ∷ more) e = begun_more node more e
+begun_more node (Pushes one ∷ more) e = begun_more node more e
 
 pub lines_more : (first second : List Line) → bytes_of_lines (first ++ second) ≡ bytes_of_lines first ++ bytes_of_lines second
 lines_more [] second = refl

@@ -1,212 +1,384 @@
--- What is said stays what it is to be, call by call.
-use Rattle.std.proofs.Common.{◌≡◌, ℕ, ◌==◌, Bool, true, false, if◌then◌else◌, List, [], ◌∷◌, ◌++◌, append_assoc, append-nil, ◌<◌, length, set, inl, inr, Some, None, option_to_list, refl, ap, sym, subst, ◌∙◌}
+-- What happened stays what passed, call by call.
+use Rattle.std.proofs.Common.{◌≡◌, ◌⊎◌, ℕ, ◌+◌, ◌<◌, ◌≤◌, ◌==◌, Bool, true, false, if◌then◌else◌, List, [], ◌∷◌, ◌++◌, append_assoc, append-nil, length, set, inl, inr, Option, Some, None, option_to_list, IfSome, add-zero, refl, ap, sym, subst, ◌∙◌, arith}
 use Rattle.std.proofs.lemmas.Bool.{cases_eq, eq-eqb, ne_eqb, false≢true}
 use Rattle.byte_queue.specs.Queued.{Queued}
 use Rattle.node_wires.specs.declared.line.Line.{Line as Wire}
 use Rattle.node_wires.specs.declared.line.Line.TheVariants.{Peer, Seat}
-use Rattle.node_wires.specs.Passages.{Passage, Began, is_line, came_over, wrote_over}
+use Rattle.node_wires.specs.Passages.{Passage, Began, Came, Wrote, wrote_over}
 use Rattle.seat_relay.specs.Relaying.{Line, Standing, Event, Begins, Ends, Tells, Says, Pushes, Story, after, answered, given, all_given, with_event, is_news, is_even, link_at}
-use Rattle.seat_relay.specs.Laws.{fresh}
+use Rattle.seat_relay.specs.Laws.{fresh, begun}
 use Rattle.relay_runs.specs.declared.desk.Desk.{Desk}
-use Rattle.relay_runs.specs.Said.{ended, bytes_of_lines, bytes_of_answers, said_over, begins_at, has_begun, over_by, waits_at, IsSaid, Reads, Writes}
+use Rattle.relay_runs.specs.Since.{is_taken_in, since_bot, bots_in, begins_there, begun_over}
+use Rattle.relay_runs.specs.Said.{ended, bytes_of_lines, bytes_of_answers, said_over, begins_at, has_begun, over_by, over_behind, waits_at, AreEmpty, first_over, IsSaid, Reads, Writes}
 use Rattle.relay_runs.specs.Heard.{IsHeard}
-use Rattle.relay_runs.specs.Kept.{Keeps, Stays}
-use Rattle.relay_runs.proofs.Writing.{write_behind, own_line}
-use Rattle.relay_runs.proofs.Waiting.{waits_here, waits_elsewhere}
-use Rattle.relay_runs.proofs.Hearing.{heard_alike}
-use Rattle.relay_runs.proofs.Happening.{given_more, over_more, begun_before, lines_more, answers_more, more_over, over_is, over_begins}
+use Rattle.relay_runs.specs.Own.{was_dialled, IsNoneDialled, IsOwned}
+use Rattle.relay_runs.specs.Few.{IsTail, IsFew}
+use Rattle.relay_runs.specs.Course.{Explains, ComesBehind, IsNext, Course}
+use Rattle.relay_runs.specs.Kept.{GoesOn, BeginsAnew, Keeps, Stays}
+use Rattle.relay_runs.proofs.Writing.{write_behind, came_more, own_line, since_more, since_taken, bots_same, bots_more, more_begun}
+use Rattle.relay_runs.proofs.Waiting.{waits_here, waits_elsewhere, set_back}
+use Rattle.relay_runs.proofs.Hearing.{heard_alike, heard_still, heard_read_node, heard_read_bot, heard_fresh}
+use Rattle.relay_runs.proofs.Happening.{given_more, over_more, begun_now, begun_before, begun_more, lines_more, answers_more, more_over, over_is, over_begins}
+use Rattle.relay_runs.proofs.Owning.{owned_alike, owned_more, owned_came, owned_wrote, owned_dialled, owned_fresh}
+use Rattle.relay_runs.proofs.Bounds.{tail_same, tail_behind, few_alike, as_long, behind_piece, first_then, first_now, SaysFew, few_event, few_lines, few_fresh}
+use Rattle.relay_runs.proofs.Courses.{courses_explain}
 
 -- ---- together
 
+grows_on : (a b c : Desk) (x y z : List Passage) → (Course b (since_bot y) → Course c (since_bot z)) → GoesOn a b x y ⊎ BeginsAnew b x y → GoesOn b c y z ⊎ BeginsAnew c y z → GoesOn a c x z ⊎ BeginsAnew c x z
+grows_on a b c x y z course (inl one) (inl two) =
+    inl (record { bots = two.bots ∙ one.bots; more = one.more ++ two.more; happened = two.happened ∙ (ap (λ (es : List Event). es ++ two.more) one.happened ∙ append_assoc a.relay.events one.more two.more) })
+grows_on a b c x y z course (inl one) (inr two) = inr (record { bots = subst (λ (n : ℕ). n < bots_in z) one.bots two.bots; course = two.course })
+grows_on a b c x y z course (inr one) (inl two) = inr (record { bots = subst (λ (n : ℕ). bots_in x < n) (sym two.bots) one.bots; course = course one.course })
+grows_on a b c x y z course (inr one) (inr two) =
+    let first : bots_in x < bots_in y = one.bots in let second : bots_in y < bots_in z = two.bots in inr (record { bots = omega arith; course = two.course })
+
 pub kept_on : (a b c : Desk) (x y z : List Passage) → Keeps a b x y → Keeps b c y z → Keeps a c x z
-kept_on a b c x y z one two = record { hello = two.hello ∙ one.hello; said = λ s. two.said (one.said s); heard = λ s. two.heard (one.heard s) }
+kept_on a b c x y z one two = record {
+  hello = two.hello ∙ one.hello;
+  mended = two.mended ∙ one.mended;
+  course = λ s. two.course (one.course s);
+  grows = grows_on a b c x y z two.course one.grows two.grows;
+}
 
 pub kept_same : (a b : Desk) (x y : List Passage) → b ≡ a → y ≡ x → Keeps a b x y
 kept_same a b x y e f = record {
   hello = ap (λ (d : Desk). d.hello.items) e;
-  said = λ s. subst (λ (d : Desk). IsSaid d y) (sym e) (subst (IsSaid a) (sym f) s);
-  heard = λ s. subst (λ (d : Desk). IsHeard d y) (sym e) (subst (IsHeard a) (sym f) s);
+  mended = ap (λ (d : Desk). d.mended) e;
+  course = λ s. subst (λ (d : Desk). Course d (since_bot y)) (sym e) (subst (λ (ps : List Passage). Course a (since_bot ps)) (sym f) s);
+  grows = inl (record { bots = ap bots_in f; more = []; happened = ap (λ (d : Desk). d.relay.events) e ∙ sym (append-nil a.relay.events) });
+}
+
+-- ---- one step
+
+-- one event more at most and one passage more at most, by which what happened stays what passed
+record Steps (a b : Desk) (x y : List Passage) : Type 0 where
+  next : IsNext a b x y
+  begun : ((node : ℕ) → begun node a.relay.events ≡ begun_over x (Peer node)) → (node : ℕ) → begun node b.relay.events ≡ begun_over y (Peer node)
+  said : IsSaid a x → IsSaid b y
+  heard : IsHeard a x → IsHeard b y
+  own : IsOwned a x → IsOwned b y
+  few : IsFew a → IsFew b
+
+course_on : (a b : Desk) (x y : List Passage) → Steps a b x y → Course a x → Course b y
+course_on a b x y s c =
+    let was : Explains a x = courses_explain a x c in
+    Course.step a b x y c s.next (record { begun = s.begun was.begun; said = s.said was.said; heard = s.heard was.heard; own = s.own was.own; few = s.few was.few })
+
+-- nothing passes
+kept_quietly : (a b : Desk) (x : List Passage) → Steps a b (since_bot x) (since_bot x) → Keeps a b x x
+kept_quietly a b x s = record {
+  hello = s.next.hello;
+  mended = s.next.mended;
+  course = course_on a b (since_bot x) (since_bot x) s;
+  grows = inl (record { bots = refl; more = option_to_list s.next.event; happened = s.next.happened });
+}
+
+-- something does
+kept_passing : (a b : Desk) (x y : List Passage) (p : Passage) → y ≡ x ++ p ∷ [] → is_taken_in p ≡ false → Steps a b (since_bot x) (since_bot x ++ p ∷ []) → Keeps a b x y
+kept_passing a b x y p f isnt s = record {
+  hello = s.next.hello;
+  mended = s.next.mended;
+  course = λ c. subst (Course b) (sym (since_more x y p f isnt)) (course_on a b (since_bot x) (since_bot x ++ p ∷ []) s c);
+  grows = inl (record { bots = bots_same x y p f isnt; more = option_to_list s.next.event; happened = s.next.happened });
 }
 
 -- ---- without an event
-
-pub kept_by : (a b : Desk) (x y : List Passage) → b.hello.items ≡ a.hello.items → b.relay ≡ a.relay → wrote_over y (Seat 0) ++ b.to_bot.waiting ≡ wrote_over x (Seat 0) ++ a.to_bot.waiting
-    → ((node : ℕ) → wrote_over y (Peer node) ++ waits_at b.to_nodes.items node ≡ wrote_over x (Peer node) ++ waits_at a.to_nodes.items node) → (IsHeard a x → IsHeard b y) → Keeps a b x y
-kept_by a b x y hello relay bot others heard = record {
-  hello = hello;
-  heard = heard;
-  said = λ s. record {
-    bot = bot ∙ (s.bot ∙ ap (λ (r : Story). bytes_of_lines (all_given None r.events)) (sym relay));
-    nodes = λ node begun.
-        let begun_then : has_begun node a.relay.events ≡ true = ap (λ (r : Story). has_begun node r.events) (sym relay) ∙ begun in
-        others node ∙ (s.nodes node begun_then
-        ∙ (ap (λ (h : List ℕ). h ++ bytes_of_answers (said_over a.relay.nodes node a.relay.events)) (sym hello)
-        ∙ ap (λ (r : Story). b.hello.items ++ bytes_of_answers (said_over r.nodes node r.events)) (sym relay)));
-  };
-}
 
 -- both halves of what was written and waits
 joined : (w v p q : List ℕ) → v ≡ w → q ≡ p → v ++ q ≡ w ++ p
 joined w v p q f e = ap (λ (l : List ℕ). l ++ q) f ∙ ap (λ (l : List ℕ). w ++ l) e
 
-over_same : (x y : List Passage) (at : Wire) → y ≡ x → wrote_over y at ≡ wrote_over x at
-over_same x y at f = ap (λ (ps : List Passage). wrote_over ps at) f
-
-pub kept_alike : (a b : Desk) (x y : List Passage) → b.hello.items ≡ a.hello.items → b.relay ≡ a.relay → b.to_bot.waiting ≡ a.to_bot.waiting → b.to_nodes.items ≡ a.to_nodes.items
-    → b.from_nodes.items ≡ a.from_nodes.items → b.from_bot.waiting ≡ a.from_bot.waiting → b.passes_over ≡ a.passes_over → y ≡ x → Keeps a b x y
-kept_alike a b x y hello relay bot queues from_nodes from_bot over f =
-    kept_by a b x y hello relay (joined _ _ _ _ (over_same x y (Seat 0) f) bot) (λ node. joined _ _ _ _ (over_same x y (Peer node) f) (ap (λ (qs : List Queued). waits_at qs node) queues))
-    (heard_alike a b x y relay (λ at. ap (λ (ps : List Passage). came_over ps at) f) from_nodes from_bot over)
-
--- what waits stays, and nothing passes
-pub kept_quiet : (a b : Desk) (x : List Passage) → b.hello.items ≡ a.hello.items → b.relay ≡ a.relay → b.to_bot.waiting ≡ a.to_bot.waiting → b.to_nodes.items ≡ a.to_nodes.items → (IsHeard a x → IsHeard b x) → Keeps a b x x
-kept_quiet a b x hello relay bot queues heard =
-    kept_by a b x x hello relay (ap (λ (l : List ℕ). wrote_over x (Seat 0) ++ l) bot) (λ node. ap (λ (qs : List Queued). wrote_over x (Peer node) ++ waits_at qs node) queues) heard
-
-pub kept_to_bot : (a b : Desk) (x y : List Passage) → b.hello.items ≡ a.hello.items → b.relay ≡ a.relay → b.to_nodes.items ≡ a.to_nodes.items
-    → Writes (Seat 0) a.to_bot.waiting b.to_bot.waiting x y → (IsHeard a x → IsHeard b y) → Keeps a b x y
-kept_to_bot a b x y hello relay queues w heard =
-    kept_by a b x y hello relay w.said (λ node. joined _ _ _ _ (w.others (Peer node) refl) (ap (λ (qs : List Queued). waits_at qs node) queues)) heard
-
--- ---- what waits for one node
-
-pub kept_to_node : (a b : Desk) (x y : List Passage) (node : ℕ) (queue : Queued) → b.hello.items ≡ a.hello.items → b.relay ≡ a.relay → b.to_bot.waiting ≡ a.to_bot.waiting
-    → b.to_nodes.items ≡ set a.to_nodes.items node queue → node < length a.to_nodes.items → Writes (Peer node) (waits_at a.to_nodes.items node) queue.waiting x y → (IsHeard a x → IsHeard b y) → Keeps a b x y
-kept_to_node a b x y node queue hello relay bot queues within w heard =
-    let P : ℕ → Type 0 = λ other. wrote_over y (Peer other) ++ waits_at b.to_nodes.items other ≡ wrote_over x (Peer other) ++ waits_at a.to_nodes.items other in
-    kept_by a b x y hello relay (joined _ _ _ _ (w.others (Seat 0) refl) bot)
-    (λ other. elim (cases_eq node other) [
-      | inl same ↦ subst P same (ap (λ (l : List ℕ). wrote_over y (Peer node) ++ l) (waits_here a.to_nodes.items b.to_nodes.items node queue queues within) ∙ w.said)
-      | inr differs ↦ joined _ _ _ _ (w.others (Peer other) (ne_eqb node other differs)) (waits_elsewhere a.to_nodes.items b.to_nodes.items node other queue queues differs)
-    ])
-    heard
-
--- ---- an event
-
-pub kept_event : (a b : Desk) (x y : List Passage) (e : Event) → b.relay ≡ with_event a.relay e → a.relay.standing ≡ after (fresh a.relay.nodes) a.relay.events → b.hello.items ≡ a.hello.items
-    → wrote_over y (Seat 0) ++ b.to_bot.waiting ≡ (wrote_over x (Seat 0) ++ a.to_bot.waiting) ++ bytes_of_lines (given a.relay.standing.last e)
-    → ((node : ℕ) → begins_at node e ≡ false → wrote_over y (Peer node) ++ waits_at b.to_nodes.items node ≡ (wrote_over x (Peer node) ++ waits_at a.to_nodes.items node) ++ bytes_of_answers (more_over node a.relay.standing e))
-    → ((node : ℕ) → begins_at node e ≡ true → wrote_over y (Peer node) ++ waits_at b.to_nodes.items node ≡ b.hello.items)
-    → (IsHeard a x → IsHeard b y) → Keeps a b x y
-kept_event a b x y e story follows hello bot others first heard = record {
-  hello = hello;
+steps_by : (a b : Desk) (x y : List Passage) (p : Option Passage) → y ≡ x ++ option_to_list p → ((node : ℕ) → begun_over y (Peer node) ≡ begun_over x (Peer node)) → b.hello.items ≡ a.hello.items → b.mended ≡ a.mended
+    → b.relay ≡ a.relay → wrote_over y (Seat 0) ++ b.to_bot.waiting ≡ wrote_over x (Seat 0) ++ a.to_bot.waiting
+    → ((node : ℕ) → wrote_over y (Peer node) ++ waits_at b.to_nodes.items node ≡ wrote_over x (Peer node) ++ waits_at a.to_nodes.items node) → (IsHeard a x → IsHeard b y)
+    → (IsOwned a x → IsOwned b y) → IfSome p (ComesBehind a) → (IsFew a → IsFew b) → Steps a b x y
+steps_by a b x y p f counts hello mended relay bot others heard own behind few = record {
+  next = record { hello = hello; mended = mended; event = None; happened = ap (λ (r : Story). r.events) relay ∙ sym (append-nil a.relay.events); passage = p; passed = f; behind = behind };
+  begun = λ was node. ap (λ (r : Story). begun node r.events) relay ∙ (was node ∙ sym (counts node));
   heard = heard;
-  said = λ s.
-      let events : List Event = a.relay.events ++ e ∷ [] in
-      let start : Standing = fresh a.relay.nodes in
-      record {
-        bot =
-            let more : all_given None events ≡ all_given None a.relay.events ++ given a.relay.standing.last e =
-            given_more start a.relay.events e ∙ ap (λ (n : Standing). all_given None a.relay.events ++ given n.last e) (sym follows) in
-            bot ∙ (ap (λ (bs : List ℕ). bs ++ bytes_of_lines (given a.relay.standing.last e)) s.bot
-            ∙ (sym (lines_more (all_given None a.relay.events) (given a.relay.standing.last e))
-            ∙ (ap bytes_of_lines (sym more) ∙ ap (λ (r : Story). bytes_of_lines (all_given None r.events)) (sym story))));
-        nodes = λ node begun.
-            let begun_there : has_begun node events ≡ true = ap (λ (r : Story). has_begun node r.events) (sym story) ∙ begun in
-            let over : said_over a.relay.nodes node events ≡ over_by node a.relay.standing (said_over a.relay.nodes node a.relay.events) e =
-            over_more node start [] a.relay.events e ∙ ap (λ (n : Standing). over_by node n (said_over a.relay.nodes node a.relay.events) e) (sym follows) in
-            let into : b.hello.items ++ bytes_of_answers (said_over a.relay.nodes node events) ≡ b.hello.items ++ bytes_of_answers (said_over b.relay.nodes node b.relay.events) =
-            ap (λ (r : Story). b.hello.items ++ bytes_of_answers (said_over r.nodes node r.events)) (sym story) in
-            let P : Bool → Type 0 = λ t. begins_at node e ≡ t → wrote_over y (Peer node) ++ waits_at b.to_nodes.items node ≡ b.hello.items ++ bytes_of_answers (said_over a.relay.nodes node events) in
-            let step : P (begins_at node e) = elim (begins_at node e) as P [
-              | true ↦ λ is_it.
-                  first node is_it ∙ (sym (append-nil b.hello.items) ∙ ap (λ (said : List (List ℕ)). b.hello.items ++ bytes_of_answers said) (sym (over ∙ over_begins node a.relay.standing (said_over a.relay.nodes node a.relay.events) e is_it)))
-              | false ↦ λ isnt.
-                  let before : List (List ℕ) = said_over a.relay.nodes node a.relay.events in
-                  let more : List (List ℕ) = more_over node a.relay.standing e in
-                  others node isnt ∙ (ap (λ (bs : List ℕ). bs ++ bytes_of_answers more) (s.nodes node (begun_before node a.relay.events e isnt begun_there))
-                  ∙ (append_assoc a.hello.items (bytes_of_answers before) (bytes_of_answers more)
-                  ∙ (ap (λ (bs : List ℕ). a.hello.items ++ bs) (sym (answers_more before more))
-                  ∙ (ap (λ (h : List ℕ). h ++ bytes_of_answers (before ++ more)) (sym hello)
-                  ∙ ap (λ (said : List (List ℕ)). b.hello.items ++ bytes_of_answers said) (sym (over ∙ over_is node a.relay.standing before e isnt))))))
-            ] in
-            step refl ∙ into;
-      };
-}
-
--- one by which nothing is said
-kept_silent : (a b : Desk) (x y : List Passage) (e : Event) → b.relay ≡ with_event a.relay e → a.relay.standing ≡ after (fresh a.relay.nodes) a.relay.events → b.hello.items ≡ a.hello.items
-    → b.to_bot.waiting ≡ a.to_bot.waiting → ((node : ℕ) → waits_at b.to_nodes.items node ≡ waits_at a.to_nodes.items node) → y ≡ x
-    → given a.relay.standing.last e ≡ [] → ((node : ℕ) → more_over node a.relay.standing e ≡ []) → ((node : ℕ) → begins_at node e ≡ false) → (IsHeard a x → IsHeard b y) → Keeps a b x y
-kept_silent a b x y e story follows hello bot queues f none no_more isnt heard =
-    kept_event a b x y e story follows hello
-    (joined _ _ _ _ (over_same x y (Seat 0) f) bot ∙ (sym (append-nil (wrote_over x (Seat 0) ++ a.to_bot.waiting)) ∙ ap (λ (ls : List Line). (wrote_over x (Seat 0) ++ a.to_bot.waiting) ++ bytes_of_lines ls) (sym none)))
-    (λ node n. joined _ _ _ _ (over_same x y (Peer node) f) (queues node)
-    ∙ (sym (append-nil (wrote_over x (Peer node) ++ waits_at a.to_nodes.items node)) ∙ ap (λ (said : List (List ℕ)). (wrote_over x (Peer node) ++ waits_at a.to_nodes.items node) ++ bytes_of_answers said) (sym (no_more node))))
-    (λ node is_it. absurd (false≢true (sym (isnt node) ∙ is_it)))
-    heard
-
-pub kept_ends : (a b : Desk) (x y : List Passage) (node : ℕ) → b.relay ≡ with_event a.relay (Ends node) → a.relay.standing ≡ after (fresh a.relay.nodes) a.relay.events → b.hello.items ≡ a.hello.items
-    → b.to_bot.waiting ≡ a.to_bot.waiting → b.to_nodes.items ≡ a.to_nodes.items → y ≡ x → (IsHeard a x → IsHeard b y) → Keeps a b x y
-kept_ends a b x y node story follows hello bot queues f heard =
-    kept_silent a b x y (Ends node) story follows hello bot (λ n. ap (λ (qs : List Queued). waits_at qs n) queues) f refl (λ n. refl) (λ n. refl) heard
-
-pub kept_says : (a b : Desk) (x y : List Passage) (text : List ℕ) → b.relay ≡ with_event a.relay (Says text) → a.relay.standing ≡ after (fresh a.relay.nodes) a.relay.events → b.hello.items ≡ a.hello.items
-    → b.to_bot.waiting ≡ a.to_bot.waiting → b.to_nodes.items ≡ a.to_nodes.items → y ≡ x → (IsHeard a x → IsHeard b y) → Keeps a b x y
-kept_says a b x y text story follows hello bot queues f heard =
-    kept_silent a b x y (Says text) story follows hello bot (λ n. ap (λ (qs : List Queued). waits_at qs n) queues) f refl (λ n. refl) (λ n. refl) heard
-
--- a line is told that the bot isn't given
-pub kept_old : (a b : Desk) (x y : List Passage) (node : ℕ) (line : Line) → b.relay ≡ with_event a.relay (Tells node line) → a.relay.standing ≡ after (fresh a.relay.nodes) a.relay.events
-    → b.hello.items ≡ a.hello.items → b.to_bot.waiting ≡ a.to_bot.waiting → b.to_nodes.items ≡ a.to_nodes.items → y ≡ x → is_news a.relay.standing.last line ≡ false → (IsHeard a x → IsHeard b y) → Keeps a b x y
-kept_old a b x y node line story follows hello bot queues f old heard =
-    kept_silent a b x y (Tells node line) story follows hello bot (λ n. ap (λ (qs : List Queued). waits_at qs n) queues) f (ap (λ (t : Bool). if t then line ∷ [] else []) old) (λ n. refl) (λ n. refl) heard
-
--- and one that it is
-pub kept_given : (a b : Desk) (x : List Passage) (node : ℕ) (line : Line) → b.relay ≡ with_event a.relay (Tells node line) → a.relay.standing ≡ after (fresh a.relay.nodes) a.relay.events
-    → b.hello.items ≡ a.hello.items → b.to_bot.waiting ≡ a.to_bot.waiting ++ ended line.text → b.to_nodes.items ≡ a.to_nodes.items → is_news a.relay.standing.last line ≡ true → (IsHeard a x → IsHeard b x) → Keeps a b x x
-kept_given a b x node line story follows hello bot queues news heard =
-    let before : List ℕ = wrote_over x (Seat 0) ++ a.to_bot.waiting in
-    let one : given a.relay.standing.last (Tells node line) ≡ line ∷ [] = ap (λ (t : Bool). if t then line ∷ [] else []) news in
-    kept_event a b x x (Tells node line) story follows hello
-    (ap (λ (l : List ℕ). wrote_over x (Seat 0) ++ l) bot ∙ (sym (append_assoc (wrote_over x (Seat 0)) a.to_bot.waiting (ended line.text))
-    ∙ (ap (λ (l : List ℕ). before ++ l) (sym (append-nil (ended line.text))) ∙ ap (λ (ls : List Line). before ++ bytes_of_lines ls) (sym one))))
-    (λ n isnt. ap (λ (qs : List Queued). wrote_over x (Peer n) ++ waits_at qs n) queues ∙ sym (append-nil (wrote_over x (Peer n) ++ waits_at a.to_nodes.items n)))
-    (λ n is_it. absurd cc)
-    heard
-
-begun_over : (x y : List Passage) (line at : Wire) → y ≡ x ++ Began line ∷ [] → is_line line at ≡ true → wrote_over y at ≡ []
-begun_over x y line at f same =
-    ap (λ (ps : List Passage). wrote_over ps at) f ∙ (write_behind at [] x (Began line) ∙ ap (λ (t : Bool). if t then [] else wrote_over x at) same)
-
-begun_beside : (x y : List Passage) (line at : Wire) → y ≡ x ++ Began line ∷ [] → is_line line at ≡ false → wrote_over y at ≡ wrote_over x at
-begun_beside x y line at f differs =
-    ap (λ (ps : List Passage). wrote_over ps at) f ∙ (write_behind at [] x (Began line) ∙ ap (λ (t : Bool). if t then [] else wrote_over x at) differs)
-
-pub kept_dial : (a b : Desk) (x y : List Passage) (node : ℕ) (queue : Queued) → b.relay ≡ with_event a.relay (Begins node) → a.relay.standing ≡ after (fresh a.relay.nodes) a.relay.events
-    → b.hello.items ≡ a.hello.items → b.to_bot.waiting ≡ a.to_bot.waiting → b.to_nodes.items ≡ set a.to_nodes.items node queue → node < length a.to_nodes.items
-    → queue.waiting ≡ a.hello.items → y ≡ x ++ Began (Peer node) ∷ [] → (IsHeard a x → IsHeard b y) → Keeps a b x y
-kept_dial a b x y node queue story follows hello bot queues within q f heard =
-    let P : ℕ → Type 0 = λ other. wrote_over y (Peer other) ++ waits_at b.to_nodes.items other ≡ b.hello.items in
-    kept_event a b x y (Begins node) story follows hello
-    (joined _ _ _ _ (begun_beside x y (Peer node) (Seat 0) f refl) bot ∙ sym (append-nil (wrote_over x (Seat 0) ++ a.to_bot.waiting)))
-    (λ other isnt. elim (cases_eq node other) [
-      | inl same ↦ absurd (false≢true (sym isnt ∙ eq-eqb node other same))
-      | inr differs ↦ joined _ _ _ _ (begun_beside x y (Peer node) (Peer other) f isnt) (waits_elsewhere a.to_nodes.items b.to_nodes.items node other queue queues differs)
-          ∙ sym (append-nil (wrote_over x (Peer other) ++ waits_at a.to_nodes.items other))
-    ])
-    (λ other is_it. elim (cases_eq node other) [
-      | inl same ↦ subst P same (joined [] _ _ _ (begun_over x y (Peer node) (Peer node) f (own_line (Peer node))) (waits_here a.to_nodes.items b.to_nodes.items node queue queues within ∙ q) ∙ sym hello)
-      | inr differs ↦ absurd (false≢true (sym (ne_eqb node other differs) ∙ is_it))
-    ])
-    heard
-
--- a bot is taken in
-pub kept_taken : (a b : Desk) (x y : List Passage) → b.relay.events ≡ [] → b.hello.items ≡ a.hello.items → b.to_bot.waiting ≡ [] → y ≡ x ++ Began (Seat 0) ∷ [] → (IsHeard a x → IsHeard b y) → Keeps a b x y
-kept_taken a b x y story hello bot f heard = record {
-  hello = hello;
-  heard = heard;
+  own = own;
+  few = few;
   said = λ s. record {
-    bot = joined [] _ _ _ (begun_over x y (Seat 0) (Seat 0) f refl) bot ∙ ap (λ (es : List Event). bytes_of_lines (all_given None es)) (sym story);
-    nodes = λ node begun. absurd (false≢true (ap (has_begun node) (sym story) ∙ begun));
+    bot = bot ∙ (s.bot ∙ ap (λ (r : Story). bytes_of_lines (all_given None r.events)) (sym relay));
+    nodes = λ node.
+        others node ∙ (s.nodes node
+        ∙ (ap (λ (h : List ℕ). (if has_begun node a.relay.events then h else []) ++ bytes_of_answers (said_over a.relay.nodes node a.relay.events)) (sym hello)
+        ∙ ap (λ (r : Story). (if has_begun node r.events then b.hello.items else []) ++ bytes_of_answers (said_over r.nodes node r.events)) (sym relay)));
   };
 }
 
-pub said_first : (b : Desk) (x : List Passage) → b.relay.events ≡ [] → b.to_bot.waiting ≡ [] → wrote_over x (Seat 0) ≡ [] → IsSaid b x
-said_first b x story bot none = record {
-  bot = joined [] _ [] _ none bot ∙ ap (λ (es : List Event). bytes_of_lines (all_given None es)) (sym story);
-  nodes = λ node begun. absurd (false≢true (ap (has_begun node) (sym story) ∙ begun));
-}
+-- what waits stays, and nothing passes
+pub kept_quiet : (a b : Desk) (x : List Passage) → b.hello.items ≡ a.hello.items → b.mended ≡ a.mended → b.dialled.items ≡ a.dialled.items → b.relay ≡ a.relay → b.to_bot.waiting ≡ a.to_bot.waiting → b.to_nodes.items ≡ a.to_nodes.items
+    → (b.is_seated ≡ false → a.is_seated ≡ false) → (IsHeard a (since_bot x) → IsHeard b (since_bot x)) → Keeps a b x x
+kept_quiet a b x hello mended dialled relay bot queues seat heard =
+    kept_quietly a b x (steps_by a b (since_bot x) (since_bot x) None (sym (append-nil (since_bot x))) (λ node. refl) hello mended relay (ap (λ (l : List ℕ). wrote_over (since_bot x) (Seat 0) ++ l) bot)
+    (λ node. ap (λ (qs : List Queued). wrote_over (since_bot x) (Peer node) ++ waits_at qs node) queues) heard (owned_alike a b (since_bot x) dialled seat) tt
+    (few_alike a b hello relay (as_long _ _ bot) (λ node. tail_same _ _ (ap (λ (qs : List Queued). waits_at qs node) queues))))
+
+pub kept_alike : (a b : Desk) (x : List Passage) → b.hello.items ≡ a.hello.items → b.mended ≡ a.mended → b.dialled.items ≡ a.dialled.items → b.relay ≡ a.relay → b.to_bot.waiting ≡ a.to_bot.waiting → b.to_nodes.items ≡ a.to_nodes.items
+    → b.from_nodes.items ≡ a.from_nodes.items → b.from_bot.waiting ≡ a.from_bot.waiting → b.passes_over ≡ a.passes_over → b.is_seated ≡ a.is_seated → Keeps a b x x
+kept_alike a b x hello mended dialled relay bot queues from_nodes from_bot over seat =
+    kept_quiet a b x hello mended dialled relay bot queues (λ off. sym seat ∙ off) (heard_alike a b (since_bot x) (since_bot x) mended relay (λ at. refl) from_nodes from_bot over seat)
+
+-- the queues of nodes were taken out and put back
+pub kept_idle : (a b : Desk) (x y : List Passage) → b.hello.items ≡ a.hello.items → b.mended ≡ a.mended → b.dialled.items ≡ a.dialled.items → b.relay ≡ a.relay → b.to_bot.waiting ≡ a.to_bot.waiting
+    → ((node : ℕ) → waits_at b.to_nodes.items node ≡ waits_at a.to_nodes.items node) → ((node : ℕ) → waits_at b.from_nodes.items node ≡ waits_at a.from_nodes.items node)
+    → b.from_bot.waiting ≡ a.from_bot.waiting → b.passes_over ≡ a.passes_over → b.is_seated ≡ a.is_seated → y ≡ x → Keeps a b x y
+kept_idle a b x y hello mended dialled relay bot to_nodes from_nodes from_bot over seat f =
+    let z : List Passage = since_bot x in
+    subst (Keeps a b x) (sym f)
+    (kept_quietly a b x (steps_by a b z z None (sym (append-nil z)) (λ node. refl) hello mended relay (ap (λ (l : List ℕ). wrote_over z (Seat 0) ++ l) bot)
+    (λ node. ap (λ (l : List ℕ). wrote_over z (Peer node) ++ l) (to_nodes node)) (heard_still a b z mended relay from_nodes from_bot over seat) (owned_alike a b z dialled (λ off. sym seat ∙ off)) tt
+    (few_alike a b hello relay (as_long _ _ bot) (λ node. tail_same _ _ (to_nodes node)))))
+
+-- a piece is written or read, by which no connection begins
+same_count : (x : List Passage) (p : Passage) (node : ℕ) → begins_there (Peer node) p ≡ false → begun_over (x ++ p ∷ []) (Peer node) ≡ begun_over x (Peer node)
+same_count x p node isnt = more_begun x (x ++ p ∷ []) p (Peer node) refl ∙ (ap (λ (t : Bool). begun_over x (Peer node) + (if t then 1 else 0)) isnt ∙ add-zero (begun_over x (Peer node)))
+
+pub kept_to_bot : (a b : Desk) (x y : List Passage) → b.hello.items ≡ a.hello.items → b.mended ≡ a.mended → b.dialled.items ≡ a.dialled.items → b.relay ≡ a.relay → b.to_nodes.items ≡ a.to_nodes.items → b.from_nodes.items ≡ a.from_nodes.items
+    → b.from_bot.waiting ≡ a.from_bot.waiting → b.passes_over ≡ a.passes_over → b.is_seated ≡ a.is_seated → Writes (Seat 0) a.to_bot.waiting b.to_bot.waiting x y → Keeps a b x y
+kept_to_bot a b x y hello mended dialled relay queues from_nodes from_bot over seat (inl wrote) =
+    let z : List Passage = since_bot x in
+    let piece : List ℕ = wrote.0 in
+    let p : Passage = Wrote (Seat 0) piece in
+    kept_passing a b x y p wrote.2 refl
+    (steps_by a b z (z ++ p ∷ []) (Some p) refl (λ node. same_count z p node refl) hello mended relay
+    (ap (λ (l : List ℕ). l ++ b.to_bot.waiting) (write_behind (Seat 0) [] z p)
+    ∙ (append_assoc (wrote_over z (Seat 0)) piece b.to_bot.waiting ∙ ap (λ (l : List ℕ). wrote_over z (Seat 0) ++ l) (sym wrote.1)))
+    (λ node. joined _ _ _ _ (write_behind (Peer node) [] z p) (ap (λ (qs : List Queued). waits_at qs node) queues))
+    (heard_alike a b z (z ++ p ∷ []) mended relay (λ at. came_more at [] z p) from_nodes from_bot over seat)
+    (owned_more a b z p dialled seat refl (λ node. refl) (λ node. inr (refl, refl))) tt
+    (few_alike a b hello relay (behind_piece _ _ piece wrote.1) (λ node. tail_same _ _ (ap (λ (qs : List Queued). waits_at qs node) queues))))
+kept_to_bot a b x y hello mended dialled relay queues from_nodes from_bot over seat (inr none) =
+    subst (Keeps a b x) (sym none.1) (kept_alike a b x hello mended dialled relay none.0 queues from_nodes from_bot over seat)
+
+-- the queue of a node that was put back as it was
+put_back : (a b : Desk) (node : ℕ) (queue : Queued) → b.to_nodes.items ≡ set a.to_nodes.items node queue → node < length a.to_nodes.items → queue.waiting ≡ waits_at a.to_nodes.items node
+    → (other : ℕ) → waits_at b.to_nodes.items other ≡ waits_at a.to_nodes.items other
+put_back a b node queue queues within q other = ap (λ (qs : List Queued). waits_at qs other) queues ∙ set_back a.to_nodes.items node queue within q other
+
+-- a piece was written of what waits for a node
+tails_wrote : (a b : Desk) (node : ℕ) (queue : Queued) (piece : List ℕ) → b.to_nodes.items ≡ set a.to_nodes.items node queue → node < length a.to_nodes.items → waits_at a.to_nodes.items node ≡ piece ++ queue.waiting
+    → (other : ℕ) → IsTail (waits_at b.to_nodes.items other) (waits_at a.to_nodes.items other)
+tails_wrote a b node queue piece queues within parts other =
+    let P : ℕ → Type 0 = λ n. IsTail (waits_at b.to_nodes.items n) (waits_at a.to_nodes.items n) in
+    elim (cases_eq node other) [
+      | inl same ↦ subst P same (subst (λ (l : List ℕ). IsTail l (waits_at a.to_nodes.items node)) (sym (waits_here a.to_nodes.items b.to_nodes.items node queue queues within)) (tail_behind _ _ piece parts))
+      | inr differs ↦ tail_same _ _ (waits_elsewhere a.to_nodes.items b.to_nodes.items node other queue queues differs)
+    ]
+
+pub kept_to_node : (a b : Desk) (x y : List Passage) (node : ℕ) (queue : Queued) → was_dialled a.dialled.items node ≡ true → b.hello.items ≡ a.hello.items → b.mended ≡ a.mended → b.dialled.items ≡ a.dialled.items → b.relay ≡ a.relay → b.to_bot.waiting ≡ a.to_bot.waiting
+    → b.to_nodes.items ≡ set a.to_nodes.items node queue → node < length a.to_nodes.items → b.from_nodes.items ≡ a.from_nodes.items → b.from_bot.waiting ≡ a.from_bot.waiting → b.passes_over ≡ a.passes_over → b.is_seated ≡ a.is_seated
+    → Writes (Peer node) (waits_at a.to_nodes.items node) queue.waiting x y → Keeps a b x y
+kept_to_node a b x y node queue is hello mended dialled relay bot queues within from_nodes from_bot over seat (inl wrote) =
+    let z : List Passage = since_bot x in
+    let piece : List ℕ = wrote.0 in
+    let p : Passage = Wrote (Peer node) piece in
+    let P : ℕ → Type 0 = λ other. wrote_over (z ++ p ∷ []) (Peer other) ++ waits_at b.to_nodes.items other ≡ wrote_over z (Peer other) ++ waits_at a.to_nodes.items other in
+    kept_passing a b x y p wrote.2 refl
+    (steps_by a b z (z ++ p ∷ []) (Some p) refl (λ other. same_count z p other refl) hello mended relay
+    (joined _ _ _ _ (write_behind (Seat 0) [] z p) bot)
+    (λ other. elim (cases_eq node other) [
+      | inl same ↦ subst P same (joined _ _ _ _
+          (write_behind (Peer node) [] z p ∙ ap (λ (t : Bool). if t then wrote_over z (Peer node) ++ piece else wrote_over z (Peer node)) (own_line (Peer node)))
+          (waits_here a.to_nodes.items b.to_nodes.items node queue queues within)
+          ∙ (append_assoc (wrote_over z (Peer node)) piece queue.waiting ∙ ap (λ (l : List ℕ). wrote_over z (Peer node) ++ l) (sym wrote.1)))
+      | inr differs ↦ joined _ _ _ _
+          (write_behind (Peer other) [] z p ∙ ap (λ (t : Bool). if t then wrote_over z (Peer other) ++ piece else wrote_over z (Peer other)) (ne_eqb node other differs))
+          (waits_elsewhere a.to_nodes.items b.to_nodes.items node other queue queues differs)
+    ])
+    (heard_alike a b z (z ++ p ∷ []) mended relay (λ at. came_more at [] z p) from_nodes from_bot over seat)
+    (owned_wrote a b z node piece dialled seat is) tt
+    (few_alike a b hello relay (as_long _ _ bot) (tails_wrote a b node queue piece queues within wrote.1)))
+kept_to_node a b x y node queue is hello mended dialled relay bot queues within from_nodes from_bot over seat (inr none) =
+    kept_idle a b x y hello mended dialled relay bot (put_back a b node queue queues within none.0) (λ other. ap (λ (qs : List Queued). waits_at qs other) from_nodes) from_bot over seat none.1
+
+-- ---- a read
+
+steps_read : (a b : Desk) (z : List Passage) (line : Wire) (piece : List ℕ) → b.hello.items ≡ a.hello.items → b.mended ≡ a.mended → b.relay ≡ a.relay → b.to_bot.waiting ≡ a.to_bot.waiting → b.to_nodes.items ≡ a.to_nodes.items
+    → (IsHeard a z → IsHeard b (z ++ Came line piece ∷ [])) → (IsOwned a z → IsOwned b (z ++ Came line piece ∷ [])) → ComesBehind a (Came line piece) → Steps a b z (z ++ Came line piece ∷ [])
+steps_read a b z line piece hello mended relay bot queues heard own behind =
+    let p : Passage = Came line piece in
+    steps_by a b z (z ++ p ∷ []) (Some p) refl (λ node. same_count z p node refl) hello mended relay (joined _ _ _ _ (write_behind (Seat 0) [] z p) bot)
+    (λ node. joined _ _ _ _ (write_behind (Peer node) [] z p) (ap (λ (qs : List Queued). waits_at qs node) queues)) heard own behind
+    (few_alike a b hello relay (as_long _ _ bot) (λ node. tail_same _ _ (ap (λ (qs : List Queued). waits_at qs node) queues)))
+
+pub kept_read_bot : (a b : Desk) (x y : List Passage) → b.hello.items ≡ a.hello.items → b.mended ≡ a.mended → b.dialled.items ≡ a.dialled.items → b.relay ≡ a.relay → b.to_bot.waiting ≡ a.to_bot.waiting → b.to_nodes.items ≡ a.to_nodes.items
+    → b.from_nodes.items ≡ a.from_nodes.items → b.passes_over ≡ a.passes_over → b.is_seated ≡ a.is_seated → Reads (Seat 0) a.from_bot.waiting b.from_bot.waiting x y → Keeps a b x y
+kept_read_bot a b x y hello mended dialled relay bot queues from_nodes over seat (inl came) =
+    kept_passing a b x y (Came (Seat 0) came.0) came.2 refl
+    (steps_read a b (since_bot x) (Seat 0) came.0 hello mended relay bot queues (heard_read_bot a b (since_bot x) came.0 mended relay from_nodes over seat came.1 came.3.short came.4)
+    (owned_more a b (since_bot x) (Came (Seat 0) came.0) dialled seat refl (λ node. refl) (λ node. inr (refl, refl))) came.3)
+kept_read_bot a b x y hello mended dialled relay bot queues from_nodes over seat (inr none) =
+    subst (Keeps a b x) (sym none.1) (kept_alike a b x hello mended dialled relay bot queues from_nodes none.0 over seat)
+
+pub kept_read_node : (a b : Desk) (x y : List Passage) (node : ℕ) (queue : Queued) → was_dialled a.dialled.items node ≡ true → b.hello.items ≡ a.hello.items → b.mended ≡ a.mended → b.dialled.items ≡ a.dialled.items → b.relay ≡ a.relay → b.to_bot.waiting ≡ a.to_bot.waiting
+    → b.to_nodes.items ≡ a.to_nodes.items → b.from_nodes.items ≡ set a.from_nodes.items node queue → node < length a.from_nodes.items → b.from_bot.waiting ≡ a.from_bot.waiting → b.passes_over ≡ a.passes_over → b.is_seated ≡ a.is_seated
+    → Reads (Peer node) (waits_at a.from_nodes.items node) queue.waiting x y → Keeps a b x y
+kept_read_node a b x y node queue is hello mended dialled relay bot queues from_nodes within from_bot over seat (inl came) =
+    kept_passing a b x y (Came (Peer node) came.0) came.2 refl
+    (steps_read a b (since_bot x) (Peer node) came.0 hello mended relay bot queues (heard_read_node a b (since_bot x) node queue came.0 mended relay from_nodes within from_bot over seat came.1 came.3.short came.4)
+    (owned_came a b (since_bot x) node came.0 dialled seat is) came.3)
+kept_read_node a b x y node queue is hello mended dialled relay bot queues from_nodes within from_bot over seat (inr none) =
+    kept_idle a b x y hello mended dialled relay bot (λ other. ap (λ (qs : List Queued). waits_at qs other) queues)
+    (λ other. ap (λ (qs : List Queued). waits_at qs other) from_nodes ∙ set_back a.from_nodes.items node queue within none.0 other) from_bot over seat none.1
+
+-- ---- an event
+
+steps_event : (a b : Desk) (x y : List Passage) (e : Event) (p : Option Passage) → y ≡ x ++ option_to_list p → ((node : ℕ) → begun_over y (Peer node) ≡ begun_over x (Peer node) + (if begins_at node e then 1 else 0))
+    → b.relay ≡ with_event a.relay e → a.relay.standing ≡ after (fresh a.relay.nodes) a.relay.events → b.hello.items ≡ a.hello.items → b.mended ≡ a.mended
+    → wrote_over y (Seat 0) ++ b.to_bot.waiting ≡ (wrote_over x (Seat 0) ++ a.to_bot.waiting) ++ bytes_of_lines (given a.relay.standing.last e)
+    → ((node : ℕ) → begins_at node e ≡ false → wrote_over y (Peer node) ++ waits_at b.to_nodes.items node ≡ (wrote_over x (Peer node) ++ waits_at a.to_nodes.items node) ++ bytes_of_answers (more_over node a.relay.standing e))
+    → ((node : ℕ) → begins_at node e ≡ true → wrote_over y (Peer node) ++ waits_at b.to_nodes.items node ≡ b.hello.items) → (IsHeard a x → IsHeard b y) → (IsOwned a x → IsOwned b y) → IfSome p (ComesBehind a) → (IsFew a → IsFew b) → Steps a b x y
+steps_event a b x y e p f counts story follows hello mended bot others first heard own behind few =
+    let happened : b.relay.events ≡ a.relay.events ++ e ∷ [] = ap (λ (r : Story). r.events) story in
+    record {
+      next = record { hello = hello; mended = mended; event = Some e; happened = happened; passage = p; passed = f; behind = behind };
+      begun = λ was node. ap (λ (es : List Event). begun node es) happened
+          ∙ (begun_more node a.relay.events e ∙ (ap (λ (n : ℕ). n + (if begins_at node e then 1 else 0)) (was node) ∙ sym (counts node)));
+      heard = heard;
+      own = own;
+      few = few;
+      said = λ s.
+          let events : List Event = a.relay.events ++ e ∷ [] in
+          let start : Standing = fresh a.relay.nodes in
+          record {
+            bot =
+                let more : all_given None events ≡ all_given None a.relay.events ++ given a.relay.standing.last e =
+                given_more start a.relay.events e ∙ ap (λ (n : Standing). all_given None a.relay.events ++ given n.last e) (sym follows) in
+                bot ∙ (ap (λ (bs : List ℕ). bs ++ bytes_of_lines (given a.relay.standing.last e)) s.bot
+                ∙ (sym (lines_more (all_given None a.relay.events) (given a.relay.standing.last e))
+                ∙ (ap bytes_of_lines (sym more) ∙ ap (λ (r : Story). bytes_of_lines (all_given None r.events)) (sym story))));
+            nodes = λ node.
+                let before : List (List ℕ) = said_over a.relay.nodes node a.relay.events in
+                let more : List (List ℕ) = more_over node a.relay.standing e in
+                let over : said_over a.relay.nodes node events ≡ over_by node a.relay.standing before e =
+                over_more node start [] a.relay.events e ∙ ap (λ (n : Standing). over_by node n before e) (sym follows) in
+                let into : bytes_of_answers (said_over a.relay.nodes node events) ≡ bytes_of_answers (said_over b.relay.nodes node b.relay.events) =
+                ap (λ (r : Story). bytes_of_answers (said_over r.nodes node r.events)) (sym story) in
+                let P : Bool → Type 0 = λ t. begins_at node e ≡ t → wrote_over y (Peer node) ++ waits_at b.to_nodes.items node ≡ first_over node b ++ bytes_of_answers (said_over a.relay.nodes node events) in
+                let step : P (begins_at node e) = elim (begins_at node e) as P [
+                  | true ↦ λ is_it.
+                      first node is_it ∙ (sym (append-nil b.hello.items) ∙ joined _ _ _ _ (sym (first_now a b node e happened is_it))
+                      (ap bytes_of_answers (sym (over ∙ over_begins node a.relay.standing before e is_it))))
+                  | false ↦ λ isnt.
+                      others node isnt ∙ (ap (λ (bs : List ℕ). bs ++ bytes_of_answers more) (s.nodes node)
+                      ∙ (append_assoc (first_over node a) (bytes_of_answers before) (bytes_of_answers more)
+                      ∙ joined _ _ _ _ (sym (first_then a b node e happened hello isnt))
+                      (sym (answers_more before more) ∙ ap bytes_of_answers (sym (over ∙ over_is node a.relay.standing before e isnt)))))
+                ] in
+                step refl ∙ ap (λ (bs : List ℕ). first_over node b ++ bs) into;
+          };
+    }
+
+-- one by which nothing is said and nothing passes
+kept_silent : (a b : Desk) (x : List Passage) (e : Event) → b.relay ≡ with_event a.relay e → a.relay.standing ≡ after (fresh a.relay.nodes) a.relay.events → b.hello.items ≡ a.hello.items → b.mended ≡ a.mended → b.dialled.items ≡ a.dialled.items
+    → b.to_bot.waiting ≡ a.to_bot.waiting → ((node : ℕ) → waits_at b.to_nodes.items node ≡ waits_at a.to_nodes.items node)
+    → given a.relay.standing.last e ≡ [] → ((node : ℕ) → more_over node a.relay.standing e ≡ []) → ((node : ℕ) → begins_at node e ≡ false) → b.is_seated ≡ a.is_seated
+    → (IsHeard a (since_bot x) → IsHeard b (since_bot x)) → Keeps a b x x
+kept_silent a b x e story follows hello mended dialled bot queues none no_more isnt seat heard =
+    let z : List Passage = since_bot x in
+    kept_quietly a b x (steps_event a b z z e None (sym (append-nil z))
+    (λ node. sym (add-zero (begun_over z (Peer node))) ∙ ap (λ (t : Bool). begun_over z (Peer node) + (if t then 1 else 0)) (sym (isnt node)))
+    story follows hello mended
+    (ap (λ (l : List ℕ). wrote_over z (Seat 0) ++ l) bot ∙ (sym (append-nil (wrote_over z (Seat 0) ++ a.to_bot.waiting)) ∙ ap (λ (ls : List Line). (wrote_over z (Seat 0) ++ a.to_bot.waiting) ++ bytes_of_lines ls) (sym none)))
+    (λ node n. ap (λ (l : List ℕ). wrote_over z (Peer node) ++ l) (queues node)
+    ∙ (sym (append-nil (wrote_over z (Peer node) ++ waits_at a.to_nodes.items node)) ∙ ap (λ (said : List (List ℕ)). (wrote_over z (Peer node) ++ waits_at a.to_nodes.items node) ++ bytes_of_answers said) (sym (no_more node))))
+    (λ node is_it. absurd (false≢true (sym (isnt node) ∙ is_it)))
+    heard (owned_alike a b z dialled (λ off. sym seat ∙ off)) tt
+    (λ f. few_event a b e story follows hello (subst (λ (l : List ℕ). length l < 65536 + 4098) (sym bot) f.bot) (λ node n. inl (no_more node, queues node))
+    (λ node is_it. absurd (false≢true (sym (isnt node) ∙ is_it))) f))
+
+pub kept_ends : (a b : Desk) (x y : List Passage) (node : ℕ) → b.relay ≡ with_event a.relay (Ends node) → a.relay.standing ≡ after (fresh a.relay.nodes) a.relay.events → b.hello.items ≡ a.hello.items → b.mended ≡ a.mended → b.dialled.items ≡ a.dialled.items
+    → b.to_bot.waiting ≡ a.to_bot.waiting → b.to_nodes.items ≡ a.to_nodes.items → y ≡ x → b.is_seated ≡ a.is_seated → (IsHeard a (since_bot x) → IsHeard b (since_bot x)) → Keeps a b x y
+kept_ends a b x y node story follows hello mended dialled bot queues f seat heard =
+    subst (Keeps a b x) (sym f)
+    (kept_silent a b x (Ends node) story follows hello mended dialled bot (λ n. ap (λ (qs : List Queued). waits_at qs n) queues) refl (λ n. refl) (λ n. refl) seat heard)
+
+pub kept_says : (a b : Desk) (x : List Passage) (text : List ℕ) → b.relay ≡ with_event a.relay (Says text) → a.relay.standing ≡ after (fresh a.relay.nodes) a.relay.events → b.hello.items ≡ a.hello.items → b.mended ≡ a.mended → b.dialled.items ≡ a.dialled.items
+    → b.to_bot.waiting ≡ a.to_bot.waiting → b.to_nodes.items ≡ a.to_nodes.items → b.is_seated ≡ a.is_seated → (IsHeard a (since_bot x) → IsHeard b (since_bot x)) → Keeps a b x x
+kept_says a b x text story follows hello mended dialled bot queues seat heard =
+    kept_silent a b x (Says text) story follows hello mended dialled bot (λ n. ap (λ (qs : List Queued). waits_at qs n) queues) refl (λ n. refl) (λ n. refl) seat heard
+
+-- a line is told that the bot isn't given
+pub kept_old : (a b : Desk) (x : List Passage) (node : ℕ) (line : Line) → b.relay ≡ with_event a.relay (Tells node line) → a.relay.standing ≡ after (fresh a.relay.nodes) a.relay.events
+    → b.hello.items ≡ a.hello.items → b.mended ≡ a.mended → b.dialled.items ≡ a.dialled.items → b.to_bot.waiting ≡ a.to_bot.waiting → b.to_nodes.items ≡ a.to_nodes.items → is_news a.relay.standing.last line ≡ false
+    → b.is_seated ≡ a.is_seated → (IsHeard a (since_bot x) → IsHeard b (since_bot x)) → Keeps a b x x
+kept_old a b x node line story follows hello mended dialled bot queues old seat heard =
+    kept_silent a b x (Tells node line) story follows hello mended dialled bot (λ n. ap (λ (qs : List Queued). waits_at qs n) queues) (ap (λ (t : Bool). if t then line ∷ [] else []) old) (λ n. refl) (λ n. refl) seat heard
+
+-- and one that it is
+pub kept_given : (a b : Desk) (x : List Passage) (node : ℕ) (line : Line) → b.relay ≡ with_event a.relay (Tells node line) → a.relay.standing ≡ after (fresh a.relay.nodes) a.relay.events
+    → b.hello.items ≡ a.hello.items → b.mended ≡ a.mended → b.dialled.items ≡ a.dialled.items → b.to_bot.waiting ≡ a.to_bot.waiting ++ ended line.text → b.to_nodes.items ≡ a.to_nodes.items → is_news a.relay.standing.last line ≡ true
+    → length a.to_bot.waiting < 65536 → length line.text ≤ 4096 → b.is_seated ≡ a.is_seated → (IsHeard a (since_bot x) → IsHeard b (since_bot x)) → Keeps a b x x
+kept_given a b x node line story follows hello mended dialled bot queues news few short seat heard =
+    let z : List Passage = since_bot x in
+    let before : List ℕ = wrote_over z (Seat 0) ++ a.to_bot.waiting in
+    let one : given a.relay.standing.last (Tells node line) ≡ line ∷ [] = ap (λ (t : Bool). if t then line ∷ [] else []) news in
+    kept_quietly a b x (steps_event a b z z (Tells node line) None (sym (append-nil z)) (λ n. sym (add-zero (begun_over z (Peer n)))) story follows hello mended
+    (ap (λ (l : List ℕ). wrote_over z (Seat 0) ++ l) bot ∙ (sym (append_assoc (wrote_over z (Seat 0)) a.to_bot.waiting (ended line.text))
+    ∙ (ap (λ (l : List ℕ). before ++ l) (sym (append-nil (ended line.text))) ∙ ap (λ (ls : List Line). before ++ bytes_of_lines ls) (sym one))))
+    (λ n isnt. ap (λ (qs : List Queued). wrote_over z (Peer n) ++ waits_at qs n) queues ∙ sym (append-nil (wrote_over z (Peer n) ++ waits_at a.to_nodes.items n)))
+    (λ n is_it. absurd cc)
+    heard (owned_alike a b z dialled (λ off. sym seat ∙ off)) tt
+    (few_event a b (Tells node line) story follows hello (few_lines a.to_bot.waiting line.text b.to_bot.waiting bot few short) (λ n isnt. inl (refl, ap (λ (qs : List Queued). waits_at qs n) queues)) (λ n is_it. absurd cc)))
+
+pub kept_dial : (a b : Desk) (x y : List Passage) (node : ℕ) (queue : Queued) → b.relay ≡ with_event a.relay (Begins node) → a.relay.standing ≡ after (fresh a.relay.nodes) a.relay.events
+    → b.hello.items ≡ a.hello.items → b.mended ≡ a.mended → b.dialled.items ≡ set a.dialled.items node true → b.to_bot.waiting ≡ a.to_bot.waiting → b.to_nodes.items ≡ set a.to_nodes.items node queue → node < length a.to_nodes.items
+    → queue.waiting ≡ a.hello.items → y ≡ x ++ Began (Peer node) ∷ [] → b.is_seated ≡ true → (IsHeard a (since_bot x) → IsHeard b (since_bot x ++ Began (Peer node) ∷ [])) → Keeps a b x y
+kept_dial a b x y node queue story follows hello mended dialled bot queues within q f seat heard =
+    let z : List Passage = since_bot x in
+    let p : Passage = Began (Peer node) in
+    let began : (other : ℕ) → wrote_over (z ++ p ∷ []) (Peer other) ≡ (if node == other then [] else wrote_over z (Peer other)) = λ other. write_behind (Peer other) [] z p in
+    let P : ℕ → Type 0 = λ other. wrote_over (z ++ p ∷ []) (Peer other) ++ waits_at b.to_nodes.items other ≡ b.hello.items in
+    kept_passing a b x y p f refl (steps_event a b z (z ++ p ∷ []) (Begins node) (Some p) refl (λ other. more_begun z (z ++ p ∷ []) p (Peer other) refl) story follows hello mended
+    (joined _ _ _ _ (write_behind (Seat 0) [] z p) bot ∙ sym (append-nil (wrote_over z (Seat 0) ++ a.to_bot.waiting)))
+    (λ other isnt. elim (cases_eq node other) [
+      | inl same ↦ absurd (false≢true (sym isnt ∙ eq-eqb node other same))
+      | inr differs ↦ joined _ _ _ _ (began other ∙ ap (λ (t : Bool). if t then [] else wrote_over z (Peer other)) isnt) (waits_elsewhere a.to_nodes.items b.to_nodes.items node other queue queues differs)
+          ∙ sym (append-nil (wrote_over z (Peer other) ++ waits_at a.to_nodes.items other))
+    ])
+    (λ other is_it. elim (cases_eq node other) [
+      | inl same ↦ subst P same (joined [] _ _ _ (began node ∙ ap (λ (t : Bool). if t then [] else wrote_over z (Peer node)) (own_line (Peer node)))
+          (waits_here a.to_nodes.items b.to_nodes.items node queue queues within ∙ q) ∙ sym hello)
+      | inr differs ↦ absurd (false≢true (sym (ne_eqb node other differs) ∙ is_it))
+    ])
+    heard (owned_dialled a b z node dialled seat) tt
+    (λ few. few_event a b (Begins node) story follows hello (subst (λ (l : List ℕ). length l < 65536 + 4098) (sym bot) few.bot)
+    (λ other isnt. elim (cases_eq node other) [
+      | inl same ↦ absurd (false≢true (sym isnt ∙ eq-eqb node other same))
+      | inr differs ↦ inl (refl, waits_elsewhere a.to_nodes.items b.to_nodes.items node other queue queues differs)
+    ])
+    (λ other is_it. elim (cases_eq node other) [
+      | inl same ↦ subst (λ (n : ℕ). waits_at b.to_nodes.items n ≡ b.hello.items) same (waits_here a.to_nodes.items b.to_nodes.items node queue queues within ∙ (q ∙ sym hello))
+      | inr differs ↦ absurd (false≢true (sym (ne_eqb node other differs) ∙ is_it))
+    ]) few))
+
+-- ---- a bot is taken in
+
+nothing_said : (nodes node : ℕ) → said_over nodes node [] ≡ []
+unfolding over_behind
+nothing_said nodes node = refl
+
+pub course_begins : (b : Desk) → b.relay.events ≡ [] → b.from_bot.waiting ≡ [] → b.passes_over ≡ false → b.is_seated ≡ false → b.to_bot.waiting ≡ [] → AreEmpty b.from_nodes.items → AreEmpty b.to_nodes.items → IsNoneDialled b.dialled.items → Course b []
+course_begins b story from_bot over seat to_bot from_nodes to_nodes none = Course.begin b story (record {
+  begun = λ node. ap (λ (es : List Event). begun node es) story;
+  said = record {
+    bot = to_bot ∙ ap (λ (es : List Event). bytes_of_lines (all_given None es)) (sym story);
+    nodes = λ node. to_nodes node ∙ (ap bytes_of_answers (sym (nothing_said b.relay.nodes node))
+        ∙ ap (λ (es : List Event). (if has_begun node es then b.hello.items else []) ++ bytes_of_answers (said_over b.relay.nodes node es)) (sym story));
+  };
+  heard = heard_fresh b story from_bot over seat from_nodes;
+  own = owned_fresh b none;
+  few = few_fresh b to_bot to_nodes;
+})
+
+pub kept_taken : (a b : Desk) (x y : List Passage) → b.hello.items ≡ a.hello.items → b.mended ≡ a.mended → b.relay.events ≡ [] → b.from_bot.waiting ≡ [] → b.passes_over ≡ false → b.is_seated ≡ false → b.to_bot.waiting ≡ []
+    → AreEmpty b.from_nodes.items → AreEmpty b.to_nodes.items → IsNoneDialled b.dialled.items → y ≡ x ++ Began (Seat 0) ∷ [] → Keeps a b x y
+kept_taken a b x y hello mended story from_bot over seat to_bot from_nodes to_nodes none f =
+    let course : Course b (since_bot y) = subst (Course b) (sym (since_taken x y (Began (Seat 0)) f refl)) (course_begins b story from_bot over seat to_bot from_nodes to_nodes none) in
+    record { hello = hello; mended = mended; course = λ was. course; grows = inr (record { bots = bots_more x y (Began (Seat 0)) f refl; course = course }) }
 
 -- ---- an answer
 
@@ -219,44 +391,44 @@ unfolding answered
 no_answer s node may = ap (λ (t : Bool). if t then option_to_list s.kept else []) may
 
 pub kept_said : (a b : Desk) (x : List Passage) (node : ℕ) (queue : Queued) (answer : List ℕ) → b.relay ≡ with_event a.relay (Pushes node) → a.relay.standing ≡ after (fresh a.relay.nodes) a.relay.events
-    → b.hello.items ≡ a.hello.items → b.to_bot.waiting ≡ a.to_bot.waiting → b.to_nodes.items ≡ set a.to_nodes.items node queue → node < length a.to_nodes.items
-    → queue.waiting ≡ waits_at a.to_nodes.items node ++ ended answer → a.relay.standing.kept ≡ Some answer → is_even (link_at a.relay.standing.links node) ≡ true → (IsHeard a x → IsHeard b x) → Keeps a b x x
-kept_said a b x node queue answer story follows hello bot queues within q kept may heard =
-    let P : ℕ → Type 0 = λ other. wrote_over x (Peer other) ++ waits_at b.to_nodes.items other ≡ (wrote_over x (Peer other) ++ waits_at a.to_nodes.items other) ++ bytes_of_answers (more_over other a.relay.standing (Pushes node)) in
+    → b.hello.items ≡ a.hello.items → b.mended ≡ a.mended → b.dialled.items ≡ a.dialled.items → b.to_bot.waiting ≡ a.to_bot.waiting → b.to_nodes.items ≡ set a.to_nodes.items node queue → node < length a.to_nodes.items
+    → queue.waiting ≡ waits_at a.to_nodes.items node ++ ended answer → a.relay.standing.kept ≡ Some answer → is_even (link_at a.relay.standing.links node) ≡ true
+    → waits_at a.to_nodes.items node ≡ [] → b.is_seated ≡ a.is_seated → (IsHeard a (since_bot x) → IsHeard b (since_bot x)) → Keeps a b x x
+kept_said a b x node queue answer story follows hello mended dialled bot queues within q kept may none seat heard =
+    let z : List Passage = since_bot x in
+    let P : ℕ → Type 0 = λ other. wrote_over z (Peer other) ++ waits_at b.to_nodes.items other ≡ (wrote_over z (Peer other) ++ waits_at a.to_nodes.items other) ++ bytes_of_answers (more_over other a.relay.standing (Pushes node)) in
     let own : more_over node a.relay.standing (Pushes node) ≡ answer ∷ [] =
     ap (λ (t : Bool). if t then answered a.relay.standing (Pushes node) else []) (eq-eqb node node refl) ∙ own_answer a.relay.standing node answer kept may in
-    let before : List ℕ = wrote_over x (Peer node) ++ waits_at a.to_nodes.items node in
-    kept_event a b x x (Pushes node) story follows hello
-    (ap (λ (l : List ℕ). wrote_over x (Seat 0) ++ l) bot ∙ sym (append-nil (wrote_over x (Seat 0) ++ a.to_bot.waiting)))
+    let before : List ℕ = wrote_over z (Peer node) ++ waits_at a.to_nodes.items node in
+    kept_quietly a b x (steps_event a b z z (Pushes node) None (sym (append-nil z)) (λ other. sym (add-zero (begun_over z (Peer other)))) story follows hello mended
+    (ap (λ (l : List ℕ). wrote_over z (Seat 0) ++ l) bot ∙ sym (append-nil (wrote_over z (Seat 0) ++ a.to_bot.waiting)))
     (λ other isnt. elim (cases_eq node other) [
-      | inl same ↦ subst P same (ap (λ (l : List ℕ). wrote_over x (Peer node) ++ l) (waits_here a.to_nodes.items b.to_nodes.items node queue queues within ∙ q)
-          ∙ (sym (append_assoc (wrote_over x (Peer node)) (waits_at a.to_nodes.items node) (ended answer))
+      | inl same ↦ subst P same (ap (λ (l : List ℕ). wrote_over z (Peer node) ++ l) (waits_here a.to_nodes.items b.to_nodes.items node queue queues within ∙ q)
+          ∙ (sym (append_assoc (wrote_over z (Peer node)) (waits_at a.to_nodes.items node) (ended answer))
           ∙ (ap (λ (l : List ℕ). before ++ l) (sym (append-nil (ended answer))) ∙ ap (λ (said : List (List ℕ)). before ++ bytes_of_answers said) (sym own))))
-      | inr differs ↦ ap (λ (l : List ℕ). wrote_over x (Peer other) ++ l) (waits_elsewhere a.to_nodes.items b.to_nodes.items node other queue queues differs)
-          ∙ (sym (append-nil (wrote_over x (Peer other) ++ waits_at a.to_nodes.items other))
-          ∙ ap (λ (t : Bool). (wrote_over x (Peer other) ++ waits_at a.to_nodes.items other) ++ bytes_of_answers (if t then answered a.relay.standing (Pushes node) else [])) (sym (ne_eqb node other differs)))
+      | inr differs ↦ ap (λ (l : List ℕ). wrote_over z (Peer other) ++ l) (waits_elsewhere a.to_nodes.items b.to_nodes.items node other queue queues differs)
+          ∙ (sym (append-nil (wrote_over z (Peer other) ++ waits_at a.to_nodes.items other))
+          ∙ ap (λ (t : Bool). (wrote_over z (Peer other) ++ waits_at a.to_nodes.items other) ++ bytes_of_answers (if t then answered a.relay.standing (Pushes node) else [])) (sym (ne_eqb node other differs)))
     ])
     (λ other is_it. absurd cc)
-    heard
+    heard (owned_alike a b z dialled (λ off. sym seat ∙ off)) tt
+    (λ few. few_event a b (Pushes node) story follows hello (subst (λ (l : List ℕ). length l < 65536 + 4098) (sym bot) few.bot)
+    (λ other isnt. elim (cases_eq node other) [
+      | inl same ↦ subst (λ (n : ℕ). SaysFew a b n (Pushes node)) same
+          (inr (answer, own, waits_here a.to_nodes.items b.to_nodes.items node queue queues within ∙ (q ∙ ap (λ (l : List ℕ). l ++ ended answer) none)))
+      | inr differs ↦ inl (
+        ap (λ (t : Bool). if t then answered a.relay.standing (Pushes node) else []) (ne_eqb node other differs),
+        waits_elsewhere a.to_nodes.items b.to_nodes.items node other queue queues differs,
+      )
+    ])
+    (λ other is_it. absurd cc) few))
 
 pub kept_unsaid : (a b : Desk) (x : List Passage) (node : ℕ) (queue : Queued) → b.relay ≡ with_event a.relay (Pushes node) → a.relay.standing ≡ after (fresh a.relay.nodes) a.relay.events
-    → b.hello.items ≡ a.hello.items → b.to_bot.waiting ≡ a.to_bot.waiting → b.to_nodes.items ≡ set a.to_nodes.items node queue → node < length a.to_nodes.items
-    → queue.waiting ≡ waits_at a.to_nodes.items node → is_even (link_at a.relay.standing.links node) ≡ false → (IsHeard a x → IsHeard b x) → Keeps a b x x
-kept_unsaid a b x node queue story follows hello bot queues within q may heard =
-    let P : ℕ → Type 0 = λ other. waits_at b.to_nodes.items other ≡ waits_at a.to_nodes.items other in
-    kept_silent a b x x (Pushes node) story follows hello bot
-    (λ other. elim (cases_eq node other) [
-      | inl same ↦ subst P same (waits_here a.to_nodes.items b.to_nodes.items node queue queues within ∙ q)
-      | inr differs ↦ waits_elsewhere a.to_nodes.items b.to_nodes.items node other queue queues differs
-    ]) refl refl
-    (λ other. elim (node == other) as (λ (t : Bool). (if t then answered a.relay.standing (Pushes node) else []) ≡ []) [ true ↦ no_answer a.relay.standing node may | false ↦ refl ]) (λ n. refl) heard
-
--- ---- a read
-
-pub kept_read : (a b : Desk) (x y : List Passage) (line : Wire) (old new : List ℕ) → b.hello.items ≡ a.hello.items → b.relay ≡ a.relay → b.to_bot.waiting ≡ a.to_bot.waiting → b.to_nodes.items ≡ a.to_nodes.items → Reads line old new x y
-    → (IsHeard a x → IsHeard b y) → Keeps a b x y
-kept_read a b x y line old new hello relay bot queues r heard =
-    kept_by a b x y hello relay (joined _ _ _ _ (r.wrote (Seat 0)) bot) (λ node. joined _ _ _ _ (r.wrote (Peer node)) (ap (λ (qs : List Queued). waits_at qs node) queues)) heard
+    → b.hello.items ≡ a.hello.items → b.mended ≡ a.mended → b.dialled.items ≡ a.dialled.items → b.to_bot.waiting ≡ a.to_bot.waiting → b.to_nodes.items ≡ set a.to_nodes.items node queue → node < length a.to_nodes.items
+    → queue.waiting ≡ waits_at a.to_nodes.items node → is_even (link_at a.relay.standing.links node) ≡ false → b.is_seated ≡ a.is_seated → (IsHeard a (since_bot x) → IsHeard b (since_bot x)) → Keeps a b x x
+kept_unsaid a b x node queue story follows hello mended dialled bot queues within q may seat heard =
+    kept_silent a b x (Pushes node) story follows hello mended dialled bot (put_back a b node queue queues within q) refl
+    (λ other. elim (node == other) as (λ (t : Bool). (if t then answered a.relay.standing (Pushes node) else []) ≡ []) [ true ↦ no_answer a.relay.standing node may | false ↦ refl ]) (λ n. refl) seat heard
 
 -- ---- where nothing passes
 
@@ -266,9 +438,9 @@ stays_on a b c one two = record { kept = λ x. kept_on a b c x x x (one.kept x) 
 pub stays_same : (a b : Desk) → b ≡ a → Stays a b
 stays_same a b e = record { kept = λ x. kept_same a b x x e refl }
 
-pub stays_alike : (a b : Desk) → b.hello.items ≡ a.hello.items → b.relay ≡ a.relay → b.to_bot.waiting ≡ a.to_bot.waiting → b.to_nodes.items ≡ a.to_nodes.items → b.from_nodes.items ≡ a.from_nodes.items
-    → b.from_bot.waiting ≡ a.from_bot.waiting → b.passes_over ≡ a.passes_over → Stays a b
-stays_alike a b hello relay bot queues from_nodes from_bot over = record { kept = λ x. kept_alike a b x x hello relay bot queues from_nodes from_bot over refl }
+pub stays_alike : (a b : Desk) → b.hello.items ≡ a.hello.items → b.mended ≡ a.mended → b.dialled.items ≡ a.dialled.items → b.relay ≡ a.relay → b.to_bot.waiting ≡ a.to_bot.waiting → b.to_nodes.items ≡ a.to_nodes.items → b.from_nodes.items ≡ a.from_nodes.items
+    → b.from_bot.waiting ≡ a.from_bot.waiting → b.passes_over ≡ a.passes_over → b.is_seated ≡ a.is_seated → Stays a b
+stays_alike a b hello mended dialled relay bot queues from_nodes from_bot over seat = record { kept = λ x. kept_alike a b x hello mended dialled relay bot queues from_nodes from_bot over seat }
 
 pub stays_kept : (a b : Desk) (x y : List Passage) → Stays a b → y ≡ x → Keeps a b x y
-stays_kept a b x y stays f = kept_on a b b x x y (stays.kept x) (kept_same b b x y refl f)
+stays_kept a b x y stays f = subst (Keeps a b x) (sym f) (stays.kept x)

@@ -1,11 +1,12 @@
--- What is written over one line and what comes, call by call.
-use Rattle.std.proofs.Common.{◌≡◌, ℕ, ◌==◌, Bool, true, false, cond, List, [], ◌∷◌, ◌++◌, take, drop, append_assoc, append-nil, refl, ap, sym, subst, ◌∙◌}
+-- What passes, call by call.
+use Rattle.std.proofs.Common.{◌≡◌, ℕ, ◌+◌, ◌<◌, ◌≤◌, ◌==◌, Bool, true, false, if◌then◌else◌, List, [], ◌∷◌, ◌++◌, take, drop, length, inl, inr, refl, ap, sym, subst, ◌∙◌, add-zero, arith}
 use Rattle.std.proofs.lemmas.List.{take-append-drop}
 use Rattle.std.proofs.lemmas.Bool.{eq-eqb}
 use Rattle.node_wires.specs.declared.line.Line.{Line}
 use Rattle.node_wires.specs.declared.line.Line.TheVariants.{Peer, Caller, Seat, Guest, Asker}
-use Rattle.node_wires.specs.Passages.{Passage, Came, Wrote, is_line, came_by, came_behind, came_over, wrote_by, wrote_behind, wrote_over}
-use Rattle.relay_runs.specs.Said.{Reads, Writes}
+use Rattle.node_wires.specs.Passages.{Passage, Came, Wrote, is_line, came_by, came_behind, wrote_by, wrote_behind}
+use Rattle.relay_runs.specs.Since.{is_taken_in, since_by, since_behind, since_bot, bots_in, begins_there, begun_over}
+use Rattle.relay_runs.specs.Said.{IsBeginning, Reads, Writes}
 
 pub write_behind : (line : Line) (before : List ℕ) (xs : List Passage) (p : Passage) → wrote_behind line before (xs ++ p ∷ []) ≡ wrote_by line (wrote_behind line before xs) p
 write_behind line before [] p = refl
@@ -25,66 +26,55 @@ own_line (Seat n) = own_number n
 own_line (Guest n) = own_number n
 own_line (Asker n) = own_number n
 
-to_it : (same : Bool) (before bytes : List ℕ) → same ≡ true → cond same (before ++ bytes) before ≡ before ++ bytes
-to_it true before bytes e = refl
-to_it false before bytes e = absurd cc
+-- ---- one call of a wire
 
-to_another : (same : Bool) (before bytes : List ℕ) → same ≡ false → cond same (before ++ bytes) before ≡ before
-to_another true before bytes e = absurd cc
-to_another false before bytes e = refl
+pub nothing_written : (line : Line) (old new : List ℕ) (x y : List Passage) → new ≡ old → y ≡ x → Writes line old new x y
+nothing_written line old new x y e f = inr (e, f)
 
-pub nothing_written : (line : Line) (old new : List ℕ) (passed_old passed_new : List Passage) → new ≡ old → passed_new ≡ passed_old → Writes line old new passed_old passed_new
-nothing_written line old new passed_old passed_new e f = record {
-  said = ap (λ (ps : List Passage). wrote_over ps line ++ new) f ∙ ap (λ (xs : List ℕ). wrote_over passed_old line ++ xs) e;
-  others = λ other differs. ap (λ (ps : List Passage). wrote_over ps other) f;
-  came = λ other. ap (λ (ps : List Passage). came_over ps other) f;
-}
-
-pub written_on : (line : Line) (a b c : List ℕ) (x y z : List Passage) → Writes line a b x y → Writes line b c y z → Writes line a c x z
-written_on line a b c x y z one two = record {
-  said = two.said ∙ one.said;
-  others = λ other differs. two.others other differs ∙ one.others other differs;
-  came = λ other. two.came other ∙ one.came other;
-}
-
-pub some_written : (line : Line) (count : ℕ) (old bytes new : List ℕ) (passed_old passed_new : List Passage) → bytes ≡ old → new ≡ drop count old
-    → passed_new ≡ passed_old ++ Wrote line (take count bytes) ∷ [] → Writes line old new passed_old passed_new
-some_written line count old bytes new passed_old passed_new same e wrote =
-    let f : passed_new ≡ passed_old ++ Wrote line (take count old) ∷ [] =
-    subst (λ (w : List ℕ). passed_new ≡ passed_old ++ Wrote line (take count w) ∷ []) same wrote in
-    let before : List ℕ = wrote_over passed_old line in
-    let piece : List ℕ = take count old in
-    let grown : wrote_over passed_new line ≡ before ++ piece =
-    ap (λ (ps : List Passage). wrote_over ps line) f ∙ (write_behind line [] passed_old (Wrote line piece) ∙ to_it (is_line line line) before piece (own_line line)) in
-    record {
-      said = ap (λ (xs : List ℕ). xs ++ new) grown ∙ (ap (λ (xs : List ℕ). (before ++ piece) ++ xs) e ∙ (append_assoc before piece (drop count old) ∙ ap (λ (xs : List ℕ). before ++ xs) (take-append-drop count old)));
-      others = λ other differs.
-          ap (λ (ps : List Passage). wrote_over ps other) f ∙ (write_behind other [] passed_old (Wrote line piece) ∙ to_another (is_line line other) (wrote_over passed_old other) piece differs);
-      came = λ other. ap (λ (ps : List Passage). came_over ps other) f ∙ came_more other [] passed_old (Wrote line piece);
-    }
-
--- ---- what is read
+pub some_written : (line : Line) (count : ℕ) (old bytes new : List ℕ) (x y : List Passage) → bytes ≡ old → new ≡ drop count old → y ≡ x ++ Wrote line (take count bytes) ∷ [] → Writes line old new x y
+some_written line count old bytes new x y same e f =
+    inl (take count old, sym (take-append-drop count old) ∙ ap (λ (l : List ℕ). take count old ++ l) (sym e), subst (λ (w : List ℕ). y ≡ x ++ Wrote line (take count w) ∷ []) same f)
 
 pub nothing_read : (line : Line) (old new : List ℕ) (x y : List Passage) → new ≡ old → y ≡ x → Reads line old new x y
-nothing_read line old new x y e f = record {
-  piece = [];
-  behind = e ∙ sym (append-nil old);
-  came = ap (λ (ps : List Passage). came_over ps line) f ∙ sym (append-nil (came_over x line));
-  others = λ other differs. ap (λ (ps : List Passage). came_over ps other) f;
-  wrote = λ other. ap (λ (ps : List Passage). wrote_over ps other) f;
-}
+nothing_read line old new x y e f = inr (e, f)
 
-pub some_read : (line : Line) (piece old new : List ℕ) (x y : List Passage) → new ≡ old ++ piece → y ≡ x ++ Came line piece ∷ [] → Reads line old new x y
-some_read line piece old new x y e f = record {
-  piece = piece;
-  behind = e;
-  came = ap (λ (ps : List Passage). came_over ps line) f ∙ (came_more line [] x (Came line piece) ∙ to_it (is_line line line) (came_over x line) piece (own_line line));
-  others = λ other differs. ap (λ (ps : List Passage). came_over ps other) f ∙ (came_more other [] x (Came line piece) ∙ to_another (is_line line other) (came_over x other) piece differs);
-  wrote = λ other. ap (λ (ps : List Passage). wrote_over ps other) f ∙ write_behind other [] x (Came line piece);
-}
+pub some_read : (line : Line) (piece old new : List ℕ) (x y : List Passage) → IsBeginning old → length piece ≤ 512 → new ≡ old ++ piece → y ≡ x ++ Came line piece ∷ [] → Reads line old new x y
+some_read line piece old new x y begins short e f = inl (piece, e, f, begins, short)
 
 pub writes_as : (line : Line) (old other new : List ℕ) (x y : List Passage) → other ≡ old → Writes line old new x y → Writes line other new x y
 writes_as line old other new x y e w = subst (λ (o : List ℕ). Writes line o new x y) (sym e) w
 
 pub reads_as : (line : Line) (old other new : List ℕ) (x y : List Passage) → other ≡ old → Reads line old new x y → Reads line other new x y
 reads_as line old other new x y e r = subst (λ (o : List ℕ). Reads line o new x y) (sym e) r
+
+-- ---- since a bot was taken in
+
+since_behind_more : (before x : List Passage) (p : Passage) → since_behind before (x ++ p ∷ []) ≡ since_by (since_behind before x) p
+since_behind_more before [] p = refl
+since_behind_more before (one ∷ x) p = since_behind_more (since_by before one) x p
+
+pub since_more : (x y : List Passage) (p : Passage) → y ≡ x ++ p ∷ [] → is_taken_in p ≡ false → since_bot y ≡ since_bot x ++ p ∷ []
+since_more x y p f isnt = ap since_bot f ∙ (since_behind_more [] x p ∙ ap (λ (t : Bool). if t then [] else since_bot x ++ p ∷ []) isnt)
+
+pub since_taken : (x y : List Passage) (p : Passage) → y ≡ x ++ p ∷ [] → is_taken_in p ≡ true → since_bot y ≡ []
+since_taken x y p f is = ap since_bot f ∙ (since_behind_more [] x p ∙ ap (λ (t : Bool). if t then [] else since_bot x ++ p ∷ []) is)
+
+bots_behind : (x : List Passage) (p : Passage) → bots_in (x ++ p ∷ []) ≡ bots_in x + (if is_taken_in p then 1 else 0)
+bots_behind [] p = omega arith
+bots_behind (one ∷ x) p = let h : bots_in (x ++ p ∷ []) ≡ bots_in x + (if is_taken_in p then 1 else 0) = bots_behind x p in omega arith
+
+pub bots_same : (x y : List Passage) (p : Passage) → y ≡ x ++ p ∷ [] → is_taken_in p ≡ false → bots_in y ≡ bots_in x
+bots_same x y p f isnt = ap bots_in f ∙ (bots_behind x p ∙ (ap (λ (t : Bool). bots_in x + (if t then 1 else 0)) isnt ∙ add-zero (bots_in x)))
+
+pub bots_more : (x y : List Passage) (p : Passage) → y ≡ x ++ p ∷ [] → is_taken_in p ≡ true → bots_in x < bots_in y
+bots_more x y p f is =
+    let h : bots_in y ≡ bots_in x + 1 = ap bots_in f ∙ (bots_behind x p ∙ ap (λ (t : Bool). bots_in x + (if t then 1 else 0)) is) in omega arith
+
+-- ---- connections that began
+
+begun_behind : (x : List Passage) (p : Passage) (line : Line) → begun_over (x ++ p ∷ []) line ≡ begun_over x line + (if begins_there line p then 1 else 0)
+begun_behind [] p line = omega arith
+begun_behind (one ∷ x) p line = let h : begun_over (x ++ p ∷ []) line ≡ begun_over x line + (if begins_there line p then 1 else 0) = begun_behind x p line in omega arith
+
+pub more_begun : (x y : List Passage) (p : Passage) (line : Line) → y ≡ x ++ p ∷ [] → begun_over y line ≡ begun_over x line + (if begins_there line p then 1 else 0)
+more_begun x y p line f = ap (λ (ps : List Passage). begun_over ps line) f ∙ begun_behind x p line

@@ -1,5 +1,7 @@
 -- What came over the connections of a relay, cut into lines: of a node each dealer's line is told to the relay's machine, and of the bot what it says, or what is said for it.
-use Rattle.std.specs.Prelude.{◌≡◌, ◌⊎◌, ℕ, ◌≤◌, ◌==◌, Bool, true, false, if◌then◌else◌, List, [], ◌∷◌, ◌++◌, length}
+use Rattle.std.specs.Prelude.{◌≡◌, ◌⊎◌, ℕ, ◌+◌, ◌≤◌, ◌<◌, ◌==◌, ◌||◌, Bool, true, false, if◌then◌else◌, List, [], ◌∷◌, ◌++◌, length, codes, Option, Some}
+use Rattle.std.specs.Char.{is_ascii_digit}
+use Rattle.std.specs.List.{list_all}
 use Rattle.game_def.specs.Game.{Game}
 use Rattle.matchstate.specs.Free.{IsFreeOf}
 use Rattle.node_wires.specs.declared.line.Line.TheVariants.{Seat, Peer}
@@ -8,7 +10,7 @@ use Rattle.seat_relay.specs.Places.{IsPlaced}
 use Rattle.seat_relay.specs.Mending.{IsMendedAnswer}
 use Rattle.seat_relay.specs.Relaying.{Line, Event, Begins, Ends, Tells, Says, Pushes}
 use Rattle.relay_runs.specs.declared.desk.Desk.{Desk}
-use Rattle.relay_runs.specs.Said.{has_begun, waits_at}
+use Rattle.relay_runs.specs.Said.{waits_at}
 
 -- ---- as bytes
 
@@ -20,6 +22,11 @@ with_feeds (raw ∷ more) = raw ++ 10 ∷ with_feeds more
 -- the text of what stood before a line feed: without the carriage return at its end, where there is one
 abbrev pub IsTextOf : List ℕ → List ℕ → Type 0
 IsTextOf raw text = (raw ≡ text ++ 13 ∷ []) ⊎ ((raw ≡ text) × ((front : List ℕ) → ¬ (raw ≡ front ++ 13 ∷ [])))
+
+-- a comment, which nobody is to answer: it begins with # or ;
+abbrev pub is_comment : List ℕ → Bool
+is_comment [] = false
+is_comment (byte ∷ rest) = (byte == 35) || (byte == 59)
 
 -- ---- of a node
 
@@ -38,11 +45,12 @@ abbrev pub AreHeard : List (List ℕ) → List Line → Type 0
 AreHeard [] told = told ≡ []
 AreHeard (raw ∷ more) told = (own : List Line) × (rest : List Line) × (told ≡ own ++ rest) × IsFreeOf 10 raw × Adds raw own × AreHeard more rest
 
--- what came is whole lines and then what waits, and of the whole lines this is told
+-- what came is whole lines and then what waits, at most a beginning and a piece; and of the whole lines this is told
 pub record IsHeardOf (came waiting : List ℕ) (told : List Line) : Type 0 where
   pub raws : List (List ℕ)
   pub whole : came ≡ with_feeds raws ++ waiting
   pub heard : AreHeard raws told
+  pub few : length waiting ≤ 4097 + 512
 
 -- the lines that a node tells over its connection, after one event more
 abbrev pub told_by : ℕ → List Line → Event → List Line
@@ -62,33 +70,57 @@ told_over node events = told_behind node [] events
 
 -- ---- of the bot
 
--- the text is an answer to some line, and this is what it is mended to
-pub record IsMendedFrom (text said : List ℕ) : Type 0 where
+-- answers are mended by this game, the text is an answer to some line, and this is what it is mended to
+pub record IsMendedBy (mended : Option Game) (text said : List ℕ) : Type 0 where
   pub game : Game
+  pub by_it : mended ≡ Some game
   pub line : List ℕ
   pub field : List ℕ
   pub answer : text ≡ line ++ 58 ∷ field
-  pub mended : IsMendedAnswer game line field said
+  pub instead : IsMendedAnswer game line field said
 
--- what is said for the bot: the text of what came, or what that is mended to
-pub record IsSaidFor (raw said : List ℕ) : Type 0 where
+-- what is said for the bot: the text of what came, or where answers are mended what that is mended to
+pub record IsSaidFor (mended : Option Game) (raw said : List ℕ) : Type 0 where
   pub text : List ℕ
   pub is_text : IsTextOf raw text
-  pub meant : (said ≡ text) ⊎ IsMendedFrom text said
+  pub meant : (said ≡ text) ⊎ IsMendedBy mended text said
 
--- of each of these in order one text at most is said
-abbrev pub AreSaid : List (List ℕ) → List (List ℕ) → Type 0
-AreSaid [] said = said ≡ []
-AreSaid (raw ∷ more) said = (own : List (List ℕ)) × (rest : List (List ℕ)) × (said ≡ own ++ rest) × IsFreeOf 10 raw × ((own ≡ []) ⊎ ((one : List ℕ) × (own ≡ one ∷ []) × IsSaidFor raw one)) × AreSaid more rest
+-- a whole line that nobody is to hear: a comment, or one that is too long
+pub record IsPassedOver (raw : List ℕ) : Type 0 where
+  pub text : List ℕ
+  pub is_text : IsTextOf raw text
+  pub reason : (is_comment text ≡ true) ⊎ (4096 < length text)
 
--- what came is whole lines, then where a line is too long what was passed over of it, and then what waits
-pub record IsSaidOf (came waiting : List ℕ) (passes_over : Bool) (said : List (List ℕ)) : Type 0 where
+-- version 2.0 of the protocol, and a revision of 1 to 9 digits
+pub record IsVersion (text : List ℕ) : Type 0 where
+  pub revision : List ℕ
+  pub whole : text ≡ codes "VERSION:2.0." ++ revision
+  pub some : 0 < length revision
+  pub few : length revision ≤ 9
+  pub digits : list_all is_ascii_digit revision ≡ true
+
+-- what a whole line of the bot adds to what is said: before it has its seat, nothing; the line is passed over, or names the version, by which it gets the seat. Then a line is passed over, or what is said for it is said
+pub data AddsSaid (mended : Option Game) (raw : List ℕ) : Bool → Bool → List (List ℕ) → Type 0 where
+  passed : (seated : Bool) → IsPassedOver raw → AddsSaid mended raw seated seated []
+  greets : (text : List ℕ) → IsTextOf raw text → IsVersion text → AddsSaid mended raw false true []
+  says : (one : List ℕ) → ¬ IsPassedOver raw → IsSaidFor mended raw one → AddsSaid mended raw true true (one ∷ [])
+
+-- and what these lines in order add, to a bot that had its seat or hadn't, and has it now or hasn't
+abbrev pub AreSaid : Option Game → Bool → List (List ℕ) → Bool → List (List ℕ) → Type 0
+AreSaid mended old [] new said = (new ≡ old) × (said ≡ [])
+AreSaid mended old (raw ∷ more) new said =
+    (own : List (List ℕ)) × (rest : List (List ℕ)) × (middle : Bool) × (said ≡ own ++ rest) × IsFreeOf 10 raw × AddsSaid mended raw old middle own × AreSaid mended middle more new rest
+
+-- what came is whole lines, then where a line is too long what was passed over of it, and then what waits: at most a beginning and a piece
+pub record IsSaidOf (mended : Option Game) (came waiting : List ℕ) (passes_over is_seated : Bool) (said : List (List ℕ)) : Type 0 where
   pub raws : List (List ℕ)
   pub passed_over : List ℕ
   pub whole : came ≡ with_feeds raws ++ (passed_over ++ waiting)
   pub free : IsFreeOf 10 passed_over
   pub none : passes_over ≡ false → passed_over ≡ []
-  pub texts : AreSaid raws said
+  pub long : passes_over ≡ true → 4097 < length passed_over
+  pub texts : AreSaid mended false raws is_seated said
+  pub few : length waiting ≤ 4097 + 512
 
 -- what the bot says, text by text
 abbrev pub sayings_in : List Event → List (List ℕ)
@@ -101,7 +133,7 @@ sayings_in (Pushes other ∷ more) = sayings_in more
 
 -- ---- together
 
--- the machine was told what came: by each node to which a connection began the dealer's lines that came over it, and by the bot's own what it says
+-- the machine was told what came: by each node the dealer's lines that came over its connection, and by the bot's own what it says
 pub record IsHeard (desk : Desk) (passed : List Passage) : Type 0 where
-  pub nodes : (node : ℕ) → has_begun node desk.relay.events ≡ true → IsHeardOf (came_over passed (Peer node)) (waits_at desk.from_nodes.items node) (told_over node desk.relay.events)
-  pub bot : IsSaidOf (came_over passed (Seat 0)) desk.from_bot.waiting desk.passes_over (sayings_in desk.relay.events)
+  pub nodes : (node : ℕ) → IsHeardOf (came_over passed (Peer node)) (waits_at desk.from_nodes.items node) (told_over node desk.relay.events)
+  pub bot : IsSaidOf desk.mended (came_over passed (Seat 0)) desk.from_bot.waiting desk.passes_over desk.is_seated (sayings_in desk.relay.events)

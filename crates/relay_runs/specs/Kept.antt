@@ -1,15 +1,29 @@
--- What each call of a relay keeps: what was said is what its machine says, and what its machine was told is what came.
-use Rattle.std.specs.Prelude.{◌≡◌, List}
+-- What each call of a relay keeps.
+use Rattle.std.specs.Prelude.{◌≡◌, ◌⊎◌, ◌<◌, List, ◌++◌}
 use Rattle.node_wires.specs.Passages.{Passage}
+use Rattle.seat_relay.specs.Relaying.{Event}
 use Rattle.relay_runs.specs.declared.desk.Desk.{Desk}
-use Rattle.relay_runs.specs.Said.{IsSaid}
-use Rattle.relay_runs.specs.Heard.{IsHeard}
+use Rattle.relay_runs.specs.Since.{since_bot, bots_in}
+use Rattle.relay_runs.specs.Course.{Course}
 
--- what is said first stays, and both stay so
+-- no bot was taken in: what happened before stays, and more may have happened behind it
+pub record GoesOn (old new : Desk) (passed_old passed_new : List Passage) : Type 0 where
+  pub bots : bots_in passed_new ≡ bots_in passed_old
+  pub more : List Event
+  pub happened : new.relay.events ≡ old.relay.events ++ more
+
+-- a bot was taken in, and all that happened since is what passed since, whatever was before
+pub record BeginsAnew (new : Desk) (passed_old passed_new : List Passage) : Type 0 where
+  pub bots : bots_in passed_old < bots_in passed_new
+  pub course : Course new (since_bot passed_new)
+
+-- what is said first, and the game by which answers are mended, stay; where what happened since the bot was taken in was what passed since, it is so still; and what happened
+-- isn't changed, unless a bot is taken in
 pub record Keeps (old new : Desk) (passed_old passed_new : List Passage) : Type 0 where
   pub hello : new.hello.items ≡ old.hello.items
-  pub said : IsSaid old passed_old → IsSaid new passed_new
-  pub heard : IsHeard old passed_old → IsHeard new passed_new
+  pub mended : new.mended ≡ old.mended
+  pub course : Course old (since_bot passed_old) → Course new (since_bot passed_new)
+  pub grows : GoesOn old new passed_old passed_new ⊎ BeginsAnew new passed_old passed_new
 
 -- the same where nothing passes
 pub record Stays (old new : Desk) : Type 0 where

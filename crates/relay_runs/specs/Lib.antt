@@ -1,3 +1,9 @@
+pub mod Since
 pub mod Said
 pub mod Heard
+pub mod Own
+pub mod Few
+pub mod Meant
+pub mod Course
+pub mod Told
 pub mod Kept

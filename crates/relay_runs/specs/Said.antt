@@ -1,9 +1,10 @@
 -- What is said over the connections of a relay: to the bot the lines that it is given, to a node the first lines and then answers.
-use Rattle.std.specs.Prelude.{◌≡◌, ℕ, ◌==◌, ◌||◌, Bool, true, false, if◌then◌else◌, List, [], ◌∷◌, ◌++◌, get_or, codes, Option, Some, None}
+use Rattle.std.specs.Prelude.{◌≡◌, ◌⊎◌, ℕ, ◌≤◌, ◌==◌, ◌||◌, Bool, false, if◌then◌else◌, List, [], ◌∷◌, ◌++◌, length, get_or, codes, Option, Some, None}
 use Rattle.byte_queue.specs.Queued.{Queued}
+use Rattle.matchstate.specs.Free.{IsFreeOf}
 use Rattle.node_wires.specs.declared.line.Line.{Line as Wire}
 use Rattle.node_wires.specs.declared.line.Line.TheVariants.{Seat, Peer}
-use Rattle.node_wires.specs.Passages.{Passage, is_line, came_over, wrote_over}
+use Rattle.node_wires.specs.Passages.{Passage, Came, Wrote, wrote_over}
 use Rattle.seat_relay.specs.Relaying.{Line, Standing, Event, Begins, Ends, Tells, Says, Pushes, happens, answered, all_given}
 use Rattle.seat_relay.specs.Laws.{fresh}
 use Rattle.relay_runs.specs.declared.desk.Desk.{Desk}
@@ -66,27 +67,37 @@ nothing_waits = record { waiting = []; room = 0 }
 abbrev pub waits_at : List Queued → ℕ → List ℕ
 waits_at queues node = (get_or queues node nothing_waits).waiting
 
--- what was written to a node since its connection began, with what waits for it, is the first lines, and then the answers that were said to it
+-- nothing waits in any of these
+abbrev pub AreEmpty : List Queued → Type 0
+AreEmpty queues = (node : ℕ) → waits_at queues node ≡ []
+
+-- what is said first over the connection that a node has; nothing where it had none
+abbrev pub first_over : ℕ → Desk → List ℕ
+first_over node desk = if has_begun node desk.relay.events then desk.hello.items else []
+
+-- what was written to a node over its connection, with what waits for it, is the first lines, and then the answers that were said to it
 abbrev pub IsSaidTo : ℕ → Desk → List Passage → Type 0
 IsSaidTo node desk passed =
-    wrote_over passed (Peer node) ++ waits_at desk.to_nodes.items node ≡ desk.hello.items ++ bytes_of_answers (said_over desk.relay.nodes node desk.relay.events)
+    wrote_over passed (Peer node) ++ waits_at desk.to_nodes.items node ≡ first_over node desk ++ bytes_of_answers (said_over desk.relay.nodes node desk.relay.events)
 
--- what was written to the bot, with what waits for it, is the lines that it was given; and so it is of each node to which
--- a connection began
+-- what was written to the bot, with what waits for it, is the lines that it was given; and so it is of each node
 pub record IsSaid (desk : Desk) (passed : List Passage) : Type 0 where
   pub bot : wrote_over passed (Seat 0) ++ desk.to_bot.waiting ≡ bytes_of_lines (all_given None desk.relay.events)
-  pub nodes : (node : ℕ) → has_begun node desk.relay.events ≡ true → IsSaidTo node desk passed
+  pub nodes : (node : ℕ) → IsSaidTo node desk passed
 
--- of what waits for a line, so much is written to it and no longer waits; nothing is written to another, and nothing came
-pub record Writes (line : Wire) (old new : List ℕ) (passed_old passed_new : List Passage) : Type 0 where
-  pub said : wrote_over passed_new line ++ new ≡ wrote_over passed_old line ++ old
-  pub others : (other : Wire) → is_line line other ≡ false → wrote_over passed_new other ≡ wrote_over passed_old other
-  pub came : (other : Wire) → came_over passed_new other ≡ came_over passed_old other
+-- ---- one call of a wire
 
--- a piece came over a line, or none: it stands behind what waits of that line. Nothing came over another, and nothing was written
-pub record Reads (line : Wire) (old new : List ℕ) (passed_old passed_new : List Passage) : Type 0 where
-  pub piece : List ℕ
-  pub behind : new ≡ old ++ piece
-  pub came : came_over passed_new line ≡ came_over passed_old line ++ piece
-  pub others : (other : Wire) → is_line line other ≡ false → came_over passed_new other ≡ came_over passed_old other
-  pub wrote : (other : Wire) → wrote_over passed_new other ≡ wrote_over passed_old other
+-- a piece of what waits for a line is written to it, and waits no longer; or nothing is
+abbrev pub Writes : Wire → List ℕ → List ℕ → List Passage → List Passage → Type 0
+Writes line old new passed_old passed_new =
+    ((piece : List ℕ) × (old ≡ piece ++ new) × (passed_new ≡ passed_old ++ Wrote line piece ∷ [])) ⊎ ((new ≡ old) × (passed_new ≡ passed_old))
+
+-- what came is the beginning of one line: no line feed, and no more bytes than one with a carriage return may have
+pub record IsBeginning (came : List ℕ) : Type 0 where
+  pub free : IsFreeOf 10 came
+  pub short : length came ≤ 4097
+
+-- where only the beginning of a line waits a piece of at most 512 bytes came over a line, and stands behind what waits of that line; or none did
+abbrev pub Reads : Wire → List ℕ → List ℕ → List Passage → List Passage → Type 0
+Reads line old new passed_old passed_new =
+    ((piece : List ℕ) × (new ≡ old ++ piece) × (passed_new ≡ passed_old ++ Came line piece ∷ []) × IsBeginning old × (length piece ≤ 512)) ⊎ ((new ≡ old) × (passed_new ≡ passed_old))

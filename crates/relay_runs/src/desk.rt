@@ -1,20 +1,22 @@
 //! What a relay knows, and what waits to be written over each connection.
 
-ghost use Rattle.std.specs.Prelude.{◌≡◌, ◌+◌, ◌≤◌, ◌++◌, [], length, option_map, IfOk, List};
+ghost use Rattle.std.specs.Prelude.{◌≡◌, false, ◌+◌, ◌≤◌, ◌++◌, [], length, option_map, IfOk};
 ghost use Rattle.matchstate.specs.Free.{IsFreeOf};
-ghost use Rattle.node_wires.specs.Passages.{Passage, came_over, wrote_over};
-ghost use Rattle.node_wires.specs.declared.line.Line.TheVariants.{Seat};
-ghost use Rattle.relay_runs.specs.Said.{ended, hello_of, Reads, Writes, IsSaid};
-ghost use Rattle.relay_runs.specs.Heard.{IsHeard};
+ghost use Rattle.seat_relay.specs.Relaying.{with_event, Ends};
+ghost use Rattle.relay_runs.specs.Said.{ended, hello_of, AreEmpty, Reads, Writes};
+ghost use Rattle.relay_runs.specs.Course.{Course};
+ghost use Rattle.relay_runs.specs.Own.{was_dialled, IsNoneDialled};
 ghost use Rattle.relay_runs.specs.Kept.{Keeps, Stays};
 
-use crate::limits::{LONGEST_LINE, PIECE};
-use crate::line_reader::{begins_too_long, is_comment, text_of};
+use crate::limits::{BACKLOG, LONGEST_LINE};
+use crate::line_reader::{begins_too_long, is_comment, is_version, text_of};
+use crate::pieces::{Unread, read_into, write_some};
+use crate::queues::{empty_queues, none_dialled, put_line};
 use crate::saying::{Saying, meant_by, said_for};
 use byte_queue::ByteQueue;
 use game_def::GameDef;
 use matchstate::cut;
-use node_wires::{Halt, Line, Wire, WireFault};
+use node_wires::{Line, Wire, WireFault};
 use seat_relay::{Relay, place_of};
 use std::alloc::{AllocError, Global};
 
@@ -36,17 +38,8 @@ pub(crate) enum Taken {
     NotLine,
     /// A line that is too long. It stays in front.
     TooLong,
-}
-
-/// Why nothing was read.
-#[derive(Clone, Copy, Debug, PartialEq, Eq)]
-pub(crate) enum Unread {
-    /// Nothing is there.
-    Later,
-    /// The connection ended.
-    Ended,
-    /// Memory was refused.
-    OutOfMemory,
+    /// A dealer's line that can't be told while so much waits for the bot. It stays in front.
+    Held,
 }
 
 /// The relay's machine with the connections that it speaks of: what came from the bot and from each node and isn't taken line
@@ -65,6 +58,14 @@ pub(crate) struct Desk {
     to_nodes: Vec<ByteQueue>,
     /// What is said first over each connection to a node.
     hello: Vec<u8>,
+    /// The game by which wrong answers are mended, if they are.
+    mended: Option<GameDef>,
+    /// Of each node, by its number: whether it was dialled since the bot was taken in.
+    dialled: Vec<bool>,
+    /// Whether a bot was taken in whose connection the relay didn't end.
+    has_bot: bool,
+    /// Whether the bot that was taken in last has named the version: it has its seat.
+    is_seated: bool,
 }
 
 /// The lines that are said first: the token's, where there is one, and the version's.
@@ -81,24 +82,6 @@ fn hello_of(alloc: Global, token: Option<&[u8]>) -> Result<Vec<u8>, AllocError>
     Ok(hello)
 }
 
-/// So many queues with nothing in them.
-fn empty_queues(alloc: Global, count: u8) -> Result<Vec<ByteQueue>, AllocError> {
-    let mut queues = Vec::with_capacity(alloc, count as usize)?;
-    for _ in 0..count {
-        queues.push(ByteQueue::new(alloc))?;
-    }
-    Ok(queues)
-}
-
-/// Puts a line with CR LF behind what waits, for which there is room.
-fn put_line(waiting: &mut ByteQueue, line: &[u8])
-    requires { length line.now + 2 ≤ waiting.old.room }
-    ensures { waiting.new.waiting ≡ waiting.old.waiting ++ ended line.now }
-{
-    waiting.push_reserved(line);
-    waiting.push_reserved(b"\r\n");
-}
-
 /// What a beginning without a line feed is.
 fn unended(came: &[u8]) -> Taken {
     if begins_too_long(came) {
@@ -108,101 +91,69 @@ fn unended(came: &[u8]) -> Taken {
     }
 }
 
-/// Reads the next piece that came over a line, behind what came before.
-#[tactic(auto, using(crate::proofs::Writing::nothing_read, crate::proofs::Writing::some_read))]
-fn read_into<W: Wire>(came: &mut ByteQueue, wire: &mut W, line: Line) -> Result<(), Unread>
-    ensures { Reads line came.old.waiting came.new.waiting (W.passed wire.old) (W.passed wire.new) }
-{
-    if came.reserve(PIECE).is_err() {
-        return Err(Unread::OutOfMemory);
-    }
-    let mut piece = [0; PIECE];
-    match wire.read(line, &mut piece) {
-        Ok(count) => {
-            came.push_reserved(&piece[..count]);
-            Ok(())
-        }
-        Err(Halt::Later) => Err(Unread::Later),
-        Err(Halt::Ended) => Err(Unread::Ended),
-    }
-}
-
-/// Where nothing was written the connection goes on, and no more is to be written now.
-fn unless_written(count: usize) -> Option<bool> {
-    if count == 0 { Some(true) } else { None }
-}
-
-/// Writes what there is room for of what waits for a line. `None` where more may be written; else whether the connection
-/// goes on.
-#[tactic(auto, using(crate::proofs::Writing::nothing_written, crate::proofs::Writing::some_written))]
-fn write_some<W: Wire>(waiting: &mut ByteQueue, wire: &mut W, line: Line) -> Option<bool>
-    ensures { Writes line waiting.old.waiting waiting.new.waiting (W.passed wire.old) (W.passed wire.new) }
-{
-    let bytes = waiting.waiting();
-    if bytes.is_empty() {
-        return Some(true);
-    }
-    match wire.write(line, bytes) {
-        Ok(count) => {
-            waiting.skip(count);
-            unless_written(count)
-        }
-        Err(Halt::Later) => Some(true),
-        Err(Halt::Ended) => Some(false),
-    }
-}
-
-/// Writes what waits for a line. False where its connection ended.
-#[tactic(auto, using(crate::proofs::Writing::nothing_written, crate::proofs::Writing::written_on))]
-fn flush<W: Wire>(waiting: &mut ByteQueue, wire: &mut W, line: Line) -> bool
-    ensures { Writes line waiting.old.waiting waiting.new.waiting (W.passed wire.old) (W.passed wire.new) }
-{
-    for _ in 0..u64::MAX {
-        if let Some(goes_on) = write_some(waiting, wire, line) {
-            return goes_on;
-        }
-    }
-    true
-}
-
+#[tactic(auto, using(crate::proofs::Keeping::kept_same, crate::proofs::Keeping::kept_alike, crate::proofs::Keeping::stays_same, crate::proofs::Keeping::stays_alike))]
 impl Desk {
     /// The desk of a relay for so many nodes, to which nobody came.
-    pub(crate) fn new(alloc: Global, nodes: u8, token: Option<&[u8]>) -> Result<Desk, AllocError>
+    pub(crate) fn new(
+        alloc: Global,
+        nodes: u8,
+        token: Option<&[u8]>,
+        mended: Option<GameDef>,
+    ) -> Result<Desk, AllocError>
         ensures hello { IfOk result (λ desk. desk.hello.items ≡ hello_of (option_map (λ t. t.now) token.entry)) }
-        ensures said { IfOk result (λ desk. (passed : List Passage) → wrote_over passed (Seat 0) ≡ [] → IsSaid desk passed) }
-        ensures heard { IfOk result (λ desk. (passed : List Passage) → came_over passed (Seat 0) ≡ [] → IsHeard desk passed) }
+        ensures mended { IfOk result (λ desk. desk.mended ≡ mended) }
+        ensures course { IfOk result (λ desk. Course desk []) }
     {
+        let nodes = nodes as usize;
         Ok(Desk {
             alloc,
-            relay: Relay::new(alloc, nodes as usize)?,
+            relay: Relay::new(alloc, nodes)?,
             from_bot: ByteQueue::new(alloc),
             passes_over: false,
             from_nodes: empty_queues(alloc, nodes)?,
             to_bot: ByteQueue::new(alloc),
             to_nodes: empty_queues(alloc, nodes)?,
             hello: hello_of(alloc, token)?,
+            mended,
+            dialled: none_dialled(alloc, nodes)?,
+            has_bot: false,
+            is_seated: false,
         })
     }
 
-    /// Takes in a bot, if one came, in place of the one before: nothing was given to it yet.
+    /// Takes in a bot, if one came, where none is there: nothing was given to it yet, and nothing is left of what came before
+    /// it.
     pub(crate) fn take_in<W: Wire>(&mut self, wire: &mut W) -> Result<bool, AllocError>
+        requires { self.old.has_bot ≡ false }
         ensures { Keeps self.old self.new (W.passed wire.old) (W.passed wire.new) }
     {
-        let relay = Relay::new(self.alloc, self.to_nodes.len())?;
+        let nodes = self.to_nodes.len();
+        let relay = Relay::new(self.alloc, nodes)?;
+        let from_nodes = empty_queues(self.alloc, nodes)?;
+        let to_nodes = empty_queues(self.alloc, nodes)?;
+        let dialled = none_dialled(self.alloc, nodes)?;
         if !wire.accept_seat(0) {
             return Ok(false);
         }
         self.relay = relay;
         self.from_bot.clear();
         self.passes_over = false;
+        self.from_nodes = from_nodes;
         self.to_bot.clear();
+        self.to_nodes = to_nodes;
+        self.dialled = dialled;
+        self.has_bot = true;
+        self.is_seated = false;
         Ok(true)
     }
 
-    /// Dials a node, and says the first lines over the connection that begins.
+    /// Dials a node, where the bot has its seat, and says the first lines over the connection that begins.
     pub(crate) fn dial<W: Wire>(&mut self, wire: &mut W, node: u8) -> Result<(), WireFault>
         ensures { Keeps self.old self.new (W.passed wire.old) (W.passed wire.new) }
     {
+        if !self.is_seated || node as usize >= self.dialled.len() {
+            return Err(WireFault::Failed);
+        }
         let Some(waiting) = self.to_nodes.get_mut(node as usize) else {
             return Err(WireFault::Failed);
         };
@@ -213,6 +164,7 @@ impl Desk {
             return Err(WireFault::OutOfMemory);
         }
         wire.dial(node)?;
+        self.dialled[node as usize] = true;
         came.clear();
         waiting.clear();
         waiting.push_reserved(&self.hello);
@@ -221,9 +173,10 @@ impl Desk {
         Ok(())
     }
 
-    /// Ends the connection to a node.
+    /// Ends the connection to a node, which the machine is told of this node and of no other.
     pub(crate) fn hang_up<W: Wire>(&mut self, wire: &mut W, node: u8)
-        ensures { Keeps self.old self.new (W.passed wire.old) (W.passed wire.new) }
+        ensures keeps { Keeps self.old self.new (W.passed wire.old) (W.passed wire.new) }
+        ensures told { self.new.relay ≡ with_event self.old.relay (Ends node) }
     {
         wire.close(Line::Peer(node));
         self.relay.follows_events();
@@ -235,10 +188,23 @@ impl Desk {
         ensures { Keeps self.old self.new (W.passed wire.old) (W.passed wire.new) }
     {
         wire.close(BOT);
+        self.has_bot = false;
+    }
+
+    /// Whether a bot was taken in whose connection the relay didn't end.
+    pub(crate) fn has_bot(&self) -> bool
+        ensures { result ≡ self.now.has_bot }
+    {
+        self.has_bot
+    }
+
+    /// Whether a bot is there that has its seat.
+    pub(crate) fn is_seated(&self) -> bool {
+        self.has_bot && self.is_seated
     }
 
     /// Takes the next line that came from a node. A dealer's line is told to the machine, which says whether the bot is given
-    /// it.
+    /// it; none is told while 64 KiB wait for the bot.
     pub(crate) fn take_line(&mut self, node: u8) -> Result<Taken, AllocError>
         ensures { Stays self.old self.new }
     {
@@ -260,6 +226,9 @@ impl Desk {
             came.skip(count);
             return Ok(Taken::Comment);
         };
+        if self.to_bot.waiting().len() >= BACKLOG {
+            return Ok(Taken::Held);
+        }
         self.to_bot.reserve(text.len().saturating_add(2))?;
         self.relay.follows_events();
         let given = self.relay.tells(node as usize, text, place)?;
@@ -272,13 +241,9 @@ impl Desk {
         Ok(Taken::Told)
     }
 
-    /// Takes the next line that came from the bot. Once it has its seat, what is no comment is said to the machine: its text, or
-    /// what that is mended to by a game.
-    pub(crate) fn take_saying(
-        &mut self,
-        is_seated: bool,
-        game: Option<&GameDef>,
-    ) -> Result<Saying, AllocError>
+    /// Takes the next line that came from the bot. What is no comment, and not too long, is first the version that it names,
+    /// by which it gets its seat; and then it is said to the machine: its text, or what that is mended to.
+    pub(crate) fn take_saying(&mut self) -> Result<Saying, AllocError>
         ensures { Stays self.old self.new }
     {
         let Some((raw, _)) = cut(self.from_bot.waiting(), b'\n') else {
@@ -296,15 +261,19 @@ impl Desk {
             return Ok(Saying::TooLong);
         }
         let copy = Vec::from_slice(self.alloc, text)?;
-        if !is_seated {
-            self.from_bot.skip(count);
-            return Ok(Saying::Text(copy));
-        }
         if is_comment(text) {
             self.from_bot.skip(count);
-            return Ok(Saying::Text(copy));
+            return Ok(Saying::Comment(copy));
         }
-        let instead = meant_by(self.alloc, self.relay.last(), text, game)?;
+        if !self.is_seated {
+            if !is_version(text) {
+                return Ok(Saying::WrongVersion(copy));
+            }
+            self.from_bot.skip(count);
+            self.is_seated = true;
+            return Ok(Saying::Version(copy));
+        }
+        let instead = meant_by(self.alloc, self.relay.last(), text, &self.mended)?;
         self.relay.follows_events();
         let kept = self.relay.says(said_for(text, &instead))?;
         self.from_bot.skip(count);
@@ -358,10 +327,23 @@ impl Desk {
         Ok(false)
     }
 
-    /// Reads what came from a node.
+    /// Whether a node was dialled since the bot was taken in.
+    fn was_dialled(&self, node: u8) -> bool
+        ensures { result ≡ was_dialled self.now.dialled.items node }
+    {
+        match self.dialled.get(node as usize) {
+            Some(is) => *is,
+            None => false,
+        }
+    }
+
+    /// Reads what came from a node that was dialled since the bot was taken in.
     pub(crate) fn read_node<W: Wire>(&mut self, wire: &mut W, node: u8) -> Result<(), Unread>
         ensures { Keeps self.old self.new (W.passed wire.old) (W.passed wire.new) }
     {
+        if !self.was_dialled(node) {
+            return Err(Unread::Later);
+        }
         match self.from_nodes.get_mut(node as usize) {
             Some(came) => read_into(came, wire, Line::Peer(node)),
             None => Err(Unread::Later),
@@ -376,19 +358,50 @@ impl Desk {
     }
 
     /// Writes what waits for the bot. False where its connection ended.
+    #[tactic(auto, using(crate::proofs::Keeping::kept_on, crate::proofs::Keeping::kept_same))]
     pub(crate) fn write_to_bot<W: Wire>(&mut self, wire: &mut W) -> bool
         ensures { Keeps self.old self.new (W.passed wire.old) (W.passed wire.new) }
     {
-        flush(&mut self.to_bot, wire, BOT)
+        for _ in 0..u64::MAX {
+            if let Some(goes_on) = self.write_some_to_bot(wire) {
+                return goes_on;
+            }
+        }
+        true
+    }
+
+    /// Writes what there is room for of what waits for the bot. `None` where more may be written; else whether the connection
+    /// goes on.
+    fn write_some_to_bot<W: Wire>(&mut self, wire: &mut W) -> Option<bool>
+        ensures { Keeps self.old self.new (W.passed wire.old) (W.passed wire.new) }
+    {
+        write_some(&mut self.to_bot, wire, BOT)
     }
 
     /// Writes what waits for a node. False where its connection ended.
+    #[tactic(auto, using(crate::proofs::Keeping::kept_on, crate::proofs::Keeping::kept_same))]
     pub(crate) fn write_to_node<W: Wire>(&mut self, wire: &mut W, node: u8) -> bool
         ensures { Keeps self.old self.new (W.passed wire.old) (W.passed wire.new) }
     {
+        for _ in 0..u64::MAX {
+            if let Some(goes_on) = self.write_some_to_node(wire, node) {
+                return goes_on;
+            }
+        }
+        true
+    }
+
+    /// Writes what there is room for of what waits for a node that was dialled since the bot was taken in. `None` where
+    /// more may be written; else whether the connection goes on.
+    fn write_some_to_node<W: Wire>(&mut self, wire: &mut W, node: u8) -> Option<bool>
+        ensures { Keeps self.old self.new (W.passed wire.old) (W.passed wire.new) }
+    {
+        if !self.was_dialled(node) {
+            return Some(true);
+        }
         match self.to_nodes.get_mut(node as usize) {
-            Some(waiting) => flush(waiting, wire, Line::Peer(node)),
-            None => true,
+            Some(waiting) => write_some(waiting, wire, Line::Peer(node)),
+            None => Some(true),
         }
     }
 

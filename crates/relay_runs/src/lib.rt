@@ -2,21 +2,26 @@
 //!
 //! `RelayServer::new` takes what it is to go by (`Terms`); then `turn` again and again, until it answers why the relay ends
 //! (`RelayEnd`). A turn waits once, takes in a bot where none is there, reads what came, gives each line to the machine of
-//! `seat_relay`, does what that answers, and writes. Between turns `take_notice` tells what a note is to be made of, and
+//! `seat_relay`, does what that answers, and writes. Between turns `take_notices` tells what notes are to be made of, and
 //! `trace` has the lines to and from the bot.
 //!
-//! Over the wires line `Seat(0)` is the bot, and `Peer(n)` node n. What waits is bounded, whatever a bot or a node says: 64
-//! KiB for the bot, one answer for each node, one line of 4096 bytes that isn't whole yet.
+//! Over the wires line `Seat(0)` is the bot, and `Peer(n)` node n. What waits is kept small: for the bot 64 KiB and a line, for a
+//! node the end of the first lines or of one answer, and of what came over each connection the beginning of a line and a piece.
 #![tactic(auto)]
 
 mod answering;
 mod bot;
+mod bot_side;
 mod desk;
 mod holding;
+pub mod laws;
 mod limits;
 mod line_reader;
 mod node_state;
+mod nodes_side;
 mod notice;
+mod pieces;
+mod queues;
 mod relay_end;
 mod saying;
 mod server;

@@ -1,7 +1,8 @@
 //! What the bot says in a line, and what is said for it.
 
-ghost use Rattle.std.specs.Prelude.{◌≡◌, ◌⊎◌, ◌∷◌, ◌++◌, IfOk, IfSome};
-ghost use Rattle.relay_runs.specs.Heard.{IsMendedFrom};
+ghost use Rattle.std.specs.Prelude.{◌≡◌, ℕ, List, ◌∷◌, ◌++◌, option_map, IfOk, IfSome, IsSomeAnd, IsNone};
+ghost use Rattle.relay_runs.specs.Heard.{IsMendedBy};
+ghost use Rattle.relay_runs.specs.Meant.{IsRight};
 
 use game_def::GameDef;
 use seat_relay::mended_answer;
@@ -16,8 +17,12 @@ pub(crate) enum Saying {
     TooLong,
     /// The rest of such a line.
     Rest,
-    /// A comment, or what the bot says before it has its seat.
-    Text(Vec<u8>),
+    /// A comment.
+    Comment(Vec<u8>),
+    /// The version that it names, by which it gets its seat.
+    Version(Vec<u8>),
+    /// What it says instead of its version. It stays in front.
+    WrongVersion(Vec<u8>),
     /// What was said to the relay's machine: this text, or another instead. It was kept, if it is an answer to the newest line.
     Said {
         text: Vec<u8>,
@@ -28,14 +33,16 @@ pub(crate) enum Saying {
 
 /// What stands behind a line in a text that begins with it.
 fn rest_behind<'a>(text: &'a [u8], line: &[u8]) -> Option<&'a [u8]>
-    ensures { IfSome result (λ rest. text.now ≡ line.now ++ rest.now) }
+    ensures found { IfSome result (λ rest. text.now ≡ line.now ++ rest.now) }
+    ensures only { (rest : List ℕ) → text.now ≡ line.now ++ rest → IsSomeAnd result (λ found. found.now ≡ rest) }
 {
     text.strip_prefix(line)
 }
 
 /// What stands behind a line and a colon in a text that begins with them.
 fn field_behind<'a>(text: &'a [u8], line: &[u8]) -> Option<&'a [u8]>
-    ensures { IfSome result (λ field. text.now ≡ line.now ++ 58 ∷ field.now) }
+    ensures found { IfSome result (λ field. text.now ≡ line.now ++ 58 ∷ field.now) }
+    ensures only { (field : List ℕ) → text.now ≡ line.now ++ 58 ∷ field → IsSomeAnd result (λ found. found.now ≡ field) }
 {
     match rest_behind(text, line)? {
         [b':', field @ ..] => Some(field),
@@ -45,8 +52,8 @@ fn field_behind<'a>(text: &'a [u8], line: &[u8]) -> Option<&'a [u8]>
 
 /// What is said for the bot: its text, or another instead.
 pub(crate) fn said_for<'a>(text: &'a [u8], instead: &'a Option<Vec<u8>>) -> &'a [u8]
-    requires { IfSome instead.now (λ other. IsMendedFrom text.now other.items) }
-    ensures { (result.now ≡ text.now) ⊎ IsMendedFrom text.now result.now }
+    ensures own { IsNone instead.now → result.now ≡ text.now }
+    ensures other { IfSome instead.now (λ other. result.now ≡ other.items) }
 {
     match instead {
         Some(other) => other,
@@ -60,11 +67,12 @@ pub(crate) fn meant_by(
     alloc: Global,
     last: Option<&[u8]>,
     text: &[u8],
-    game: Option<&GameDef>,
+    mended: &Option<GameDef>,
 ) -> Result<Option<Vec<u8>>, AllocError>
-    ensures { IfOk result (λ found. IfSome found (λ said. IsMendedFrom text.now said.items)) }
+    ensures some { IfOk result (λ found. IfSome found (λ said. IsMendedBy mended.now text.now said.items)) }
+    ensures none { IfOk result (λ found. IsNone found → IsRight mended.now (option_map (λ line. line.now) last.entry) text.now) }
 {
-    let (Some(game), Some(last)) = (game, last) else {
+    let (Some(game), Some(last)) = (mended, last) else {
         return Ok(None);
     };
     let Some(field) = field_behind(text, last) else {

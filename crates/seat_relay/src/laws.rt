@@ -33,7 +33,7 @@ pub fn dealers_lines_ascend()
 {}
 
 /// Where each node tells lines of one sequential dealer, over each connection without a gap from the line on that the bot
-/// was given last when it began, or from an earlier one, the bot is given a beginning of that dealer's lines.
+/// was given last when its first line came, or from an earlier one, the bot is given a beginning of that dealer's lines.
 pub fn bots_are_given_one_dealers_lines()
     ensures { BotsAreGivenOneDealersLines }
 {}

@@ -117,11 +117,14 @@ pub fn mended(field: &[u8], play: &Play) -> Action
 fn play_to_answer(line: &[u8], game: &GameDef) -> Option<Play>
     ensures game { IfSome result (λ play. play.game ≡ game.now) }
     ensures turn { IfSome result (λ play. IsToAnswer game.now line.now play.past) }
+    ensures only { (past : List Act) → IsToAnswer game.now line.now past → IsSome result }
 {
     let fields = fields_of(line)?;
-    let position = read_number(fields.position)?;
     let play = read_betting(fields.betting, game)?;
-    if play.to_act()? == position as usize {
+    let turn = play.to_act()?;
+    game.limits();
+    let position = read_number(fields.position)?;
+    if turn == position as usize {
         Some(play)
     } else {
         None
@@ -163,7 +166,8 @@ pub fn mended_answer(
     field: &[u8],
     game: &GameDef,
 ) -> Result<Option<Vec<u8>>, AllocError>
-    ensures { IfOk result (λ found. IfSome found (λ answer. IsMendedAnswer game.now line.now field.now answer.items)) }
+    ensures mended { IfOk result (λ found. IfSome found (λ answer. IsMendedAnswer game.now line.now field.now answer.items)) }
+    ensures only { IfOk result (λ found. (past : List Act) → IsToAnswer game.now line.now past → IsSome found) }
 {
     let Some(play) = play_to_answer(line, game) else {
         return Ok(None);

@@ -1,7 +1,5 @@
-use Rattle.std.proofs.Common.{◌≡◌, ◌≤◌, length, ap, sym, arith}
-use Rattle.game_def.specs.Game.{IsGame}
+use Rattle.std.proofs.Common.{length, ap, sym, arith}
 use Rattle.matchstate.specs.Line.{IsLine, line_text}
-use Rattle.matchstate.specs.View.{View, IsView}
 use Rattle.seat_relay.proofs.laws.lines_of_views_are_placed.Goals as goal
 
 pub returns : goal.returns

@@ -4,8 +4,8 @@ use Rattle.game_def.specs.Game.{Game}
 use Rattle.seat_relay.specs.Mending.{read_part, IsMended}
 use Rattle.seat_relay.proofs.mending.mended_answer.Goals as goal
 
-pub returns : goal.returns
-returns c =
+pub returns-clause-mended : goal.returns-clause-mended
+returns-clause-mended c =
     let game : Game = c.args.game.now in
     let read : IsMended c.in-Some.play.game (turns c.in-Some.play.game c.in-Some.play.past) (read_part game c.args.field.now) c.mended-action.result =
     subst (λ (part : List ℕ). IsMended c.in-Some.play.game (turns c.in-Some.play.game c.in-Some.play.past) part c.mended-action.result) c.read_part.ensures c.mended-action.ensures in

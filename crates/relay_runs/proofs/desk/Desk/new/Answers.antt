@@ -1,7 +1,8 @@
 use Rattle.std.proofs.Common.{refl, ap}
 use Rattle.seat_relay.specs.Relaying.{Story}
-use Rattle.relay_runs.proofs.Hearing.{heard_fresh}
+use Rattle.relay_runs.proofs.Keeping.{course_begins}
 use Rattle.relay_runs.proofs.desk.Desk.new.Goals as goal
 
-pub returns-clause-heard : goal.returns-clause-heard
-returns-clause-heard c = λ passed none. heard_fresh _ passed (ap (λ (r : Story). r.events) c.in_ok-new.ensures) c.new-2.ensures refl none
+pub returns-clause-course : goal.returns-clause-course
+returns-clause-course c =
+    course_begins _ (ap (λ (r : Story). r.events) c.in_ok-new.ensures) c.new-2.ensures refl refl c.new-3.ensures c.in_ok-empty_queues.ensures c.in_ok-empty_queues-2.ensures c.in_ok-none_dialled.ensures

@@ -4,8 +4,7 @@ use Rattle.std.proofs.lemmas.List.{get_or_default}
 use Rattle.byte_queue.specs.Queued.{Queued}
 use Rattle.relay_runs.specs.Said.{nothing_waits, waits_at}
 use Rattle.relay_runs.proofs.Writing.{reads_as}
-use Rattle.relay_runs.proofs.Hearing.{heard_read_node}
-use Rattle.relay_runs.proofs.Keeping.{kept_read}
+use Rattle.relay_runs.proofs.Keeping.{kept_read_node}
 use Rattle.relay_runs.proofs.desk.Desk.read_node.Goals as goal
 
 pub returns-in-Some : goal.returns-in-Some
@@ -13,4 +12,4 @@ returns-in-Some g c =
     let within : c.args.node < length c.args.self.now.from_nodes.items = grind (arith, common_steps) in
     let slot : c.in-Some.came.now ≡ get_or c.args.self.now.from_nodes.items c.args.node nothing_waits = c.in-Some.ensures.value ∙ get_or_default c.args.self.now.from_nodes.items c.args.node c.in-Some.came.now nothing_waits within in
     let waited : waits_at c.args.self.now.from_nodes.items c.args.node ≡ c.in-Some.came.now.waiting = ap (λ (q : Queued). q.waiting) (sym slot) in
-    kept_read _ _ _ _ _ _ _ refl refl refl refl c.read_into.ensures (heard_read_node _ _ _ _ c.args.node c.read_into.new.came refl refl within refl refl (reads_as _ _ _ _ _ _ waited c.read_into.ensures))
+    kept_read_node _ _ _ _ c.args.node c.read_into.new.came (sym c.was_dialled.ensures ∙ c.if-not-was_dialled.false) refl refl refl refl refl refl refl within refl refl refl (reads_as _ _ _ _ _ _ waited c.read_into.ensures)
