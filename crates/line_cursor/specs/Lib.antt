@@ -1,0 +1,5 @@
+pub mod Past
+pub mod Cursors
+pub mod Naming
+pub mod Laws
+pub mod Telling

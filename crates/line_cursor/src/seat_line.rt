@@ -1,0 +1,178 @@
+ghost use Rattle.std.specs.Prelude.{◌≡◌, ◌+◌, ◌*◌, ◌<◌, ◌≤◌, ◌++◌, ◌∷◌, [], if◌then◌else◌, take, length, decimal};
+ghost use Rattle.card_core.specs.Deal.{IsDeal, hole_of, player_count};
+ghost use Rattle.matchstate.specs.Cards.{cards_text, holes_text, board_text, holes_seen, boards_of};
+ghost use Rattle.matchstate.specs.SeenCards.{separator};
+ghost use Rattle.matchstate.specs.Line.{line_text};
+ghost use Rattle.matchstate.specs.View.{is_showdown, sees, rounds_seen, view_of};
+
+use betting::Play;
+use card_core::{Card, Deal};
+use itoa::Buffer;
+use matchstate::{BettingText, MOST_LINE};
+use std::marker::Model;
+
+/// A line of the dealer to a seat, without a line end, as the ACPC protocol 2.0.0 writes it. It takes no memory.
+///
+/// Contracts see its bytes.
+#[derive(Debug, Drop)]
+pub struct SeatLine {
+    bytes: [u8; MOST_LINE],
+    len: usize,
+}
+
+impl Model for SeatLine {
+    ghost use Rattle.std.specs.Prelude.{List, ℕ, take, ◌≤◌};
+
+    ghost Value = { List ℕ };
+
+    ghost view = { λ d. take d.len d.bytes };
+
+    ghost invariant = { λ d. d.len ≤ 4096 };
+}
+
+impl SeatLine {
+    /// The bytes, at most 4096.
+    pub fn as_bytes(&self) -> &[u8]
+        ensures value { result.now ≡ self.now }
+        ensures most { length self.now ≤ 4096 }
+    {
+        &self.bytes[..self.len]
+    }
+
+    /// The line of what the player at a position sees of a hand after the actions of a play.
+    pub(crate) fn of(position: usize, hand: u32, deal: &Deal, play: &Play) -> SeatLine
+        requires few { play.now.game.players ≤ 10 }
+        requires below { position < play.now.game.players }
+        requires dealt { IsDeal play.now.game.players deal.now }
+        ensures { result ≡ line_text (view_of play.now.game position hand (record { deal = deal.now; past = play.now.past })) }
+    {
+        let mut line = SeatLine::new();
+        line.put(b"MATCHSTATE:");
+        line.put_number(position as u32);
+        line.put(b":");
+        line.put_number(hand);
+        line.put(b":");
+        line.put(BettingText::of(play).as_bytes());
+        line.put(b":");
+        line.put_holes(deal, play, position);
+        line.put_board(deal, play.round());
+        line
+    }
+
+    /// No bytes yet.
+    fn new() -> SeatLine
+        ensures { result ≡ [] }
+    {
+        SeatLine {
+            bytes: [0; MOST_LINE],
+            len: 0,
+        }
+    }
+
+    /// Appends the hole cards by position, with `|` between them, none where they aren't seen.
+    fn put_holes(&mut self, deal: &Deal, play: &Play, viewer: usize)
+        requires dealt { IsDeal play.now.game.players deal.now }
+        requires room { length self.old + 50 ≤ 4096 }
+        ensures text { self.new ≡ self.old ++ holes_text (holes_seen play.now.game.players (sees play.now.game play.now.past viewer) deal.now) }
+        ensures len { length self.new ≤ length self.old + 50 }
+    {
+        for position in 0..play.players() {
+            self.put_separator(position);
+            self.put_hole(deal, position, is_in_sight(play, viewer, position));
+        }
+    }
+
+    /// Appends what comes before the hole cards of a position: `|`, but nothing before the first.
+    fn put_separator(&mut self, position: usize)
+        requires { length self.old + 1 ≤ 4096 }
+        ensures text { self.new ≡ self.old ++ separator position }
+        ensures len { length self.new ≤ length self.old + 1 }
+    {
+        if position > 0 {
+            self.put(b"|");
+        }
+    }
+
+    /// Appends the hole cards of a position where they are seen.
+    fn put_hole(&mut self, deal: &Deal, position: usize, is_seen: bool)
+        requires position { position < player_count deal.now }
+        requires room { length self.old + 4 ≤ 4096 }
+        ensures text { self.new ≡ self.old ++ cards_text (if is_seen then hole_of deal.now position else []) }
+        ensures len { length self.new ≤ length self.old + 4 }
+    {
+        if is_seen {
+            self.put_cards(&deal.hole(position));
+        }
+    }
+
+    /// Appends the cards of each of the first so many later rounds.
+    fn put_board(&mut self, deal: &Deal, rounds: usize)
+        requires rounds { rounds ≤ 3 }
+        requires room { length self.old + 13 ≤ 4096 }
+        ensures text { self.new ≡ self.old ++ board_text (take rounds (boards_of deal.now)) }
+        ensures len { length self.new ≤ length self.old + 13 }
+    {
+        let [first, second, third, turn, river] = deal.board();
+        self.put_street(&[first, second, third], rounds >= 1);
+        self.put_street(&[turn], rounds >= 2);
+        self.put_street(&[river], rounds >= 3);
+    }
+
+    /// Appends `/` and the cards of a round where it has begun.
+    fn put_street(&mut self, cards: &[Card], has_begun: bool)
+        requires { length self.old + (2 * length cards.now + 1) ≤ 4096 }
+        ensures text { self.new ≡ self.old ++ board_text (if has_begun then cards.now ∷ [] else []) }
+        ensures len { length self.new ≤ length self.old + (2 * length cards.now + 1) }
+    {
+        if has_begun {
+            self.put(b"/");
+            self.put_cards(cards);
+        }
+    }
+
+    /// Appends cards by their two letters each.
+    fn put_cards(&mut self, cards: &[Card])
+        requires { length self.old + 2 * length cards.now ≤ 4096 }
+        ensures text { self.new ≡ self.old ++ cards_text cards.now }
+        ensures len { length self.new ≡ length self.old + 2 * length cards.now }
+    {
+        for card in cards {
+            self.put(&card.text());
+        }
+    }
+
+    /// Appends a number in decimal digits.
+    fn put_number(&mut self, number: u32)
+        requires { length self.old + 10 ≤ 4096 }
+        ensures text { self.new ≡ self.old ++ decimal number }
+        ensures len { length self.new ≤ length self.old + 10 }
+    {
+        self.put(Buffer::new().format(number).as_bytes());
+    }
+
+    /// Appends bytes.
+    fn put(&mut self, piece: &[u8])
+        requires { length self.old + length piece.now ≤ 4096 }
+        ensures text { self.new ≡ self.old ++ piece.now }
+        ensures len { length self.new ≡ length self.old + length piece.now }
+    {
+        let end = self.len + piece.len();
+        self.bytes[self.len..end].copy_from_slice(piece);
+        self.len = end;
+    }
+}
+
+/// Whether a viewer sees a position's hole cards.
+fn is_in_sight(play: &Play, viewer: usize, position: usize) -> bool
+    requires { position < play.now.game.players }
+    ensures { result ≡ sees play.now.game play.now.past viewer position }
+{
+    position == viewer || (has_come_to_showdown(play) && !play.folded(position))
+}
+
+/// Whether the hand is over with two or more players who haven't folded.
+fn has_come_to_showdown(play: &Play) -> bool
+    ensures { result ≡ is_showdown play.now.game play.now.past }
+{
+    play.finished() && 2 <= play.unfolded()
+}
