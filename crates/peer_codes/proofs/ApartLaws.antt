@@ -1,10 +1,10 @@
 -- What codes are made from is told apart.
-use Rattle.std.proofs.Common.{◌≡◌, ℕ, ◌^◌, ◌<◌, true, List, ◌∷◌, length, take, drop, get_or, Option, Some, refl, sym, ap, ◌∙◌, arith}
+use Rattle.std.proofs.Common.{◌≡◌, ℕ, ◌^◌, ◌<◌, true, false, List, ◌∷◌, length, take, drop, get_or, Option, Some, refl, sym, ap, ◌∙◌, arith}
 use Rattle.std.proofs.lemmas.List.{take_at, drop_at}
 use Rattle.std.proofs.lemmas.Option.{same_Some}
 use Rattle.paxos_wire.specs.Reading.{number_at}
 use Rattle.paxos_wire.proofs.Numbers.{number_again}
-use Rattle.peer_codes.specs.declared.limits.TheConstants.{CODED_HELLO_BYTES}
+use Rattle.peer_codes.specs.declared.limits.TheConstants.{CODED_HELLO_BYTES, NO_KIND}
 use Rattle.peer_codes.specs.declared.role.Role.{Role}
 use Rattle.peer_codes.specs.declared.role.Role.TheVariants.{Caller, Called}
 use Rattle.peer_codes.specs.declared.hello.Link.{Link}
@@ -13,7 +13,8 @@ use Rattle.peer_codes.specs.declared.hello.Hello.{Hello}
 use Rattle.peer_codes.specs.declared.hellos.Hellos.{Hellos}
 use Rattle.peer_codes.specs.declared.kind.Kind.{Kind}
 use Rattle.peer_codes.specs.declared.kind.Kind.TheVariants as kind_of
-use Rattle.peer_codes.specs.Kinds.{kind_byte, kind_told}
+use Rattle.peer_codes.specs.Mores.{is_more}
+use Rattle.peer_codes.specs.Kinds.{kind_byte, kind_told, IsKind}
 use Rattle.peer_codes.specs.Fits.{IsLink, IsHello}
 use Rattle.peer_codes.specs.Spelling.{nonce_text, hello_text}
 use Rattle.peer_codes.specs.Reading.{hello_of}
@@ -30,25 +31,32 @@ same_first m n a b e =
     let same = same_Some (m, a) (n, b) e in
     (ap (λ (x : ℕ × List ℕ). x.0) same, ap (λ (x : ℕ × List ℕ). x.1) same)
 
-kind_is : (j k : Kind) (a b : List ℕ) → kind_byte j ∷ a ≡ kind_byte k ∷ b → j ≡ k
-kind_is j k a b e =
+kind_is : (j k : Kind) (a b : List ℕ) → IsKind j → IsKind k → kind_byte j ∷ a ≡ kind_byte k ∷ b → j ≡ k
+kind_is j k a b one other e =
     let byte : kind_byte j ≡ kind_byte k = ap (λ (l : List ℕ). get_or l 0 0) e in
-    same_Some j k (sym (told_again j) ∙ ap kind_told byte ∙ told_again k)
+    same_Some j k (sym (told_again j one) ∙ ap kind_told byte ∙ told_again k other)
 
-pub records_apart : (m n : ℕ) (j k : Kind) (a b : List ℕ) → m < 2 ^ 64 → n < 2 ^ 64 → coded_text m j a ≡ coded_text n k b → (m ≡ n) × (j ≡ k) × (a ≡ b)
-records_apart m n j k a b lm ln e =
+pub records_apart : (m n : ℕ) (j k : Kind) (a b : List ℕ) → IsKind j → IsKind k → m < 2 ^ 64 → n < 2 ^ 64 → coded_text m j a ≡ coded_text n k b → (m ≡ n) × (j ≡ k) × (a ≡ b)
+records_apart m n j k a b one other lm ln e =
     let read = same_first m n (kind_byte j ∷ a) (kind_byte k ∷ b)
     (sym (number_again 8 m (kind_byte j ∷ a) (omega (arith, lm))) ∙ ap (λ (l : List ℕ). number_at 8 l) e ∙ number_again 8 n (kind_byte k ∷ b) (omega (arith, ln))) in
-    (read.0, kind_is j k a b read.1, ap (λ (l : List ℕ). drop 1 l) read.1)
+    (read.0, kind_is j k a b one other read.1, ap (λ (l : List ℕ). drop 1 l) read.1)
 
-no_kind_108 : (k : Kind) → kind_byte k ≡ 108 → ⊥
-no_kind_108 kind_of.Hello e = absurd cc
-no_kind_108 kind_of.Proof e = absurd cc
-no_kind_108 kind_of.Frame e = absurd cc
-no_kind_108 kind_of.Beat e = absurd cc
+-- the byte of the seal's text where a record has its kind is the one that tells none
+seal_byte : get_or seal_text 8 0 ≡ NO_KIND
+seal_byte = refl
 
-pub seal_apart : (n : ℕ) (k : Kind) (sent : List ℕ) → coded_text n k sent ≡ seal_text → ⊥
-seal_apart n k sent e = no_kind_108 k (ap (λ (l : List ℕ). get_or l 8 0) e)
+no_kind : (k : Kind) → IsKind k → kind_byte k ≡ NO_KIND → ⊥
+no_kind kind_of.Hello there e = absurd cc
+no_kind kind_of.Proof there e = absurd cc
+no_kind kind_of.Frame there e = absurd cc
+no_kind kind_of.Beat there e = absurd cc
+no_kind (kind_of.More byte) there e =
+    let no : false ≡ true = ap is_more (sym e) ∙ there in
+    absurd cc
+
+pub seal_apart : (n : ℕ) (k : Kind) (sent : List ℕ) → IsKind k → coded_text n k sent ≡ seal_text → ⊥
+seal_apart n k sent there e = no_kind k there (ap (λ (l : List ℕ). get_or l 8 0) e ∙ seal_byte)
 
 -- ---- proofs and ways
 

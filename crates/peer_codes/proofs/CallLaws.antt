@@ -3,10 +3,14 @@ use Rattle.std.proofs.Common.{◌≡◌, ◌⊎◌, inl, inr, ℕ, ◌<◌, Bool
 use Rattle.std.proofs.lemmas.Bool.{eqb-true, ltb-true}
 use Rattle.std.proofs.lemmas.List.{take-append-drop}
 use Rattle.peer_codes.specs.declared.limits.TheConstants.{LAST_NUMBER}
+use Rattle.peer_codes.specs.declared.fault.RecordFault.TheVariants.{BadHello}
 use Rattle.peer_codes.specs.declared.connection_fault.ConnectionFault.{ConnectionFault}
+use Rattle.peer_codes.specs.declared.connection_fault.ConnectionFault.TheVariants as faults
+use Rattle.peer_codes.specs.declared.role.Role.TheVariants.{Caller, Called}
 use Rattle.peer_codes.specs.declared.hello.Hello.{Hello}
 use Rattle.peer_codes.specs.declared.beat.Beat.{Beat}
 use Rattle.peer_codes.specs.declared.frame.Frame.{Frame}
+use Rattle.peer_codes.specs.declared.more.More.{More}
 use Rattle.peer_codes.specs.declared.records.Proof.{Proof}
 use Rattle.peer_codes.specs.declared.kind.Kind.{Kind}
 use Rattle.peer_codes.specs.declared.kind.Kind.TheVariants as kind_of
@@ -16,10 +20,12 @@ use Rattle.peer_codes.specs.declared.phase.Phase.{Phase}
 use Rattle.peer_codes.specs.declared.phase.Phase.TheVariants as phases
 use Rattle.peer_codes.specs.declared.outgoing.Outgoing.{Outgoing}
 use Rattle.peer_codes.specs.declared.connection.Connection.{Connection}
+use Rattle.peer_codes.specs.Versions.{same_version}
 use Rattle.peer_codes.specs.Spelling.{beat_text}
 use Rattle.peer_codes.specs.Faults.{needed, front}
 use Rattle.peer_codes.specs.Outgoings.{unwritten}
-use Rattle.peer_codes.specs.Connections.{Reads, ReadsOrWaits, Next, answered, said, begun_on, begun_coded, begun_first, begun_next}
+use Rattle.peer_codes.specs.Steps.{proving}
+use Rattle.peer_codes.specs.Connections.{Reads, ReadsOrWaits, Next, met, turned_away, answered, said, begun_on, begun_coded, begun_first, begun_next}
 use Rattle.peer_codes.specs.Histories.{Answered, answered_phase, said_phase, phase_after, FrontCame}
 use Rattle.peer_codes.specs.Beginning.{CodedBegun, Begins}
 
@@ -60,8 +66,16 @@ next_waits old new h = waits_by old.phase old new h
 
 -- ---- what is answered
 
+asked_by : (same : Bool) (old : Connection) (caller own : Hello)
+    → ((cond same (met caller own old) (turned_away own old)).key ≡ old.key)
+    × ((cond same (met caller own old) (turned_away own old)).phase ≡ cond same (proving old.key.bytes Called Caller (record { caller = caller; called = own })) (phases.Closed (faults.Record BadHello)))
+asked_by true old caller own = (refl, refl)
+asked_by false old caller own = (refl, refl)
+
 answered_by : (phase : Phase) (old : Connection) (own : Hello) → old.phase ≡ phase → ((answered phase own old).key ≡ old.key) × ((answered phase own old).phase ≡ phase_after old.key.bytes old.phase (Answered own))
-answered_by (phases.Asked caller) old own e = (refl, sym (ap (λ (p : Phase). answered_phase old.key.bytes own p) e))
+answered_by (phases.Asked caller) old own e =
+    let is = asked_by (same_version caller.version own.version) old caller own in
+    (is.0, is.1 ∙ sym (ap (λ (p : Phase). answered_phase old.key.bytes own p) e))
 answered_by phases.Refused old own e = (refl, sym (ap (λ (p : Phase). answered_phase old.key.bytes own p) e))
 answered_by (phases.Greeting mine) old own e = (refl, e ∙ sym (ap (λ (p : Phase). answered_phase old.key.bytes own p) e))
 answered_by (phases.Proving theirs ways) old own e = (refl, e ∙ sym (ap (λ (p : Phase). answered_phase old.key.bytes own p) e))
@@ -97,16 +111,18 @@ coded_by old ways kind body left free e number = record {
 nothing_by : (old : Connection) (phase : Phase) → old.phase ≡ phase → Begins old (record { key = old.key; phase = phase; came = old.came; out = old.out })
 nothing_by old phase e = inl (record { key = refl; phase = sym e; came = refl; out = refl })
 
-begun_on_by : (old : Connection) (ways : Ways) (beat : Option Beat) (frame : Option Frame) → IsFree old → old.phase ≡ phases.Open ways → ways.writing.number < LAST_NUMBER
-    → old.out.beat ≡ beat → old.out.frame ≡ frame → Begins old (begun_on ways beat frame old.key old.came old.out)
-begun_on_by old ways (Some beat) frame free e number b f = inr (inr (inr (inl (record { beat = beat; waited = b; begun = coded_by old ways kind_of.Beat (beat_text beat) (record old.out { beat = None }) free e number }))))
-begun_on_by old ways None (Some frame) free e number b f =
-    inr (inr (inr (inr (record { frame = frame; beat = b; waited = f; begun = coded_by old ways kind_of.Frame frame.bytes.items (record old.out { frame = None }) free e number }))))
-begun_on_by old ways None None free e number b f = nothing_by old (phases.Open ways) e
+begun_on_by : (old : Connection) (ways : Ways) (beat : Option Beat) (more : Option More) (frame : Option Frame) → IsFree old → old.phase ≡ phases.Open ways → ways.writing.number < LAST_NUMBER
+    → old.out.beat ≡ beat → old.out.more ≡ more → old.out.frame ≡ frame → Begins old (begun_on ways beat more frame old.key old.came old.out)
+begun_on_by old ways (Some beat) more frame free e number b m f = inr (inr (inr (inl (record { beat = beat; waited = b; begun = coded_by old ways kind_of.Beat (beat_text beat) (record old.out { beat = None }) free e number }))))
+begun_on_by old ways None (Some more) frame free e number b m f =
+    inr (inr (inr (inr (inl (record { more = more; beat = b; waited = m; begun = coded_by old ways (kind_of.More more.kind) more.bytes.items (record old.out { more = None }) free e number })))))
+begun_on_by old ways None None (Some frame) free e number b m f =
+    inr (inr (inr (inr (inr (record { frame = frame; beat = b; more = m; waited = f; begun = coded_by old ways kind_of.Frame frame.bytes.items (record old.out { frame = None }) free e number })))))
+begun_on_by old ways None None None free e number b m f = nothing_by old (phases.Open ways) e
 
 begun_open_by : (old : Connection) (ways : Ways) (left : Bool) → IsFree old → old.phase ≡ phases.Open ways → ltb ways.writing.number LAST_NUMBER ≡ left
-    → Begins old (cond left (begun_on ways old.out.beat old.out.frame old.key old.came old.out) (record { key = old.key; phase = phases.Open ways; came = old.came; out = old.out }))
-begun_open_by old ways true free e number = begun_on_by old ways old.out.beat old.out.frame free e (ltb-true _ _ number) refl refl
+    → Begins old (cond left (begun_on ways old.out.beat old.out.more old.out.frame old.key old.came old.out) (record { key = old.key; phase = phases.Open ways; came = old.came; out = old.out }))
+begun_open_by old ways true free e number = begun_on_by old ways old.out.beat old.out.more old.out.frame free e (ltb-true _ _ number) refl refl refl
 begun_open_by old ways false free e number = nothing_by old (phases.Open ways) e
 
 begun_coded_by : (old : Connection) (phase : Phase) → IsFree old → old.phase ≡ phase → Begins old (begun_coded phase old.key old.came old.out)

@@ -6,6 +6,7 @@ use Rattle.sha2.specs.Sha256.{first_words, schedule, rounds, compress, hash_afte
 use Rattle.rand_core.specs.Steps.{word_bytes, u32_at}
 use Rattle.rand_chacha.specs.Block.{quarter_round, column_round, diagonal_round, double_rounds, block_word}
 use Rattle.rand_chacha.specs.ChaCha.{of_seed}
+use Rattle.peer_codes.specs.declared.version.Version.TheVariants.{First}
 use Rattle.peer_codes.specs.declared.role.Role.{Role}
 use Rattle.peer_codes.specs.declared.role.Role.TheVariants.{Caller, Called}
 use Rattle.peer_codes.specs.declared.hellos.Hellos.{Hellos}
@@ -65,14 +66,14 @@ pub way_of_the_called : (key : List ℕ) (h : Hellos) → way_key key Called h �
 way_of_the_called key h = refl
 
 -- at its beginning a way has its own key and that key's seal
-pub way_begins : (key : List ℕ) (role : Role) (h : Hellos) → way_of key role h ≡ record { key = way_key key role h; number = 0; seal = seal_of (way_key key role h) }
+pub way_begins : (key : List ℕ) (role : Role) (h : Hellos) → way_of key role h ≡ record { version = h.caller.version; key = way_key key role h; number = 0; seal = seal_of (way_key key role h) }
 way_begins key role h = refl
 
 pub seal_of_a_way : (key : List ℕ) → seal_of key ≡ of_seed (hmac key (72 ∷ 68 ∷ 78 ∷ 49 ∷ 32 ∷ 115 ∷ 101 ∷ 97 ∷ 108 ∷ []))
 seal_of_a_way key = refl
 
 abbrev way : ℕ → Way
-way number = record { key = replicate 32 1; number = number; seal = record { key = []; stream = 0; word_pos = 0 } }
+way number = record { version = First; key = replicate 32 1; number = number; seal = record { key = []; stream = 0; word_pos = 0 } }
 
 pub code_of_the_seventh : record_tag (way 7) kind_of.Beat (9 ∷ 8 ∷ []) ≡ hmac (replicate 32 1) (0 ∷ 0 ∷ 0 ∷ 0 ∷ 0 ∷ 0 ∷ 0 ∷ 7 ∷ 3 ∷ 9 ∷ 8 ∷ [])
 code_of_the_seventh = refl
@@ -85,11 +86,11 @@ code_of_a_record w kind sent = refl
 pub each_byte_is_hidden : (w : Way) (body : List ℕ) → masked w body ≡ xored body (pad (length body) w.seal).0
 each_byte_is_hidden w body = refl
 
-pub goes_on_behind : (w : Way) (count : ℕ) → after w count ≡ record { key = w.key; number = w.number + 1; seal = (pad count w.seal).1 }
+pub goes_on_behind : (w : Way) (count : ℕ) → after w count ≡ record { version = w.version; key = w.key; number = w.number + 1; seal = (pad count w.seal).1 }
 goes_on_behind w count = refl
 
 abbrev zeros : Way
-zeros = record { key = replicate 32 1; number = 0; seal = of_seed (replicate 32 0) }
+zeros = record { version = First; key = replicate 32 1; number = 0; seal = of_seed (replicate 32 0) }
 
 -- what is sent is hidden
 pub hidden : masked zeros (replicate 18 0) ≡

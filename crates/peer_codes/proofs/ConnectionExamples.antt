@@ -2,11 +2,14 @@
 use Rattle.std.proofs.Common.{true, false, ◌≡◌, inl, inr, ℕ, List, [], ◌∷◌, ◌++◌, replicate, Option, Some, None, Err, refl, sym, ap, ◌∙◌}
 use Rattle.peer_codes.specs.declared.fault.RecordFault.TheVariants.{BadLength, BadKind}
 use Rattle.peer_codes.specs.declared.connection_fault.ConnectionFault.TheVariants as faults
+use Rattle.peer_codes.specs.declared.version.Version.{Version}
+use Rattle.peer_codes.specs.declared.version.Version.TheVariants.{First, Second}
 use Rattle.peer_codes.specs.declared.hello.Link.{Link}
 use Rattle.peer_codes.specs.declared.hello.Link.TheVariants.{Plain, Coded}
 use Rattle.peer_codes.specs.declared.hello.Hello.{Hello}
 use Rattle.peer_codes.specs.declared.records.Proof.{Proof}
 use Rattle.peer_codes.specs.declared.frame.Frame.{Frame}
+use Rattle.peer_codes.specs.declared.more.More.{More}
 use Rattle.peer_codes.specs.declared.kind.Kind.TheVariants as kind_of
 use Rattle.peer_codes.specs.declared.way.Way.{Way}
 use Rattle.peer_codes.specs.declared.phase.Ways.{Ways}
@@ -22,8 +25,8 @@ use Rattle.peer_codes.specs.Spelling.{enveloped, beat_text}
 use Rattle.peer_codes.specs.declared.beat.Beat.{Beat}
 use Rattle.peer_codes.specs.declared.fault.RecordFault.TheVariants.{BadHello}
 use Rattle.peer_codes.proofs.HistoryLaws.{proof_happened}
-use Rattle.peer_codes.specs.Steps.{closed, opened, only_coded, stepped, front_step}
-use Rattle.peer_codes.specs.Connections.{answered, begun_next}
+use Rattle.peer_codes.specs.Steps.{closed, opened, only_coded, of_version, stepped, front_step}
+use Rattle.peer_codes.specs.Connections.{answered, takes_more, begun_next}
 use Rattle.peer_codes.specs.Histories.{Came, Answered, Said, phase_behind, IsProved}
 use Rattle.peer_codes.specs.Beginning.{NothingBegun, BeatBegun, Begins}
 
@@ -31,7 +34,7 @@ abbrev key : List ℕ
 key = replicate 32 7
 
 abbrev way : ℕ → Way
-way number = record { key = replicate 32 1; number = number; seal = record { key = []; stream = 0; word_pos = 0 } }
+way number = record { version = First; key = replicate 32 1; number = number; seal = record { key = []; stream = 0; word_pos = 0 } }
 
 abbrev ways : Ways
 ways = record { reading = way 3; writing = way 5 }
@@ -40,7 +43,7 @@ abbrev theirs : Proof
 theirs = record { tag = replicate 32 1 }
 
 abbrev hello : Link → Hello
-hello link = record { ends = record { from = 1; to = 0; nodes = 3 }; digest = record { bytes = replicate 32 9 }; life = record { bytes = replicate 16 5 }; kept = None; promised = None; link = link }
+hello link = record { version = First; ends = record { from = 1; to = 0; nodes = 3 }; digest = record { bytes = replicate 32 9 }; life = record { bytes = replicate 16 5 }; kept = None; promised = None; link = link }
 
 -- ---- what records do
 
@@ -71,6 +74,28 @@ second_proof = refl
 pub plain_hello-none : only_coded (Some (hello Plain)) ≡ None
 plain_hello-none = refl
 
+-- a further kind on a connection of the first version
+pub more_on_the_first : stepped key (phases.Open ways) (kind_of.More 4) (replicate 40 1) ≡ closed (faults.Record BadKind)
+unfolding stepped
+more_on_the_first = refl
+
+pub more_before_the_proof : stepped key (phases.Proving theirs ways) (kind_of.More 4) (replicate 40 1) ≡ closed (faults.Record BadKind)
+unfolding stepped
+more_before_the_proof = refl
+
+-- who dialled takes a Hello of its own version, and none of another; the called takes both
+abbrev second : Link → Hello
+second link = record (hello link) { version = Second }
+
+pub other_version-none : of_version (Some (hello Plain)) (Some (second Plain)) ≡ None
+other_version-none = refl
+
+pub its_own_version : of_version (Some (second Plain)) (Some (second Plain)) ≡ Some (second Plain)
+its_own_version = refl
+
+pub called_in_any_version : of_version None (Some (second Plain)) ≡ Some (second Plain)
+called_in_any_version = refl
+
 -- nor is another Hello taken on one that is open
 pub second_hello : stepped key (phases.Open ways) kind_of.Hello (replicate 109 1) ≡ closed faults.UnexpectedRecord
 unfolding stepped
@@ -85,9 +110,14 @@ pub nothing_happened : phase_behind key None [] ≡ phases.Greeting None
 nothing_happened = refl
 
 -- a record of a kind that there isn't closes it, and what comes then changes nothing
-pub unknown_kind : phase_behind key None (Came (0 ∷ 0 ∷ 0 ∷ 1 ∷ 3 ∷ []) ∷ Came (0 ∷ 0 ∷ 0 ∷ 1 ∷ 4 ∷ []) ∷ []) ≡ phases.Closed (faults.Record BadKind)
+pub unknown_kind : phase_behind key None (Came (0 ∷ 0 ∷ 0 ∷ 1 ∷ 3 ∷ []) ∷ Came (0 ∷ 0 ∷ 0 ∷ 1 ∷ 108 ∷ []) ∷ []) ≡ phases.Closed (faults.Record BadKind)
 unfolding front_step stepped kind_in
 unknown_kind = refl
+
+-- and so does one of a further kind that comes before it is open
+pub early_kind : phase_behind key None (Came (0 ∷ 0 ∷ 0 ∷ 1 ∷ 4 ∷ []) ∷ []) ≡ phases.Closed (faults.Record BadKind)
+unfolding front_step stepped kind_in
+early_kind = refl
 
 -- nobody answers whom nobody called, and nothing is coded then
 pub answered_too_early : phase_behind key None (Said 10 ∷ Answered (hello Plain) ∷ []) ≡ phases.Greeting None
@@ -102,7 +132,7 @@ abbrev ask : Frame
 ask = record { bytes = record { items = 0 ∷ 0 ∷ 0 ∷ 6 ∷ 2 ∷ 7 ∷ 0 ∷ 0 ∷ 0 ∷ 1 ∷ [] } }
 
 abbrev out : Option Frame → List ℕ → ℕ → Outgoing
-out frame begun written = record { hello = None; proof = None; beat = None; frame = frame; begun = record { items = begun }; written = written }
+out frame begun written = record { hello = None; proof = None; beat = None; more = None; frame = frame; begun = record { items = begun }; written = written }
 
 abbrev connection : Phase → Outgoing → Connection
 connection phase outgoing = record { key = record { bytes = key }; phase = phase; came = record { waiting = []; room = 0 }; out = outgoing }
@@ -148,13 +178,44 @@ begun_frame = refl
 abbrev beat : Beat
 beat = record { number = 1; got = 0; front = 37; campaigns = true; over = false; seats = 5 }
 
+abbrev further : More
+further = record { kind = 4; bytes = record { items = 1 ∷ 2 ∷ [] } }
+
 abbrev both : Outgoing
-both = record { hello = None; proof = None; beat = Some beat; frame = Some ask; begun = record { items = [] }; written = 0 }
+both = record { hello = None; proof = None; beat = Some beat; more = Some further; frame = Some ask; begun = record { items = [] }; written = 0 }
 
 -- the beat goes first, and the frame waits
 pub begun_beat : (begun_next (connection (phases.Open ways) both)).out.begun.items ≡ coded (way 5) kind_of.Beat (beat_text beat)
 unfolding begun_next
 begun_beat = refl
+
+pub more_waits : (begun_next (connection (phases.Open ways) both)).out.more ≡ Some further
+unfolding begun_next
+more_waits = refl
+
+-- the record of a further kind next
+pub begun_more : (begun_next (connection (phases.Open ways) (record both { beat = None }))).out.begun.items ≡ coded (way 5) (kind_of.More 4) (1 ∷ 2 ∷ [])
+unfolding begun_next
+begun_more = refl
+
+-- none is taken on a connection of the first version, nor where one waits, nor before it is open
+abbrev second_way : Way
+second_way = record (way 3) { version = Second }
+
+pub taken_on_the_second : takes_more (phases.Open (record { reading = second_way; writing = second_way })) None 4 ≡ true
+taken_on_the_second = refl
+
+pub on_the_first-not_taken : takes_more (phases.Open ways) None 4 ≡ false
+on_the_first-not_taken = refl
+
+pub beat_as_more-not_taken : takes_more (phases.Open (record { reading = second_way; writing = second_way })) None 3 ≡ false
+beat_as_more-not_taken = refl
+
+pub second_more-not_taken : takes_more (phases.Open (record { reading = second_way; writing = second_way })) (Some further) 4 ≡ false
+second_more-not_taken = refl
+
+pub before_it_is_open-not_taken : takes_more (phases.Proving theirs (record { reading = second_way; writing = second_way })) None 4 ≡ false
+before_it_is_open-not_taken = refl
 
 pub frame_waits : (begun_next (connection (phases.Open ways) both)).out.frame ≡ Some ask
 unfolding begun_next
@@ -187,6 +248,11 @@ idle = out None [] 0
 pub refused_answers : answered phases.Refused (hello Plain) (connection phases.Refused idle) ≡ connection (phases.Closed (faults.Record BadHello)) (record idle { hello = Some (hello Plain) })
 refused_answers = refl
 
+-- who called in another version hears the own Hello alone
+pub other_version_is_turned_away : answered (phases.Asked (second Plain)) (hello Plain) (connection (phases.Asked (second Plain)) idle)
+    ≡ connection (phases.Closed (faults.Record BadHello)) (record idle { hello = Some (hello Plain) })
+other_version_is_turned_away = refl
+
 pub closed_answers_nothing : answered (phases.Closed (faults.Record BadHello)) (hello Plain) (connection (phases.Closed (faults.Record BadHello)) idle) ≡ connection (phases.Closed (faults.Record BadHello)) idle
 closed_answers_nothing = refl
 
@@ -203,7 +269,11 @@ opens_itself-none o h = elim h [
               | inr coded ↦
                   elim coded [
                     | inl beat ↦ let e : ◌≡◌ {A = Phase} (phases.Proving theirs ways) (phases.Open beat.begun.ways) = beat.begun.open_was in absurd cc
-                    | inr frame ↦ let e : ◌≡◌ {A = Phase} (phases.Proving theirs ways) (phases.Open frame.begun.ways) = frame.begun.open_was in absurd cc
+                    | inr behind_it ↦
+                        elim behind_it [
+                          | inl more ↦ let e : ◌≡◌ {A = Phase} (phases.Proving theirs ways) (phases.Open more.begun.ways) = more.begun.open_was in absurd cc
+                          | inr frame ↦ let e : ◌≡◌ {A = Phase} (phases.Proving theirs ways) (phases.Open frame.begun.ways) = frame.begun.open_was in absurd cc
+                        ]
                   ]
             ]
       ]

@@ -46,7 +46,7 @@ pub coded_is : (way : Way) (seal : ChaCha) (kind : Kind) (front body all shown s
     → shown ≡ all
     → sent ≡ xored (take (length shown - 5) (drop 5 shown)) (pad (length (take (length shown - 5) (drop 5 shown))) way.seal).0
     → hidden ≡ refill (length all) all (take 5 shown ++ (sent ++ drop (length shown - 5) (drop 5 shown)))
-    → tag ≡ record_tag (record { key = way.key; number = way.number; seal = seal }) kind (take (length hidden - 5) (drop 5 hidden))
+    → tag ≡ record_tag (record { version = way.version; key = way.key; number = way.number; seal = seal }) kind (take (length hidden - 5) (drop 5 hidden))
     → out ≡ refill (length all) all (take 5 shown ++ (sent ++ drop (length shown - 5) (drop 5 shown))) ++ tag
     → out ≡ coded way kind body
 coded_is way seal kind front body all shown sent hidden tag out begins size is same sent_by hidden_by tag_by out_by =

@@ -2,8 +2,10 @@
 use Rattle.std.proofs.Common.{◌≡◌, ℕ, true, false, lit<, List, [], ◌∷◌, ◌++◌, replicate, Some, None, Ok, Err, refl, codes, arith}
 use Rattle.byteorder.specs.Endian.{big_bytes}
 use Rattle.paxos_wire.specs.Reading.{ballot_at}
-use Rattle.peer_codes.specs.declared.limits.TheConstants.{MAGIC, PLAIN_HELLO_BYTES, CODED_HELLO_BYTES, MOST_LENGTH}
+use Rattle.peer_codes.specs.declared.limits.TheConstants.{PLAIN_HELLO_BYTES, CODED_HELLO_BYTES, MOST_LENGTH}
 use Rattle.peer_codes.specs.declared.fault.RecordFault.TheVariants.{BadLength, BadKind, BadHello}
+use Rattle.peer_codes.specs.declared.version.Version.{Version}
+use Rattle.peer_codes.specs.declared.version.Version.TheVariants.{First, Second}
 use Rattle.peer_codes.specs.declared.hello.Link.{Link}
 use Rattle.peer_codes.specs.declared.hello.Link.TheVariants.{Plain, Coded}
 use Rattle.peer_codes.specs.declared.hello.Hello.{Hello}
@@ -13,25 +15,56 @@ use Rattle.peer_codes.specs.declared.kind.Kind.TheVariants as kind_of
 use Rattle.peer_codes.specs.declared.connection_fault.ConnectionFault.TheVariants as faults
 use Rattle.peer_codes.specs.declared.role.Role.TheVariants.{Caller, Called}
 use Rattle.peer_codes.specs.declared.way.Way.{Way}
-use Rattle.peer_codes.specs.Kinds.{kind_told}
+use Rattle.peer_codes.specs.Versions.{magic_of, version_told, same_version}
+use Rattle.peer_codes.specs.Mores.{is_more}
+use Rattle.peer_codes.specs.Kinds.{kind_byte, kind_told}
 use Rattle.peer_codes.specs.Lines.{record_fault_code, record_fault_line, connection_fault_code, connection_fault_line}
 use Rattle.peer_codes.specs.Hmac.{padded, inner_pad, outer_pad}
-use Rattle.peer_codes.specs.Codes.{role_byte, xored, fresh_way, after, uncovered}
-use Rattle.peer_codes.specs.Fits.{IsFrame}
+use Rattle.peer_codes.specs.Codes.{role_byte, coded_text as text_of_a_tag, seal_text, xored, fresh_way, after, uncovered}
+use Rattle.peer_codes.specs.Fits.{IsFrame, IsMore}
 use Rattle.peer_codes.specs.Spelling.{hello_text, beat_text, enveloped, record_text}
 use Rattle.peer_codes.specs.Reading.{ends_at, life_at, kept_at, promised_at, greeting_at, lives_at, link_at, hello_of, beat_of, content_of}
 use Rattle.peer_codes.specs.Faults.{needed, kind_in, reading, IsPartial}
 
 -- ---- kinds and faults
 
-pub magic_is_hdn1 : big_bytes 4 MAGIC ≡ codes "HDN1"
+pub magic_is_hdn1 : big_bytes 4 (magic_of First) ≡ codes "HDN1"
 magic_is_hdn1 = refl
+
+pub magic_is_hdn2 : big_bytes 4 (magic_of Second) ≡ codes "HDN2"
+magic_is_hdn2 = refl
+
+pub hdn2_is_the_second : version_told 0x48444e32 ≡ Some Second
+hdn2_is_the_second = refl
+
+pub hdn3-none : version_told 0x48444e33 ≡ None
+hdn3-none = refl
+
+pub versions_differ : same_version First Second ≡ false
+versions_differ = refl
 
 pub third_kind : kind_told 3 ≡ Some kind_of.Beat
 third_kind = refl
 
-pub kind_4-none : kind_told 4 ≡ None
-kind_4-none = refl
+pub fourth_kind : kind_told 4 ≡ Some (kind_of.More 4)
+fourth_kind = refl
+
+pub last_kind : kind_told 255 ≡ Some (kind_of.More 255)
+last_kind = refl
+
+pub kind_108-none : kind_told 108 ≡ None
+kind_108-none = refl
+
+pub byte_of_a_further_kind : kind_byte (kind_of.More 109) ≡ 109
+byte_of_a_further_kind = refl
+
+-- a beat's byte is that of no further kind
+pub kind_3-not_further : is_more 3 ≡ false
+kind_3-not_further = refl
+
+-- with kind 108 a number and nothing sent would be what the seal is made from
+pub seal_as_a_record : text_of_a_tag 0x48444e3120736561 (kind_of.More 108) [] ≡ seal_text
+seal_as_a_record = refl
 
 pub bad_hello_is_122 : record_fault_code BadHello ≡ 122
 bad_hello_is_122 = refl
@@ -63,7 +96,7 @@ abbrev nonce : List ℕ
 nonce = replicate 32 8
 
 abbrev said : Link → Hello
-said link = record { ends = record { from = 1; to = 0; nodes = 3 }; digest = record { bytes = digest }; life = record { bytes = own }; kept = Some (record { bytes = others }); promised = Some (record { round = 7; node = 2 }); link = link }
+said link = record { version = First; ends = record { from = 1; to = 0; nodes = 3 }; digest = record { bytes = digest }; life = record { bytes = own }; kept = Some (record { bytes = others }); promised = Some (record { round = 7; node = 2 }); link = link }
 
 abbrev plain_text : List ℕ
 plain_text = 72 ∷ 68 ∷ 78 ∷ 49 ∷ 0 ∷ 1 ∷ 0 ∷ 3 ∷ (digest ++ (own ++ (others ++ (0 ∷ 0 ∷ 0 ∷ 7 ∷ 2 ∷ []))))
@@ -84,6 +117,25 @@ plain_hello_reads = refl
 pub coded_hello_reads : hello_of coded_text ≡ Some (said (Coded (record { bytes = nonce })))
 unfolding hello_of greeting_at ends_at lives_at life_at kept_at promised_at ballot_at link_at
 coded_hello_reads = refl
+
+-- a Hello of the second version differs in one byte
+abbrev second_text : List ℕ
+second_text = 72 ∷ 68 ∷ 78 ∷ 50 ∷ 1 ∷ 1 ∷ 0 ∷ 3 ∷ (digest ++ (own ++ (others ++ (0 ∷ 0 ∷ 0 ∷ 7 ∷ 2 ∷ nonce))))
+
+abbrev said_second : Hello
+said_second = record (said (Coded (record { bytes = nonce }))) { version = Second }
+
+pub second_hello : hello_text said_second ≡ second_text
+second_hello = refl
+
+pub second_hello_reads : hello_of second_text ≡ Some said_second
+unfolding hello_of greeting_at ends_at lives_at life_at kept_at promised_at ballot_at link_at
+second_hello_reads = refl
+
+-- a version that there isn't
+pub hdn0-none : hello_of (72 ∷ 68 ∷ 78 ∷ 48 ∷ 0 ∷ 1 ∷ 0 ∷ 3 ∷ (digest ++ (own ++ (others ++ (0 ∷ 0 ∷ 0 ∷ 7 ∷ 2 ∷ []))))) ≡ None
+unfolding hello_of greeting_at ends_at lives_at life_at kept_at promised_at ballot_at link_at
+hdn0-none = refl
 
 -- a byte more
 pub longer-none : hello_of (plain_text ++ 0 ∷ []) ≡ None
@@ -166,9 +218,26 @@ pub short_frame-bad_length : reading (0 ∷ 0 ∷ 0 ∷ 6 ∷ 2 ∷ 0 ∷ 0 ∷ 
 unfolding reading kind_in content_of
 short_frame-bad_length = refl
 
-pub kind_4-bad_kind : reading (0 ∷ 0 ∷ 0 ∷ 1 ∷ 4 ∷ []) ≡ Err BadKind
+pub kind_108-bad_kind : reading (0 ∷ 0 ∷ 0 ∷ 1 ∷ 108 ∷ []) ≡ Err BadKind
 unfolding reading kind_in
-kind_4-bad_kind = refl
+kind_108-bad_kind = refl
+
+-- a record of a further kind, of two bytes
+pub more_in_a_record : record_text (record_of.More (record { kind = 200; bytes = record { items = 7 ∷ 8 ∷ [] } })) ≡ 0 ∷ 0 ∷ 0 ∷ 3 ∷ 200 ∷ 7 ∷ 8 ∷ []
+unfolding enveloped
+more_in_a_record = refl
+
+pub more_reads : reading (0 ∷ 0 ∷ 0 ∷ 3 ∷ 200 ∷ 7 ∷ 8 ∷ []) ≡ Ok (record_of.More (record { kind = 200; bytes = record { items = 7 ∷ 8 ∷ [] } }))
+unfolding reading kind_in content_of
+more_reads = refl
+
+-- and of none
+pub empty_more_reads : reading (0 ∷ 0 ∷ 0 ∷ 1 ∷ 4 ∷ []) ≡ Ok (record_of.More (record { kind = 4; bytes = record { items = [] } }))
+unfolding reading kind_in content_of
+empty_more_reads = refl
+
+pub beat_as_more-none : IsMore (record { kind = 3; bytes = record { items = [] } }) → ⊥
+beat_as_more-none h = let no : false ≡ true = h.kind in absurd cc
 
 -- a length of 0, and one of 4134, are at fault as soon as they are there
 pub length_0 : needed (0 ∷ 0 ∷ 0 ∷ 0 ∷ []) ≡ 4
@@ -215,13 +284,13 @@ pub xored_bytes : xored (1 ∷ 2 ∷ 255 ∷ []) (3 ∷ 3 ∷ 15 ∷ 9 ∷ []) �
 xored_bytes = refl
 
 abbrev way : ℕ → Way
-way number = record { key = replicate 32 1; number = number; seal = record { key = []; stream = 0; word_pos = 0 } }
+way number = record { version = First; key = replicate 32 1; number = number; seal = record { key = []; stream = 0; word_pos = 0 } }
 
 -- each record has the next number
 pub next_number : (after (way 7) 10).number ≡ 8
 next_number = refl
 
-pub first_number : (fresh_way (replicate 32 1)).number ≡ 0
+pub first_number : (fresh_way First (replicate 32 1)).number ≡ 0
 first_number = refl
 
 -- without room for a tag

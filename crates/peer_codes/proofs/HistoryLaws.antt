@@ -4,9 +4,11 @@ use Rattle.std.specs.Str.{bytes_eq}
 use Rattle.std.proofs.lemmas.Slice.Eq.{bytes_eq-Decides}
 use Rattle.peer_codes.specs.declared.limits.TheConstants.{TAG_BYTES}
 use Rattle.peer_codes.specs.declared.fault.RecordFault.{RecordFault}
-use Rattle.peer_codes.specs.declared.fault.RecordFault.TheVariants.{BadLength}
+use Rattle.peer_codes.specs.declared.fault.RecordFault.TheVariants.{BadLength, BadHello}
 use Rattle.peer_codes.specs.declared.connection_fault.ConnectionFault.{ConnectionFault}
 use Rattle.peer_codes.specs.declared.connection_fault.ConnectionFault.TheVariants as faults
+use Rattle.peer_codes.specs.declared.version.Version.{Version}
+use Rattle.peer_codes.specs.declared.version.Version.TheVariants.{First, Second}
 use Rattle.peer_codes.specs.declared.role.Role.{Role}
 use Rattle.peer_codes.specs.declared.role.Role.TheVariants.{Caller, Called}
 use Rattle.peer_codes.specs.declared.hello.Hello.{Hello}
@@ -20,17 +22,20 @@ use Rattle.peer_codes.specs.declared.way.Way.{Way}
 use Rattle.peer_codes.specs.declared.phase.Ways.{Ways}
 use Rattle.peer_codes.specs.declared.phase.Phase.{Phase}
 use Rattle.peer_codes.specs.declared.phase.Phase.TheVariants as phases
+use Rattle.peer_codes.specs.Versions.{same_version}
 use Rattle.peer_codes.specs.Reading.{hello_of, beat_of, is_frame}
 use Rattle.peer_codes.specs.Faults.{kind_in}
 use Rattle.peer_codes.specs.Codes.{proof_tag, after, uncovered}
-use Rattle.peer_codes.specs.Steps.{is_coded, closed, proof_of, ways_of, only_coded, greeted, heard, frame_heard, beat_told, beat_heard, stepped, step_by, front_step, opened}
+use Rattle.peer_codes.specs.Steps.{is_coded, closed, proof_of, ways_of, proving, only_coded, of_version, greeted, heard, frame_heard, beat_told, beat_heard, more_heard, on_more, stepped, step_by, front_step, opened}
 use Rattle.peer_codes.specs.Histories.{Happening, Came, Answered, Said, answered_phase, said_phase, phase_after, phase_behind, IsClosed, Happened, HelloCame, ProofCame, Met, across, IsCoded, AnswersCoded, body_length, IsProved}
+use Rattle.peer_codes.proofs.VersionLaws.{same_is, of_version_is}
 
 -- both Hellos are said, and the proof that is awaited is that of the other side over them
 record IsMet (key : List ℕ) (own : Option Hello) (before : List Happening) (theirs : Proof) (ways : Ways) : Type 0 where
   pub role : Role
   pub hellos : Hellos
   pub nonces : IsCoded hellos.caller × IsCoded hellos.called
+  pub version : hellos.called.version ≡ hellos.caller.version
   pub met : Met own role hellos before
   pub awaited : theirs ≡ proof_of key (across role) hellos
   pub ways_are : ways ≡ ways_of key role (across role) hellos
@@ -54,6 +59,7 @@ still_met key own before happening theirs ways is = record {
   role = is.role;
   hellos = is.hellos;
   nonces = is.nonces;
+  version = is.version;
   met = met_still own is.role is.hellos before happening is.met;
   awaited = is.awaited;
   ways_are = is.ways_are;
@@ -73,18 +79,21 @@ coded_is (Some found) hello e = coded_if (is_coded found.link) found hello refl 
 -- ---- a record came
 
 greeted_sound : (key : List ℕ) (own : Option Hello) (before : List Happening) (front : List ℕ) (mine theirs : Option Hello)
-    → kind_in front ≡ Ok kind_of.Hello → only_coded (hello_of (drop 5 front)) ≡ theirs → mine ≡ own → IfSome mine IsCoded → IsSound key own (Came front ∷ before) (greeted key mine theirs).phase
+    → kind_in front ≡ Ok kind_of.Hello → of_version mine (only_coded (hello_of (drop 5 front))) ≡ theirs → mine ≡ own → IfSome mine IsCoded → IsSound key own (Came front ∷ before) (greeted key mine theirs).phase
 greeted_sound key own before front None None kind read is has = tt
 greeted_sound key own before front (Some hello) None kind read is has = tt
 greeted_sound key own before front None (Some hello) kind read is has = (sym is, inl (kind, read), coded_is (hello_of (drop 5 front)) hello read)
-greeted_sound key own before front (Some hello) (Some theirs) kind read is has = record {
-  role = Caller;
-  hellos = record { caller = hello; called = theirs };
-  nonces = (has, coded_is (hello_of (drop 5 front)) theirs read);
-  met = (sym is, inl (kind, read));
-  awaited = refl;
-  ways_are = refl;
-}
+greeted_sound key own before front (Some hello) (Some theirs) kind read is has =
+    let found = of_version_is (Some hello) (only_coded (hello_of (drop 5 front))) theirs read in
+    record {
+      role = Caller;
+      hellos = record { caller = hello; called = theirs };
+      nonces = (has, coded_is (hello_of (drop 5 front)) theirs found.0);
+      version = sym found.1;
+      met = (sym is, inl (kind, found.0));
+      awaited = refl;
+      ways_are = refl;
+    }
 
 proved_sound : (key : List ℕ) (own : Option Hello) (before : List Happening) (front : List ℕ) (theirs : Proof) (ways : Ways) (long right : Bool)
     → kind_in front ≡ Ok kind_of.Proof → bytes_eq (drop 5 front) theirs.tag ≡ right → IsMet key own before theirs ways
@@ -95,6 +104,7 @@ proved_sound key own before front theirs ways false true kind is met = record {
   role = met.role;
   hellos = met.hellos;
   nonces = met.nonces;
+  version = record { called = met.version; reading = ap (λ (w : Ways). w.reading.version) met.ways_are; writing = ap (λ (w : Ways). w.writing.version) met.ways_are };
   since = [];
   opening = Came front;
   earlier = before;
@@ -112,6 +122,7 @@ heard_sound key own before front ways is = record {
   role = is.role;
   hellos = is.hellos;
   nonces = is.nonces;
+  version = record { called = is.version.called; reading = is.version.reading; writing = is.version.writing };
   since = Came front ∷ is.since;
   opening = is.opening;
   earlier = is.earlier;
@@ -142,25 +153,38 @@ beat_heard_sound : (key : List ℕ) (own : Option Hello) (before : List Happenin
 beat_heard_sound key own before front ways (Err fault) is = tt
 beat_heard_sound key own before front ways (Ok body) is = told_sound key own before front ways (beat_of body) is
 
+more_heard_sound : (key : List ℕ) (own : Option Hello) (before : List Happening) (front : List ℕ) (ways : Ways) (byte : ℕ) (read : Result (List ℕ) ConnectionFault) → IsProved key own before ways
+    → IsSound key own (Came front ∷ before) (more_heard ways (body_length front) byte read).phase
+more_heard_sound key own before front ways byte (Err fault) is = tt
+more_heard_sound key own before front ways byte (Ok body) is = heard_sound key own before front ways is
+
+on_more_sound : (v : Version) (key : List ℕ) (own : Option Hello) (before : List Happening) (front : List ℕ) (ways : Ways) (byte : ℕ) → IsProved key own before ways
+    → IsSound key own (Came front ∷ before) (on_more v ways byte (drop 5 front)).phase
+on_more_sound First key own before front ways byte is = tt
+on_more_sound Second key own before front ways byte is = more_heard_sound key own before front ways byte (uncovered ways.reading (kind_of.More byte) (drop 5 front)) is
+
 stepped_sound : (key : List ℕ) (own : Option Hello) (before : List Happening) (front : List ℕ) (phase : Phase) (kind : Kind) → kind_in front ≡ Ok kind → IsSound key own before phase
     → IsSound key own (Came front ∷ before) (stepped key phase kind (drop 5 front)).phase
 unfolding stepped
-stepped_sound key own before front (phases.Greeting hello) kind_of.Hello kind is = greeted_sound key own before front hello (only_coded (hello_of (drop 5 front))) kind refl is.0 is.1
+stepped_sound key own before front (phases.Greeting hello) kind_of.Hello kind is = greeted_sound key own before front hello (of_version hello (only_coded (hello_of (drop 5 front)))) kind refl is.0 is.1
 stepped_sound key own before front (phases.Greeting hello) kind_of.Proof kind is = tt
 stepped_sound key own before front (phases.Greeting hello) kind_of.Frame kind is = tt
 stepped_sound key own before front (phases.Greeting hello) kind_of.Beat kind is = tt
+stepped_sound key own before front (phases.Greeting hello) (kind_of.More byte) kind is = tt
 stepped_sound key own before front (phases.Asked caller) found kind is = tt
 stepped_sound key own before front (phases.Proving theirs ways) kind_of.Hello kind is = tt
 stepped_sound key own before front (phases.Proving theirs ways) kind_of.Proof kind is =
     proved_sound key own before front theirs ways (not (eqb (length (drop 5 front)) TAG_BYTES)) (bytes_eq (drop 5 front) theirs.tag) kind refl is
 stepped_sound key own before front (phases.Proving theirs ways) kind_of.Frame kind is = tt
 stepped_sound key own before front (phases.Proving theirs ways) kind_of.Beat kind is = tt
+stepped_sound key own before front (phases.Proving theirs ways) (kind_of.More byte) kind is = tt
 stepped_sound key own before front (phases.Open ways) kind_of.Hello kind is = tt
 stepped_sound key own before front (phases.Open ways) kind_of.Proof kind is = tt
 stepped_sound key own before front (phases.Open ways) kind_of.Frame kind is =
     frame_heard_sound key own before front ways (uncovered ways.reading kind_of.Frame (drop 5 front)) is
 stepped_sound key own before front (phases.Open ways) kind_of.Beat kind is =
     beat_heard_sound key own before front ways (uncovered ways.reading kind_of.Beat (drop 5 front)) is
+stepped_sound key own before front (phases.Open ways) (kind_of.More byte) kind is = on_more_sound ways.reading.version key own before front ways byte is
 stepped_sound key own before front phases.Refused found kind is = tt
 stepped_sound key own before front (phases.Closed fault) found kind is = tt
 
@@ -175,22 +199,29 @@ came_sound key own before front phase is = step_by_sound key own before front ph
 
 -- ---- what this side does
 
-answered_sound : (key : List ℕ) (own : Option Hello) (before : List Happening) (hello : Hello) (phase : Phase) → IsCoded hello → IsSound key own before phase
-    → IsSound key own (Answered hello ∷ before) (answered_phase key hello phase)
-answered_sound key own before hello (phases.Asked caller) has is = record {
+asked_sound : (key : List ℕ) (own : Option Hello) (before : List Happening) (hello caller : Hello) (same : Bool) → same_version caller.version hello.version ≡ same → IsCoded hello → IsSound key own before (phases.Asked caller)
+    → IsSound key own (Answered hello ∷ before) (cond same (proving key Called Caller (record { caller = caller; called = hello })) (phases.Closed (faults.Record BadHello)))
+asked_sound key own before hello caller false version has is = tt
+asked_sound key own before hello caller true version has is = record {
   role = Called;
   hellos = record { caller = caller; called = hello };
   nonces = (is.2, has);
+  version = sym (same_is caller.version hello.version version);
   met = (is.0, inr is.1, inl refl);
   awaited = refl;
   ways_are = refl;
 }
+
+answered_sound : (key : List ℕ) (own : Option Hello) (before : List Happening) (hello : Hello) (phase : Phase) → IsCoded hello → IsSound key own before phase
+    → IsSound key own (Answered hello ∷ before) (answered_phase key hello phase)
+answered_sound key own before hello (phases.Asked caller) has is = asked_sound key own before hello caller (same_version caller.version hello.version) refl has is
 answered_sound key own before hello (phases.Greeting mine) has is = is
 answered_sound key own before hello (phases.Proving theirs ways) has is = still_met key own before (Answered hello) theirs ways is
 answered_sound key own before hello (phases.Open ways) has is = record {
   role = is.role;
   hellos = is.hellos;
   nonces = is.nonces;
+  version = is.version;
   since = Answered hello ∷ is.since;
   opening = is.opening;
   earlier = is.earlier;
@@ -208,6 +239,7 @@ said_sound key own before count (phases.Open ways) is = record {
   role = is.role;
   hellos = is.hellos;
   nonces = is.nonces;
+  version = record { called = is.version.called; reading = is.version.reading; writing = is.version.writing };
   since = Said count ∷ is.since;
   opening = is.opening;
   earlier = is.earlier;

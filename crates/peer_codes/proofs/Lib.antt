@@ -6,6 +6,7 @@ pub mod Mapping
 pub mod Mixing
 pub mod CodeLaws
 pub mod CoverLaws
+pub mod VersionLaws
 pub mod StepParts
 pub mod StepLaws
 pub mod HistoryLaws

@@ -1,13 +1,13 @@
 -- Records: what is read is what is written, and what is written is read again.
-use Rattle.std.proofs.Common.{◌≡◌, ℕ, zero, suc, ◌%◌, ◌^◌, ◌<◌, ◌≤◌, Bool, true, false, not, cond, ltb, leb, eqb, List, [], ◌∷◌, ◌++◌, length, take, drop, get_or, Option, Some, None, IfSome, Result, Ok, Err, refl, sym, ap, subst, ◌∙◌, arith, inl, inr, length-drop}
-use Rattle.std.proofs.lemmas.Bool.{ltb-false, leb-true, le-leb, eqb-true, eq-eqb, and_parts, not-false}
+use Rattle.std.proofs.Common.{◌≡◌, ℕ, zero, suc, ◌%◌, ◌^◌, ◌<◌, ◌≤◌, Bool, true, false, not, ◌&&◌, cond, ltb, leb, eqb, List, [], ◌∷◌, ◌++◌, length, take, drop, get_or, Option, Some, None, IfSome, Result, Ok, Err, refl, sym, ap, subst, ◌∙◌, arith, inl, inr, length-drop}
+use Rattle.std.proofs.lemmas.Bool.{ltb-false, leb-true, le-leb, eqb-true, ne_eqb, eq-eqb, and_parts, not-false}
 use Rattle.std.proofs.lemmas.List.{take-append-drop, take_all, drop-drop, drop_more}
 use Rattle.std.proofs.lemmas.Option.{same_Some}
 use Rattle.byteorder.specs.Endian.{big_number, big_bytes}
 use Rattle.byteorder.specs.Numbers.{big_number-reads_back, big_from-lt}
-use Rattle.paxos_wire.proofs.Steps.{IsBytes, IsBytes-drop, either}
+use Rattle.paxos_wire.proofs.Steps.{IsBytes, IsBytes-drop, either, then_some}
 use Rattle.paxos_wire.proofs.Numbers.{wide2, wide4}
-use Rattle.peer_codes.specs.declared.limits.TheConstants.{LIFE_BYTES, TAG_BYTES, BEAT_BYTES, LEAST_FRAME, MOST_FRAME}
+use Rattle.peer_codes.specs.declared.limits.TheConstants.{LIFE_BYTES, TAG_BYTES, BEAT_BYTES, LEAST_FRAME, MOST_FRAME, LEAST_MORE, NO_KIND}
 use Rattle.peer_codes.specs.declared.fault.RecordFault.{RecordFault}
 use Rattle.peer_codes.specs.declared.fault.RecordFault.TheVariants.{BadLength, BadKind}
 use Rattle.peer_codes.specs.declared.hello.Hello.{Hello}
@@ -16,7 +16,8 @@ use Rattle.peer_codes.specs.declared.records.Record.{Record}
 use Rattle.peer_codes.specs.declared.records.Record.TheVariants as record_of
 use Rattle.peer_codes.specs.declared.kind.Kind.{Kind}
 use Rattle.peer_codes.specs.declared.kind.Kind.TheVariants as kind_of
-use Rattle.peer_codes.specs.Kinds.{kind_byte, kind_told}
+use Rattle.peer_codes.specs.Mores.{is_more}
+use Rattle.peer_codes.specs.Kinds.{kind_byte, kind_told, IsKind}
 use Rattle.peer_codes.specs.declared.hello.Life.{Life}
 use Rattle.peer_codes.specs.Fits.{are_zeros, IsLife, IsBeat, IsRecord, CanBeSaid, IsHeld}
 use Rattle.peer_codes.specs.Spelling.{flags_byte, beat_text, kind, body}
@@ -40,30 +41,58 @@ same_Ok x y e = cc
 told : (byte n : ℕ) (k found : Kind) → kind_byte k ≡ n → eqb byte n ≡ true → Some k ≡ Some found → kind_byte found ≡ byte
 told byte n k found is same e = subst (λ (x : Kind). kind_byte x ≡ byte) (same_Some k found e) (is ∙ sym (eqb-true byte n same))
 
-pub told_byte : (byte : ℕ) (found : Kind) → kind_told byte ≡ Some found → kind_byte found ≡ byte
-told_byte byte found e =
-    elim (either (eqb byte 0) (Some kind_of.Hello) (cond (eqb byte 1) (Some kind_of.Proof) (cond (eqb byte 2) (Some kind_of.Frame) (cond (eqb byte 3) (Some kind_of.Beat) None))) found e) [
-      | inl p ↦ told byte 0 kind_of.Hello found refl p.0 p.1
+-- a kind that there is, told by this byte
+pub record IsTold (byte : ℕ) (found : Kind) : Type 0 where
+  pub byte_is : kind_byte found ≡ byte
+  pub there : IsKind found
+
+named : (byte n : ℕ) (k found : Kind) → kind_byte k ≡ n → IsKind k → eqb byte n ≡ true → Some k ≡ Some found → IsTold byte found
+named byte n k found is there same e = record { byte_is = told byte n k found is same e; there = subst (λ (x : Kind). IsKind x) (same_Some k found e) there }
+
+further : (byte : ℕ) (found : Kind) → cond (is_more byte) (Some (kind_of.More byte)) None ≡ Some found → IsTold byte found
+further byte found e =
+    let p = then_some (is_more byte) (Some (kind_of.More byte)) found e in
+    subst (λ (x : Kind). IsTold byte x) (same_Some (kind_of.More byte) found p.1) (record { byte_is = refl; there = p.0 })
+
+pub told_kind : (byte : ℕ) (found : Kind) → kind_told byte ≡ Some found → IsTold byte found
+told_kind byte found e =
+    let fifth : Option Kind = cond (is_more byte) (Some (kind_of.More byte)) None in
+    elim (either (eqb byte 0) (Some kind_of.Hello) (cond (eqb byte 1) (Some kind_of.Proof) (cond (eqb byte 2) (Some kind_of.Frame) (cond (eqb byte 3) (Some kind_of.Beat) fifth))) found e) [
+      | inl p ↦ named byte 0 kind_of.Hello found refl tt p.0 p.1
       | inr p ↦
-          elim (either (eqb byte 1) (Some kind_of.Proof) (cond (eqb byte 2) (Some kind_of.Frame) (cond (eqb byte 3) (Some kind_of.Beat) None)) found p.1) [
-            | inl q ↦ told byte 1 kind_of.Proof found refl q.0 q.1
+          elim (either (eqb byte 1) (Some kind_of.Proof) (cond (eqb byte 2) (Some kind_of.Frame) (cond (eqb byte 3) (Some kind_of.Beat) fifth)) found p.1) [
+            | inl q ↦ named byte 1 kind_of.Proof found refl tt q.0 q.1
             | inr q ↦
-                elim (either (eqb byte 2) (Some kind_of.Frame) (cond (eqb byte 3) (Some kind_of.Beat) None) found q.1) [
-                  | inl r ↦ told byte 2 kind_of.Frame found refl r.0 r.1
+                elim (either (eqb byte 2) (Some kind_of.Frame) (cond (eqb byte 3) (Some kind_of.Beat) fifth) found q.1) [
+                  | inl r ↦ named byte 2 kind_of.Frame found refl tt r.0 r.1
                   | inr r ↦
-                      elim (either (eqb byte 3) (Some kind_of.Beat) None found r.1) [
-                        | inl s ↦ told byte 3 kind_of.Beat found refl s.0 s.1
-                        | inr s ↦ absurd cc
+                      elim (either (eqb byte 3) (Some kind_of.Beat) fifth found r.1) [
+                        | inl s ↦ named byte 3 kind_of.Beat found refl tt s.0 s.1
+                        | inr s ↦ further byte found s.1
                       ]
                 ]
           ]
     ]
 
-pub told_again : (k : Kind) → kind_told (kind_byte k) ≡ Some k
-told_again kind_of.Hello = refl
-told_again kind_of.Proof = refl
-told_again kind_of.Frame = refl
-told_again kind_of.Beat = refl
+fifth_told : (a b c d e : Bool) (k : Kind) → a ≡ false → b ≡ false → c ≡ false → d ≡ false → e ≡ true
+    → cond a (Some kind_of.Hello) (cond b (Some kind_of.Proof) (cond c (Some kind_of.Frame) (cond d (Some kind_of.Beat) (cond e (Some k) None)))) ≡ Some k
+fifth_told a b c d e k p q r s t = rw (p, q, r, s, t) refl
+
+pub more_again : (byte : ℕ) → is_more byte ≡ true → kind_told byte ≡ Some (kind_of.More byte)
+more_again byte is =
+    let least : LEAST_MORE ≤ byte = leb-true _ _ (and_parts (leb LEAST_MORE byte) (not (eqb byte NO_KIND)) is).0 in
+    let n0 : eqb byte 0 ≡ false = ne_eqb byte 0 (λ e. absurd (omega (arith, least, e))) in
+    let n1 : eqb byte 1 ≡ false = ne_eqb byte 1 (λ e. absurd (omega (arith, least, e))) in
+    let n2 : eqb byte 2 ≡ false = ne_eqb byte 2 (λ e. absurd (omega (arith, least, e))) in
+    let n3 : eqb byte 3 ≡ false = ne_eqb byte 3 (λ e. absurd (omega (arith, least, e))) in
+    fifth_told (eqb byte 0) (eqb byte 1) (eqb byte 2) (eqb byte 3) (is_more byte) (kind_of.More byte) n0 n1 n2 n3 is
+
+pub told_again : (k : Kind) → IsKind k → kind_told (kind_byte k) ≡ Some k
+told_again kind_of.Hello is = refl
+told_again kind_of.Proof is = refl
+told_again kind_of.Frame is = refl
+told_again kind_of.Beat is = refl
+told_again (kind_of.More byte) is = more_again byte is
 
 -- ---- beats
 
@@ -155,26 +184,30 @@ pub record IsSaid (k : Kind) (bytes : List ℕ) (r : Record) : Type 0 where
   pub kind_is : kind r ≡ k
   pub text : body r ≡ bytes
 
-pub content_is : (k : Kind) (bytes : List ℕ) (r : Record) → IsBytes bytes → content_of k bytes ≡ Ok r → IsSaid k bytes r
+pub content_is : (k : Kind) (bytes : List ℕ) (r : Record) → IsKind k → IsBytes bytes → content_of k bytes ≡ Ok r → IsSaid k bytes r
 unfolding content_of
-content_is kind_of.Hello bytes r fits e =
+content_is kind_of.Hello bytes r there fits e =
     let said = hello_said (hello_of bytes) r e in
     let is = hello_is bytes said.0 fits said.1 in
     subst (λ (x : Record). IsSaid kind_of.Hello bytes x) said.2 (record { fits = is.0; kind_is = refl; text = sym is.1 })
-content_is kind_of.Proof bytes r fits e =
+content_is kind_of.Proof bytes r there fits e =
     let made : Record = record_of.Proof (record { tag = bytes }) in
     let p = passed (eqb (length bytes) TAG_BYTES) BadLength (Ok made) r e in
     subst (λ (x : Record). IsSaid kind_of.Proof bytes x) (same_Ok made r p.1) (record { fits = eqb-true _ _ p.0; kind_is = refl; text = refl })
-content_is kind_of.Frame bytes r fits e =
+content_is kind_of.Frame bytes r there fits e =
     let made : Record = record_of.Frame (record { bytes = record { items = bytes } }) in
     let p = passed (is_frame bytes) BadLength (Ok made) r e in
     let both = and_parts (leb LEAST_FRAME (length bytes)) (leb (length bytes) MOST_FRAME) p.0 in
     subst (λ (x : Record). IsSaid kind_of.Frame bytes x) (same_Ok made r p.1)
     (record { fits = record { least = leb-true _ _ both.0; most = leb-true _ _ both.1 }; kind_is = refl; text = refl })
-content_is kind_of.Beat bytes r fits e =
+content_is kind_of.Beat bytes r there fits e =
     let said = beat_said (beat_of bytes) r e in
     let is = beat_is bytes said.0 fits said.1 in
     subst (λ (x : Record). IsSaid kind_of.Beat bytes x) said.2 (record { fits = is.0; kind_is = refl; text = is.1 })
+content_is (kind_of.More byte) bytes r there fits e =
+    let made : Record = record_of.More (record { kind = byte; bytes = record { items = bytes } }) in
+    let p = passed (leb (length bytes) MOST_FRAME) BadLength (Ok made) r e in
+    subst (λ (x : Record). IsSaid (kind_of.More byte) bytes x) (same_Ok made r p.1) (record { fits = record { kind = there; most = leb-true _ _ p.0 }; kind_is = refl; text = refl })
 
 pub content_again : (r : Record) → IsRecord r → content_of (kind r) (body r) ≡ Ok r
 unfolding content_of
@@ -182,12 +215,22 @@ content_again (record_of.Hello h) fits = rw (hello_again h fits) refl
 content_again (record_of.Proof p) fits = rw (eq-eqb (length p.tag) TAG_BYTES fits) refl
 content_again (record_of.Frame f) fits = rw (le-leb LEAST_FRAME (length f.bytes.items) fits.least, le-leb (length f.bytes.items) MOST_FRAME fits.most) refl
 content_again (record_of.Beat b) fits = ap beat_record (beat_back b.number b.got b.front b.seats b.campaigns b.over fits.number fits.got fits.front fits.seats)
+content_again (record_of.More m) fits = rw (le-leb (length m.bytes.items) MOST_FRAME fits.most) refl
+
+-- its kind is one that there is
+pub kind_there : (r : Record) → IsRecord r → IsKind (kind r)
+kind_there (record_of.Hello h) fits = tt
+kind_there (record_of.Proof p) fits = tt
+kind_there (record_of.Frame f) fits = tt
+kind_there (record_of.Beat b) fits = tt
+kind_there (record_of.More m) fits = fits.kind
 
 pub body_most : (r : Record) → IsRecord r → length (body r) ≤ MOST_FRAME
 body_most (record_of.Hello h) fits = omega (arith, hello_most h fits)
 body_most (record_of.Proof p) fits = omega (arith, fits)
 body_most (record_of.Frame f) fits = fits.most
 body_most (record_of.Beat b) fits = omega arith
+body_most (record_of.More m) fits = fits.most
 
 -- ---- what can be said is read
 
@@ -207,3 +250,4 @@ is_record (record_of.Hello h) can held = record {
 is_record (record_of.Proof p) can held = held
 is_record (record_of.Frame f) can held = record { least = can; most = held }
 is_record (record_of.Beat b) can held = held
+is_record (record_of.More m) can held = record { kind = can; most = held }

@@ -11,12 +11,12 @@ use Rattle.peer_codes.specs.declared.fault.RecordFault.{RecordFault}
 use Rattle.peer_codes.specs.declared.fault.RecordFault.TheVariants.{BadLength}
 use Rattle.peer_codes.specs.declared.records.Record.{Record}
 use Rattle.peer_codes.specs.declared.kind.Kind.{Kind}
-use Rattle.peer_codes.specs.Kinds.{kind_byte, kind_told}
+use Rattle.peer_codes.specs.Kinds.{kind_byte, kind_told, IsKind}
 use Rattle.peer_codes.specs.Fits.{IsRecord}
 use Rattle.peer_codes.specs.Spelling.{kind, body, enveloped, record_text}
 use Rattle.peer_codes.specs.Reading.{content_of}
 use Rattle.peer_codes.specs.Faults.{length_field, is_length, needed, front, IsPartial, kind_or_fault, kind_in, content_read, reading, IsFaulty}
-use Rattle.peer_codes.proofs.RecordLaws.{past, same_Ok, told_byte, told_again, IsSaid, content_is, content_again, body_most}
+use Rattle.peer_codes.proofs.RecordLaws.{past, same_Ok, told_kind, told_again, IsSaid, content_is, content_again, kind_there, body_most}
 
 -- ---- what was read is a record
 
@@ -71,8 +71,9 @@ front_is bytes end r fits is there e =
     let whole : needed bytes ≡ 4 + length_field bytes = needed_whole bytes (omega (arith, five, is)) in
     let field : length_field (take end bytes) ≡ length_field bytes = big_from-take 0 4 end bytes (omega (arith, five)) in
     let some = IsBytes-take end bytes fits in
-    let said = content_is p.0 (drop 5 (take end bytes)) r (IsBytes-drop 5 (take end bytes) some) p.3 in
-    let text = whole_is (take end bytes) p.0 r some p.1 (omega (arith, long, is, whole, field)) (told_byte _ p.0 p.2) said in
+    let found = told_kind _ p.0 p.2 in
+    let said = content_is p.0 (drop 5 (take end bytes)) r found.there (IsBytes-drop 5 (take end bytes) some) p.3 in
+    let text = whole_is (take end bytes) p.0 r some p.1 (omega (arith, long, is, whole, field)) found.byte_is said in
     (said.fits, sym (take-append-drop end bytes) ∙ ap (λ (w : List ℕ). w ++ drop end bytes) text)
 
 -- ---- what is written is read again
@@ -100,12 +101,12 @@ enveloped_needed k content rest most =
     let fits : leb (length content + 1) MOST_LENGTH ≡ true = le-leb _ _ most in
     rw (long, enveloped_field k content rest most, least, fits) (omega (arith, size))
 
-kind_again : (short : Bool) (k : Kind) → short ≡ false → cond short (Err BadLength) (kind_or_fault (kind_told (kind_byte k))) ≡ Ok k
-kind_again short k not_short = rw (not_short, told_again k) refl
+kind_again : (short : Bool) (k : Kind) → short ≡ false → IsKind k → cond short (Err BadLength) (kind_or_fault (kind_told (kind_byte k))) ≡ Ok k
+kind_again short k not_short there = rw (not_short, told_again k there) refl
 
-pub enveloped_kind : (k : Kind) (content : List ℕ) → kind_in (enveloped k content) ≡ Ok k
+pub enveloped_kind : (k : Kind) (content : List ℕ) → IsKind k → kind_in (enveloped k content) ≡ Ok k
 unfolding kind_in enveloped
-enveloped_kind k content = kind_again (ltb (length (big_bytes 4 (length content + 1) ++ (kind_byte k ∷ content))) 5) k (le-ltb _ _ (omega arith))
+enveloped_kind k content there = kind_again (ltb (length (big_bytes 4 (length content + 1) ++ (kind_byte k ∷ content))) 5) k (le-ltb _ _ (omega arith)) there
 
 pub enveloped_content : (k : Kind) (content : List ℕ) → drop 5 (enveloped k content) ≡ content
 unfolding enveloped
@@ -113,7 +114,7 @@ enveloped_content k content = refl
 
 pub reading_again : (r : Record) → IsRecord r → reading (record_text r) ≡ Ok r
 unfolding reading
-reading_again r fits = rw (enveloped_kind (kind r) (body r), enveloped_content (kind r) (body r)) (content_again r fits)
+reading_again r fits = rw (enveloped_kind (kind r) (body r) (kind_there r fits), enveloped_content (kind r) (body r)) (content_again r fits)
 
 pub in_front : (r : Record) (bytes rest : List ℕ) → IsRecord r → bytes ≡ record_text r ++ rest → IsInFront r bytes rest
 in_front r bytes rest fits e =

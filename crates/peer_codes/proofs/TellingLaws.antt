@@ -1,5 +1,5 @@
 -- An event that a connection tells goes by what stands in front, and where it waits little came.
-use Rattle.std.proofs.Common.{◌≡◌, ◌⊎◌, inl, inr, ℕ, ◌-◌, ◌+◌, ◌<◌, ◌≤◌, arith, Bool, true, false, not, cond, eqb, ltb, leb, List, length, drop, Option, Some, None, Result, Ok, Err, refl, sym, ap, ◌∙◌}
+use Rattle.std.proofs.Common.{◌≡◌, ◌⊎◌, inl, inr, ℕ, ◌-◌, ◌+◌, ◌<◌, ◌≤◌, arith, Bool, true, false, not, cond, eqb, ltb, leb, List, length, drop, Option, Some, None, IfSome, Result, Ok, Err, refl, sym, ap, ◌∙◌}
 use Rattle.std.specs.Str.{bytes_eq}
 use Rattle.std.proofs.lemmas.Bool.{and_parts, leb-true}
 use Rattle.peer_codes.specs.declared.limits.TheConstants.{TAG_BYTES, MOST_LENGTH, MOST_RECORD}
@@ -7,6 +7,8 @@ use Rattle.peer_codes.specs.declared.fault.RecordFault.{RecordFault}
 use Rattle.peer_codes.specs.declared.fault.RecordFault.TheVariants.{BadLength}
 use Rattle.peer_codes.specs.declared.connection_fault.ConnectionFault.{ConnectionFault}
 use Rattle.peer_codes.specs.declared.connection_fault.ConnectionFault.TheVariants as faults
+use Rattle.peer_codes.specs.declared.version.Version.{Version}
+use Rattle.peer_codes.specs.declared.version.Version.TheVariants.{First, Second}
 use Rattle.peer_codes.specs.declared.role.Role.TheVariants.{Called}
 use Rattle.peer_codes.specs.declared.hello.Hello.{Hello}
 use Rattle.peer_codes.specs.declared.beat.Beat.{Beat}
@@ -15,21 +17,24 @@ use Rattle.peer_codes.specs.declared.kind.Kind.{Kind}
 use Rattle.peer_codes.specs.declared.kind.Kind.TheVariants as kind_of
 use Rattle.peer_codes.specs.declared.event.Event.{Event}
 use Rattle.peer_codes.specs.declared.event.Event.TheVariants as events
+use Rattle.peer_codes.specs.declared.more.More.{More}
 use Rattle.peer_codes.specs.declared.phase.Ways.{Ways}
 use Rattle.peer_codes.specs.declared.phase.Phase.{Phase}
 use Rattle.peer_codes.specs.declared.phase.Phase.TheVariants as phases
 use Rattle.peer_codes.specs.declared.step.Step.{Step}
 use Rattle.peer_codes.specs.declared.outgoing.Outgoing.{Outgoing}
 use Rattle.peer_codes.specs.declared.connection.Connection.{Connection}
+use Rattle.peer_codes.specs.Versions.{same_version}
 use Rattle.peer_codes.specs.Reading.{hello_of, beat_of, is_frame}
 use Rattle.peer_codes.specs.Faults.{length_field, is_length, needed, front, kind_in, IsPartial}
 use Rattle.peer_codes.specs.Codes.{covered, uncovered}
-use Rattle.peer_codes.specs.Steps.{closed, proof_of, opened, only_coded, greeted, heard, frame_heard, beat_told, beat_heard, stepped, step_by, front_step}
+use Rattle.peer_codes.specs.Steps.{closed, proof_of, opened, only_coded, of_version, greeted, heard, frame_heard, beat_told, beat_heard, more_heard, on_more, stepped, step_by, front_step}
 use Rattle.peer_codes.specs.Outgoings.{later}
-use Rattle.peer_codes.specs.Connections.{Reads, ReadsOrWaits, Next, answered}
-use Rattle.peer_codes.specs.Telling.{InFront, own_proof, IsHeard, ToldBy, IsAsked}
+use Rattle.peer_codes.specs.Connections.{Reads, ReadsOrWaits, Next, met, turned_away, answered}
+use Rattle.peer_codes.specs.Telling.{InFront, own_proof, IsHeard, IsMoreHeard, ToldBy, IsAsked}
 use Rattle.peer_codes.proofs.CodeLaws.{covered_length}
-use Rattle.peer_codes.proofs.StepLaws.{Told, next_ways, frame_said, beat_said, opening_said}
+use Rattle.peer_codes.proofs.StepLaws.{Told, next_ways, frame_said, beat_said, more_said, opening_said}
+use Rattle.peer_codes.proofs.VersionLaws.{is_same, not_same, of_version_is}
 
 -- ---- a Hello
 
@@ -64,29 +69,40 @@ beat_no_greeting : (ways : Ways) (count : ℕ) (read : Result (List ℕ) Connect
 beat_no_greeting ways count (Err fault) h e = absurd cc
 beat_no_greeting ways count (Ok body) h e = told_no_greeting ways count (beat_of body) h e
 
+more_no_greeting : (ways : Ways) (count byte : ℕ) (read : Result (List ℕ) ConnectionFault) (h : Hello) → (more_heard ways count byte read).event ≡ Ok (events.Greeted h) → ⊥
+more_no_greeting ways count byte (Err fault) h e = absurd cc
+more_no_greeting ways count byte (Ok body) h e = absurd cc
+
+on_more_no_greeting : (v : Version) (ways : Ways) (byte : ℕ) (content : List ℕ) (h : Hello) → (on_more v ways byte content).event ≡ Ok (events.Greeted h) → ⊥
+on_more_no_greeting First ways byte content h e = absurd cc
+on_more_no_greeting Second ways byte content h e = more_no_greeting ways (length content - TAG_BYTES) byte (uncovered ways.reading (kind_of.More byte) content) h e
+
 -- no Hello came yet, and this one is that
 record Greets (phase : Phase) (kind : Kind) (content : List ℕ) (hello : Hello) : Type 0 where
   pub own : Option Hello
   pub phase_is : phase ≡ phases.Greeting own
   pub kind_is : kind ≡ kind_of.Hello
-  pub hello_is : only_coded (hello_of content) ≡ Some hello
+  pub taken : of_version own (only_coded (hello_of content)) ≡ Some hello
 
 greeting_said : (key : List ℕ) (phase : Phase) (kind : Kind) (content : List ℕ) (hello : Hello) → (stepped key phase kind content).event ≡ Ok (events.Greeted hello) → Greets phase kind content hello
 unfolding stepped
-greeting_said key (phases.Greeting own) kind_of.Hello content hello e = record { own = own; phase_is = refl; kind_is = refl; hello_is = greeted_hello key own (only_coded (hello_of content)) hello e }
+greeting_said key (phases.Greeting own) kind_of.Hello content hello e = record { own = own; phase_is = refl; kind_is = refl; taken = greeted_hello key own (of_version own (only_coded (hello_of content))) hello e }
 greeting_said key (phases.Greeting own) kind_of.Proof content hello e = absurd cc
 greeting_said key (phases.Greeting own) kind_of.Frame content hello e = absurd cc
 greeting_said key (phases.Greeting own) kind_of.Beat content hello e = absurd cc
+greeting_said key (phases.Greeting own) (kind_of.More byte) content hello e = absurd cc
 greeting_said key (phases.Asked caller) kind content hello e = absurd cc
 greeting_said key phases.Refused kind content hello e = absurd cc
 greeting_said key (phases.Proving theirs ways) kind_of.Hello content hello e = absurd cc
 greeting_said key (phases.Proving theirs ways) kind_of.Proof content hello e = absurd (proof_no_greeting (not (eqb (length content) TAG_BYTES)) (bytes_eq content theirs.tag) ways hello e)
 greeting_said key (phases.Proving theirs ways) kind_of.Frame content hello e = absurd cc
 greeting_said key (phases.Proving theirs ways) kind_of.Beat content hello e = absurd cc
+greeting_said key (phases.Proving theirs ways) (kind_of.More byte) content hello e = absurd cc
 greeting_said key (phases.Open ways) kind_of.Hello content hello e = absurd cc
 greeting_said key (phases.Open ways) kind_of.Proof content hello e = absurd cc
 greeting_said key (phases.Open ways) kind_of.Frame content hello e = absurd (frame_no_greeting ways (length content - TAG_BYTES) (uncovered ways.reading kind_of.Frame content) hello e)
 greeting_said key (phases.Open ways) kind_of.Beat content hello e = absurd (beat_no_greeting ways (length content - TAG_BYTES) (uncovered ways.reading kind_of.Beat content) hello e)
+greeting_said key (phases.Open ways) (kind_of.More byte) content hello e = absurd (on_more_no_greeting ways.reading.version ways byte content hello e)
 greeting_said key (phases.Closed fault) kind content hello e = absurd cc
 
 -- ---- how far it is then
@@ -104,6 +120,7 @@ proof_opens_it key theirs ways kind_of.Hello content e = absurd cc
 proof_opens_it key theirs ways kind_of.Proof content e = opens_by (not (eqb (length content) TAG_BYTES)) (bytes_eq content theirs.tag) ways e
 proof_opens_it key theirs ways kind_of.Frame content e = absurd cc
 proof_opens_it key theirs ways kind_of.Beat content e = absurd cc
+proof_opens_it key theirs ways (kind_of.More byte) content e = absurd cc
 
 fits_stays : (fits : Bool) (ways : Ways) (count : ℕ) (body : List ℕ) (event : Event)
     → (cond fits (heard ways count (events.Frame (record { bytes = record { items = body } }))) (closed (faults.Record BadLength))).event ≡ Ok event
@@ -123,6 +140,15 @@ beat_stays : (ways : Ways) (count : ℕ) (read : Result (List ℕ) ConnectionFau
 beat_stays ways count (Err fault) event e = absurd cc
 beat_stays ways count (Ok body) event e = told_stays ways count (beat_of body) event e
 
+more_stays : (ways : Ways) (count byte : ℕ) (read : Result (List ℕ) ConnectionFault) (event : Event) → (more_heard ways count byte read).event ≡ Ok event → (more_heard ways count byte read).phase ≡ phases.Open (next_ways ways count)
+more_stays ways count byte (Err fault) event e = absurd cc
+more_stays ways count byte (Ok body) event e = refl
+
+on_more_stays : (v : Version) (ways : Ways) (byte : ℕ) (content : List ℕ) (event : Event) → (on_more v ways byte content).event ≡ Ok event
+    → (on_more v ways byte content).phase ≡ phases.Open (next_ways ways (length content - TAG_BYTES))
+on_more_stays First ways byte content event e = absurd cc
+on_more_stays Second ways byte content event e = more_stays ways (length content - TAG_BYTES) byte (uncovered ways.reading (kind_of.More byte) content) event e
+
 stays_open : (key : List ℕ) (ways : Ways) (kind : Kind) (content : List ℕ) (event : Event) → (stepped key (phases.Open ways) kind content).event ≡ Ok event
     → (stepped key (phases.Open ways) kind content).phase ≡ phases.Open (next_ways ways (length content - TAG_BYTES))
 unfolding stepped
@@ -130,6 +156,7 @@ stays_open key ways kind_of.Hello content event e = absurd cc
 stays_open key ways kind_of.Proof content event e = absurd cc
 stays_open key ways kind_of.Frame content event e = frame_stays ways (length content - TAG_BYTES) (uncovered ways.reading kind_of.Frame content) event e
 stays_open key ways kind_of.Beat content event e = beat_stays ways (length content - TAG_BYTES) (uncovered ways.reading kind_of.Beat content) event e
+stays_open key ways (kind_of.More byte) content event e = on_more_stays ways.reading.version ways byte content event e
 
 -- ---- what stood in front
 
@@ -161,13 +188,22 @@ says_by key (Some own) (Some theirs) hello earlier e =
     let same : theirs ≡ hello = cc in
     ap (λ (h : Hello). own_proof key (Some own) h earlier) same
 
-greets_with : (key : List ℕ) (own : Option Hello) (content : List ℕ) (hello : Hello) (earlier : Option Proof) → only_coded (hello_of content) ≡ Some hello
+greets_with : (key : List ℕ) (own : Option Hello) (content : List ℕ) (hello : Hello) (earlier : Option Proof) → of_version own (only_coded (hello_of content)) ≡ Some hello
     → later earlier (stepped key (phases.Greeting own) kind_of.Hello content).proof ≡ own_proof key own hello earlier
 unfolding stepped
-greets_with key own content hello earlier e = says_by key own (only_coded (hello_of content)) hello earlier e
+greets_with key own content hello earlier e = says_by key own (of_version own (only_coded (hello_of content))) hello earlier e
 
 abbrev with_proof : Outgoing → Option Proof → Outgoing
 with_proof o proof = record o { proof = proof }
+
+open_ways : (v w : Ways) → phases.Open v ≡ phases.Open w → v ≡ w
+open_ways v w e = cc
+
+on_the_second : (old new : Connection) (byte : ℕ) (body : List ℕ) (ways : Ways) → ways.reading.version ≡ Second → old.phase ≡ phases.Open ways → IsHeard (kind_of.More byte) body old new → IsMoreHeard byte body old new
+on_the_second old new byte body ways second is_open heard = record {
+  heard = heard;
+  second = ap (λ (w : Ways). w.reading.version) (open_ways heard.ways ways (sym heard.open_was ∙ is_open)) ∙ second;
+}
 
 told_by : (old new : Connection) (kind : Kind) (content : List ℕ) (event : Event) → InFront kind content old
     → (stepped old.key.bytes old.phase kind content).event ≡ Ok event → new.phase ≡ (stepped old.key.bytes old.phase kind content).phase
@@ -177,13 +213,15 @@ told_by old new kind content (events.Greeted hello) came told goes out =
     let proof : later old.out.proof (stepped old.key.bytes old.phase kind content).proof ≡ own_proof old.key.bytes is.own hello old.out.proof =
     ap (λ (p : Phase). later old.out.proof (stepped old.key.bytes p kind content).proof) is.phase_is
     ∙ ap (λ (k : Kind). later old.out.proof (stepped old.key.bytes (phases.Greeting is.own) k content).proof) is.kind_is
-    ∙ greets_with old.key.bytes is.own content hello old.out.proof is.hello_is in
+    ∙ greets_with old.key.bytes is.own content hello old.out.proof is.taken in
+    let found = of_version_is is.own (only_coded (hello_of content)) hello is.taken in
     record {
       own = is.own;
       content = content;
       greeting = is.phase_is;
       came = as_kind kind kind_of.Hello content old is.kind_is came;
-      hello_is = is.hello_is;
+      hello_is = found.0;
+      version = found.1;
       out = out ∙ ap (λ (p : Option Proof). with_proof old.out p) proof;
     }
 told_by old new kind content events.Opened came told goes out =
@@ -210,6 +248,12 @@ told_by old new kind content (events.Beat beat) came told goes out =
           (ap (λ (k : Kind). (stepped old.key.bytes old.phase k content).event) (sym is.kind_is) ∙ told)
           (goes ∙ ap (λ (k : Kind). (stepped old.key.bytes old.phase k content).phase) is.kind_is),
     )
+told_by old new kind content (events.More more) came told goes out =
+    let is = more_said old.key.bytes old.phase kind content more told in
+    on_the_second old new more.kind more.bytes.items is.ways is.version is.phase_is
+    (heard_by old new (kind_of.More more.kind) more.bytes.items content is.ways (events.More more) (as_kind kind (kind_of.More more.kind) content old is.kind_is came) is.phase_is is.text
+    (ap (λ (k : Kind). (stepped old.key.bytes old.phase k content).event) (sym is.kind_is) ∙ told)
+    (goes ∙ ap (λ (k : Kind). (stepped old.key.bytes old.phase k content).phase) is.kind_is))
 
 found_by : (old new : Connection) (found : Result Kind RecordFault) (event : Event) → kind_in (front old.came.waiting) ≡ found
     → (step_by old.key.bytes old.phase found (drop 5 (front old.came.waiting))).event ≡ Ok event
@@ -266,22 +310,33 @@ beat_says : (ways : Ways) (count : ℕ) (read : Result (List ℕ) ConnectionFaul
 beat_says ways count (Err fault) = inl refl
 beat_says ways count (Ok body) = told_says ways count (beat_of body)
 
+more_says : (ways : Ways) (count byte : ℕ) (read : Result (List ℕ) ConnectionFault) → SaysOrGreets (more_heard ways count byte read)
+more_says ways count byte (Err fault) = inl refl
+more_says ways count byte (Ok body) = inl refl
+
+on_more_says : (v : Version) (ways : Ways) (byte : ℕ) (content : List ℕ) → SaysOrGreets (on_more v ways byte content)
+on_more_says First ways byte content = inl refl
+on_more_says Second ways byte content = more_says ways (length content - TAG_BYTES) byte (uncovered ways.reading (kind_of.More byte) content)
+
 stepped_says : (key : List ℕ) (phase : Phase) (kind : Kind) (content : List ℕ) → SaysOrGreets (stepped key phase kind content)
 unfolding stepped
-stepped_says key (phases.Greeting own) kind_of.Hello content = greeted_says key own (only_coded (hello_of content))
+stepped_says key (phases.Greeting own) kind_of.Hello content = greeted_says key own (of_version own (only_coded (hello_of content)))
 stepped_says key (phases.Greeting own) kind_of.Proof content = inl refl
 stepped_says key (phases.Greeting own) kind_of.Frame content = inl refl
 stepped_says key (phases.Greeting own) kind_of.Beat content = inl refl
+stepped_says key (phases.Greeting own) (kind_of.More byte) content = inl refl
 stepped_says key (phases.Asked caller) kind content = inl refl
 stepped_says key phases.Refused kind content = inl refl
 stepped_says key (phases.Proving theirs ways) kind_of.Hello content = inl refl
 stepped_says key (phases.Proving theirs ways) kind_of.Proof content = proof_says (not (eqb (length content) TAG_BYTES)) (bytes_eq content theirs.tag) ways
 stepped_says key (phases.Proving theirs ways) kind_of.Frame content = inl refl
 stepped_says key (phases.Proving theirs ways) kind_of.Beat content = inl refl
+stepped_says key (phases.Proving theirs ways) (kind_of.More byte) content = inl refl
 stepped_says key (phases.Open ways) kind_of.Hello content = inl refl
 stepped_says key (phases.Open ways) kind_of.Proof content = inl refl
 stepped_says key (phases.Open ways) kind_of.Frame content = frame_says ways (length content - TAG_BYTES) (uncovered ways.reading kind_of.Frame content)
 stepped_says key (phases.Open ways) kind_of.Beat content = beat_says ways (length content - TAG_BYTES) (uncovered ways.reading kind_of.Beat content)
+stepped_says key (phases.Open ways) (kind_of.More byte) content = on_more_says ways.reading.version ways byte content
 stepped_says key (phases.Closed fault) kind content = inl refl
 
 step_says : (key : List ℕ) (phase : Phase) (found : Result Kind RecordFault) (content : List ℕ) → SaysOrGreets (step_by key phase found content)
@@ -317,9 +372,14 @@ says_next (phases.Open ways) old new result h = reads_say old new result h
 pub out_stays : (old new : Connection) (result : Option Told) → Next old.phase old result new → OutStays old result new
 out_stays old new result h = says_next old.phase old new result h
 
-pub asked_answers : (old : Connection) (own caller : Hello) → old.phase ≡ phases.Asked caller
+pub asked_answers : (old : Connection) (own caller : Hello) → old.phase ≡ phases.Asked caller → own.version ≡ caller.version
     → (answered old.phase own old).out ≡ record old.out { hello = Some own; proof = Some (proof_of old.key.bytes Called (record { caller = caller; called = own })) }
-asked_answers old own caller e = ap (λ (p : Phase). (answered p own old).out) e
+asked_answers old own caller e same =
+    ap (λ (p : Phase). (answered p own old).out) e ∙ ap (λ (b : Bool). (cond b (met caller own old) (turned_away own old)).out) (is_same caller.version own.version (sym same))
+
+pub asked_in_another : (old : Connection) (own caller : Hello) → old.phase ≡ phases.Asked caller → (own.version ≡ caller.version → ⊥) → (answered old.phase own old).out ≡ record old.out { hello = Some own }
+asked_in_another old own caller e differ =
+    ap (λ (p : Phase). (answered p own old).out) e ∙ ap (λ (b : Bool). (cond b (met caller own old) (turned_away own old)).out) (not_same caller.version own.version (λ same. differ (sym same)))
 
 pub refused_answers : (old : Connection) (own : Hello) → old.phase ≡ phases.Refused → (answered old.phase own old).out ≡ record old.out { hello = Some own }
 refused_answers old own e = ap (λ (p : Phase). (answered p own old).out) e

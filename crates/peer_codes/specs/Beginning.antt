@@ -4,6 +4,7 @@ use Rattle.peer_codes.specs.declared.limits.TheConstants.{LAST_NUMBER}
 use Rattle.peer_codes.specs.declared.hello.Hello.{Hello}
 use Rattle.peer_codes.specs.declared.beat.Beat.{Beat}
 use Rattle.peer_codes.specs.declared.frame.Frame.{Frame}
+use Rattle.peer_codes.specs.declared.more.More.{More}
 use Rattle.peer_codes.specs.declared.records.Proof.{Proof}
 use Rattle.peer_codes.specs.declared.records.Record.TheVariants as record_of
 use Rattle.peer_codes.specs.declared.kind.Kind.{Kind}
@@ -62,13 +63,21 @@ pub record BeatBegun (old new : Connection) : Type 0 where
   pub waited : old.out.beat ≡ Some beat
   pub begun : CodedBegun kind_of.Beat (beat_text beat) (record old.out { beat = None }) old new
 
--- no beat waited, and the frame that did is said
+-- no beat waited, and the record of a further kind that did is said
+pub record MoreBegun (old new : Connection) : Type 0 where
+  pub more : More
+  pub beat : old.out.beat ≡ None
+  pub waited : old.out.more ≡ Some more
+  pub begun : CodedBegun (kind_of.More more.kind) more.bytes.items (record old.out { more = None }) old new
+
+-- neither waited, and the frame that did is said
 pub record FrameBegun (old new : Connection) : Type 0 where
   pub frame : Frame
   pub beat : old.out.beat ≡ None
+  pub more : old.out.more ≡ None
   pub waited : old.out.frame ≡ Some frame
   pub begun : CodedBegun kind_of.Frame frame.bytes.items (record old.out { frame = None }) old new
 
 -- nothing is begun, or the first of what waits
 abbrev pub Begins : Connection → Connection → Type 0
-Begins old new = NothingBegun old new ⊎ (HelloBegun old new ⊎ (ProofBegun old new ⊎ (BeatBegun old new ⊎ FrameBegun old new)))
+Begins old new = NothingBegun old new ⊎ (HelloBegun old new ⊎ (ProofBegun old new ⊎ (BeatBegun old new ⊎ (MoreBegun old new ⊎ FrameBegun old new))))

@@ -8,6 +8,7 @@ use Rattle.peer_codes.specs.declared.limits.TheConstants.{TAG_BYTES, LAST_NUMBER
 use Rattle.peer_codes.specs.declared.fault.RecordFault.TheVariants.{BadLength}
 use Rattle.peer_codes.specs.declared.connection_fault.ConnectionFault.{ConnectionFault}
 use Rattle.peer_codes.specs.declared.connection_fault.ConnectionFault.TheVariants as faults
+use Rattle.peer_codes.specs.declared.version.Version.{Version}
 use Rattle.peer_codes.specs.declared.role.Role.{Role}
 use Rattle.peer_codes.specs.declared.role.Role.TheVariants.{Caller, Called}
 use Rattle.peer_codes.specs.declared.hellos.Hellos.{Hellos}
@@ -54,11 +55,12 @@ abbrev pub seal_of : List ℕ → ChaCha
 seal_of key = of_seed (hmac key seal_text)
 
 -- a way on which nothing was said
-abbrev pub fresh_way : List ℕ → Way
-fresh_way key = record { key = key; number = 0; seal = seal_of key }
+abbrev pub fresh_way : Version → List ℕ → Way
+fresh_way version key = record { version = version; key = key; number = 0; seal = seal_of key }
 
+-- its version is that of both Hellos
 abbrev pub way_of : List ℕ → Role → Hellos → Way
-way_of key role hellos = fresh_way (way_key key role hellos)
+way_of key role hellos = fresh_way hellos.caller.version (way_key key role hellos)
 
 -- the next bytes of a seal, and the seal behind them; ChaCha20 makes ten double rounds for a block
 unfoldable pub pad : ℕ → ChaCha → List ℕ × ChaCha
@@ -88,7 +90,7 @@ coded way kind body = enveloped kind (covered way kind body)
 
 -- a way behind a record whose body has so many bytes
 abbrev pub after : Way → ℕ → Way
-after way count = record { key = way.key; number = way.number + 1; seal = (pad count way.seal).1 }
+after way count = record { version = way.version; key = way.key; number = way.number + 1; seal = (pad count way.seal).1 }
 
 -- what was sent, of what stands behind a kind
 abbrev pub sent_in : List ℕ → List ℕ

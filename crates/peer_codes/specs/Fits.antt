@@ -1,5 +1,5 @@
 -- Which records have a text: the ranges of their numbers, and how long their parts are.
-use Rattle.std.specs.Prelude.{◌≡◌, ℕ, ◌^◌, ◌<◌, ◌≤◌, false, List, length, IfSome}
+use Rattle.std.specs.Prelude.{◌≡◌, ℕ, ◌^◌, ◌<◌, ◌≤◌, true, false, List, length, IfSome}
 use Rattle.std.specs.List.{list_all}
 use Rattle.std.specs.Prelude.{◌==◌, Bool}
 use Rattle.paxos_wire.specs.Fits.{IsBallot}
@@ -10,8 +10,10 @@ use Rattle.peer_codes.specs.declared.hello.Link.{Link}
 use Rattle.peer_codes.specs.declared.hello.Link.TheVariants.{Plain, Coded}
 use Rattle.peer_codes.specs.declared.hello.Hello.{Hello}
 use Rattle.peer_codes.specs.declared.beat.Beat.{Beat}
+use Rattle.peer_codes.specs.declared.more.More.{More}
 use Rattle.peer_codes.specs.declared.records.Record.{Record}
 use Rattle.peer_codes.specs.declared.records.Record.TheVariants as record_of
+use Rattle.peer_codes.specs.Mores.{is_more}
 
 -- zeros and nothing else
 abbrev pub are_zeros : List ℕ → Bool
@@ -52,12 +54,18 @@ pub record IsBeat (b : Beat) : Type 0 where
   pub front : b.front < 2 ^ 32
   pub seats : b.seats < 2 ^ 16
 
+-- a kind that there is, and at most as many bytes as a frame has
+pub record IsMore (more : More) : Type 0 where
+  pub kind : is_more more.kind ≡ true
+  pub most : length more.bytes.items ≤ MOST_FRAME
+
 -- a record that has a text
 abbrev pub IsRecord : Record → Type 0
 IsRecord (record_of.Hello hello) = IsHello hello
 IsRecord (record_of.Proof proof) = length proof.tag ≡ TAG_BYTES
 IsRecord (record_of.Frame frame) = IsFrame frame.bytes.items
 IsRecord (record_of.Beat beat) = IsBeat beat
+IsRecord (record_of.More more) = IsMore more
 
 -- what a caller sees to, so that a Hello is read
 pub record CanGreet (h : Hello) : Type 0 where
@@ -72,6 +80,7 @@ CanBeSaid (record_of.Hello hello) = CanGreet hello
 CanBeSaid (record_of.Proof proof) = Unit {0}
 CanBeSaid (record_of.Frame frame) = LEAST_FRAME ≤ length frame.bytes.items
 CanBeSaid (record_of.Beat beat) = Unit {0}
+CanBeSaid (record_of.More more) = is_more more.kind ≡ true
 
 -- the parts of a Hello are as long as those of each value of the program
 pub record HasWidths (h : Hello) : Type 0 where
@@ -86,3 +95,4 @@ IsHeld (record_of.Hello hello) = HasWidths hello
 IsHeld (record_of.Proof proof) = length proof.tag ≡ TAG_BYTES
 IsHeld (record_of.Frame frame) = length frame.bytes.items ≤ MOST_FRAME
 IsHeld (record_of.Beat beat) = IsBeat beat
+IsHeld (record_of.More more) = length more.bytes.items ≤ MOST_FRAME

@@ -1,5 +1,5 @@
 -- What happens to a connection from its beginning on, and what one that is open goes by.
-use Rattle.std.specs.Prelude.{◌≡◌, ◌⊎◌, ℕ, ◌-◌, true, List, [], ◌∷◌, ◌++◌, length, drop, Option, Some, None, Ok}
+use Rattle.std.specs.Prelude.{◌≡◌, ◌⊎◌, ℕ, ◌-◌, true, if◌then◌else◌, List, [], ◌∷◌, ◌++◌, length, drop, Option, Some, None, Ok}
 use Rattle.peer_codes.specs.declared.limits.TheConstants.{TAG_BYTES}
 use Rattle.peer_codes.specs.declared.fault.RecordFault.TheVariants.{BadHello}
 use Rattle.peer_codes.specs.declared.connection_fault.ConnectionFault.{ConnectionFault}
@@ -14,6 +14,7 @@ use Rattle.peer_codes.specs.declared.phase.Ways.{Ways}
 use Rattle.peer_codes.specs.declared.phase.Phase.{Phase}
 use Rattle.peer_codes.specs.declared.phase.Phase.TheVariants as phases
 use Rattle.peer_codes.specs.declared.connection.Connection.{Connection}
+use Rattle.peer_codes.specs.Versions.{same_version}
 use Rattle.peer_codes.specs.Fits.{IsHello}
 use Rattle.peer_codes.specs.Reading.{hello_of}
 use Rattle.peer_codes.specs.Faults.{front, kind_in}
@@ -29,9 +30,11 @@ pub data Happening : Type 0 where
   -- this side coded a record whose body has so many bytes
   Said : (count : ℕ) → Happening
 
--- the called answers where it knows who calls, and once where it refused
+-- the called answers where it knows who calls, in the version that it heard, and once where it refused
 abbrev pub answered_phase : List ℕ → Hello → Phase → Phase
-answered_phase key hello (phases.Asked caller) = proving key Called Caller (record { caller = caller; called = hello })
+answered_phase key hello (phases.Asked caller) =
+    if same_version caller.version hello.version then proving key Called Caller (record { caller = caller; called = hello })
+    else phases.Closed (faults.Record BadHello)
 answered_phase key hello phases.Refused = phases.Closed (faults.Record BadHello)
 answered_phase key hello (phases.Greeting own) = phases.Greeting own
 answered_phase key hello (phases.Proving theirs ways) = phases.Proving theirs ways
@@ -141,12 +144,19 @@ counts_said (Came bytes ∷ before) = counts_said before
 counts_said (Answered hello ∷ before) = counts_said before
 counts_said (Said count ∷ before) = count ∷ counts_said before
 
+-- both Hellos are of one version, and both ways are of it
+pub record IsOfOneVersion (hellos : Hellos) (ways : Ways) : Type 0 where
+  pub called : hellos.called.version ≡ hellos.caller.version
+  pub reading : ways.reading.version ≡ hellos.caller.version
+  pub writing : ways.writing.version ≡ hellos.caller.version
+
 -- what an open connection goes by: both Hellos, each with a nonce; then the proof of the other side over them, which
 -- came; and the two ways that they give with the key, each behind all the records that came and were said on it since
 pub record IsProved (key : List ℕ) (own : Option Hello) (before : List Happening) (ways : Ways) : Type 0 where
   pub role : Role
   pub hellos : Hellos
   pub nonces : IsCoded hellos.caller × IsCoded hellos.called
+  pub version : IsOfOneVersion hellos ways
   pub since : List Happening
   pub opening : Happening
   pub earlier : List Happening

@@ -1,3 +1,5 @@
+pub mod Versions
+pub mod Mores
 pub mod Kinds
 pub mod Fits
 pub mod Spelling

@@ -15,7 +15,7 @@ later old (Some proof) = Some proof
 
 -- the record with this text is begun
 abbrev pub with_begun : List ℕ → Outgoing → Outgoing
-with_begun text o = record { hello = o.hello; proof = o.proof; beat = o.beat; frame = o.frame; begun = record { items = text }; written = 0 }
+with_begun text o = record { hello = o.hello; proof = o.proof; beat = o.beat; more = o.more; frame = o.frame; begun = record { items = text }; written = 0 }
 
 -- a frame waits, or it is given back where one does already
 abbrev pub Put : Option Frame → Frame → Outgoing → Outgoing → Option Frame → Type 0

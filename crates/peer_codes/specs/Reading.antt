@@ -4,9 +4,10 @@ use Rattle.byteorder.specs.Endian.{big_number}
 use Rattle.paxos_wire.specs.declared.ballot.Ballot.{Ballot}
 use Rattle.paxos_wire.specs.declared.version.Version.TheVariants.{New}
 use Rattle.paxos_wire.specs.Reading.{◌>>=◌, when, byte_at, number_at, bytes_at, ballot_at}
-use Rattle.peer_codes.specs.declared.limits.TheConstants.{MAGIC, NODES, DIGEST_BYTES, LIFE_BYTES, NONCE_BYTES, TAG_BYTES, BALLOT_BYTES, BEAT_BYTES, LEAST_FRAME, MOST_FRAME}
+use Rattle.peer_codes.specs.declared.limits.TheConstants.{NODES, DIGEST_BYTES, LIFE_BYTES, NONCE_BYTES, TAG_BYTES, BALLOT_BYTES, BEAT_BYTES, LEAST_FRAME, MOST_FRAME}
 use Rattle.peer_codes.specs.declared.fault.RecordFault.{RecordFault}
 use Rattle.peer_codes.specs.declared.fault.RecordFault.TheVariants.{BadLength, BadKind, BadHello}
+use Rattle.peer_codes.specs.declared.version.Version.{Version}
 use Rattle.peer_codes.specs.declared.hello.Ends.{Ends}
 use Rattle.peer_codes.specs.declared.hello.Life.{Life}
 use Rattle.peer_codes.specs.declared.hello.Link.{Link}
@@ -17,6 +18,7 @@ use Rattle.peer_codes.specs.declared.records.Record.{Record}
 use Rattle.peer_codes.specs.declared.records.Record.TheVariants as record_of
 use Rattle.peer_codes.specs.declared.kind.Kind.{Kind}
 use Rattle.peer_codes.specs.declared.kind.Kind.TheVariants as kind_of
+use Rattle.peer_codes.specs.Versions.{version_told}
 use Rattle.peer_codes.specs.Fits.{are_zeros}
 
 -- two different nodes among so many, and no more nodes than there may be
@@ -55,13 +57,14 @@ promised_at bytes = do
   front ← bytes_at BALLOT_BYTES bytes
   if are_zeros front.0 then Some (None, front.1) else promised_of (ballot_at New bytes)
 
--- what stands in front of a Hello: the byte of its kind of connection, and who speaks to whom
-unfoldable pub greeting_at : List ℕ → Option (ℕ × Ends × List ℕ)
+-- what stands in front of a Hello: its version, the byte of its kind of connection, and who speaks to whom
+unfoldable pub greeting_at : List ℕ → Option (Version × ℕ × Ends × List ℕ)
 greeting_at bytes = do
   magic ← number_at 4 bytes
   link ← byte_at magic.1
   ends ← ends_at link.1
-  when (magic.0 == MAGIC) (link.0, ends.0, ends.1)
+  version ← version_told magic.0
+  Some (version, link.0, ends.0, ends.1)
 
 -- the match, and both lives
 unfoldable pub lives_at : List ℕ → Option (List ℕ × Life × Option Life × List ℕ)
@@ -82,10 +85,10 @@ link_at byte bytes =
 unfoldable pub hello_of : List ℕ → Option Hello
 hello_of bytes = do
   greeting ← greeting_at bytes
-  lives ← lives_at greeting.2
+  lives ← lives_at greeting.3
   promised ← promised_at lives.3
-  link ← link_at greeting.0 promised.1
-  when (length link.1 == 0) (record { ends = greeting.1; digest = record { bytes = lives.0 }; life = lives.1; kept = lives.2; promised = promised.0; link = link.0 })
+  link ← link_at greeting.1 promised.1
+  when (length link.1 == 0) (record { version = greeting.0; ends = greeting.2; digest = record { bytes = lives.0 }; life = lives.1; kept = lives.2; promised = promised.0; link = link.0 })
 
 -- the bytes of a beat, where there are as many as one has
 abbrev pub beat_in : List ℕ → Beat
@@ -122,3 +125,4 @@ content_of kind_of.Hello bytes = hello_record (hello_of bytes)
 content_of kind_of.Proof bytes = if length bytes == TAG_BYTES then Ok (record_of.Proof (record { tag = bytes })) else Err BadLength
 content_of kind_of.Frame bytes = if is_frame bytes then Ok (record_of.Frame (record { bytes = record { items = bytes } })) else Err BadLength
 content_of kind_of.Beat bytes = beat_record (beat_of bytes)
+content_of (kind_of.More byte) bytes = if nat_le (length bytes) MOST_FRAME then Ok (record_of.More (record { kind = byte; bytes = record { items = bytes } })) else Err BadLength

@@ -3,7 +3,7 @@ use Rattle.std.specs.Prelude.{ℕ, ◌+◌, Bool, if◌then◌else◌, List, [],
 use Rattle.byteorder.specs.Endian.{big_bytes}
 use Rattle.paxos_wire.specs.declared.ballot.Ballot.{Ballot}
 use Rattle.paxos_wire.specs.Spelling.{ballot_text}
-use Rattle.peer_codes.specs.declared.limits.TheConstants.{MAGIC, LIFE_BYTES, BALLOT_BYTES}
+use Rattle.peer_codes.specs.declared.limits.TheConstants.{LIFE_BYTES, BALLOT_BYTES}
 use Rattle.peer_codes.specs.declared.hello.Ends.{Ends}
 use Rattle.peer_codes.specs.declared.hello.Life.{Life}
 use Rattle.peer_codes.specs.declared.hello.Link.{Link}
@@ -14,6 +14,7 @@ use Rattle.peer_codes.specs.declared.records.Record.{Record}
 use Rattle.peer_codes.specs.declared.records.Record.TheVariants as record_of
 use Rattle.peer_codes.specs.declared.kind.Kind.{Kind}
 use Rattle.peer_codes.specs.declared.kind.Kind.TheVariants as kind_of
+use Rattle.peer_codes.specs.Versions.{magic_of}
 use Rattle.peer_codes.specs.Kinds.{kind_byte}
 
 -- 0 says a connection without codes, 1 one with codes
@@ -40,9 +41,9 @@ abbrev pub promised_text : Option Ballot → List ℕ
 promised_text None = replicate BALLOT_BYTES 0
 promised_text (Some ballot) = ballot_text ballot
 
--- the bytes HDN1 and what kind of connection it is, who speaks to whom, the match, both lives, what is promised, and the nonce
+-- the bytes HDN1 or HDN2 and what kind of connection it is, who speaks to whom, the match, both lives, what is promised, and the nonce
 abbrev pub hello_text : Hello → List ℕ
-hello_text h = big_bytes 4 MAGIC ++ (link_byte h.link ∷ (ends_text h.ends ++ (h.digest.bytes ++ (h.life.bytes ++ (kept_text h.kept ++ (promised_text h.promised ++ nonce_text h.link))))))
+hello_text h = big_bytes 4 (magic_of h.version) ++ (link_byte h.link ∷ (ends_text h.ends ++ (h.digest.bytes ++ (h.life.bytes ++ (kept_text h.kept ++ (promised_text h.promised ++ nonce_text h.link))))))
 
 -- 1 says that the speaker campaigns, 2 that its match is over
 abbrev pub flags_byte : Bool → Bool → ℕ
@@ -57,12 +58,14 @@ kind (record_of.Hello hello) = kind_of.Hello
 kind (record_of.Proof proof) = kind_of.Proof
 kind (record_of.Frame frame) = kind_of.Frame
 kind (record_of.Beat beat) = kind_of.Beat
+kind (record_of.More more) = kind_of.More more.kind
 
 abbrev pub body : Record → List ℕ
 body (record_of.Hello hello) = hello_text hello
 body (record_of.Proof proof) = proof.tag
 body (record_of.Frame frame) = frame.bytes.items
 body (record_of.Beat beat) = beat_text beat
+body (record_of.More more) = more.bytes.items
 
 -- a kind and bytes behind it, with a length in front that counts both
 unfoldable pub enveloped : Kind → List ℕ → List ℕ

@@ -3,16 +3,19 @@ use Rattle.std.specs.Prelude.{◌≡◌, ℕ, ◌-◌, Bool, true, false, not, �
 use Rattle.std.specs.Str.{bytes_eq}
 use Rattle.peer_codes.specs.declared.limits.TheConstants.{TAG_BYTES}
 use Rattle.peer_codes.specs.declared.fault.RecordFault.{RecordFault}
-use Rattle.peer_codes.specs.declared.fault.RecordFault.TheVariants.{BadLength, BadHello}
+use Rattle.peer_codes.specs.declared.fault.RecordFault.TheVariants.{BadLength, BadKind, BadHello}
 use Rattle.peer_codes.specs.declared.connection_fault.ConnectionFault.{ConnectionFault}
 use Rattle.peer_codes.specs.declared.connection_fault.ConnectionFault.TheVariants as faults
 use Rattle.peer_codes.specs.declared.role.Role.{Role}
 use Rattle.peer_codes.specs.declared.role.Role.TheVariants.{Caller, Called}
+use Rattle.peer_codes.specs.declared.version.Version.{Version}
+use Rattle.peer_codes.specs.declared.version.Version.TheVariants.{First, Second}
 use Rattle.peer_codes.specs.declared.hello.Link.{Link}
 use Rattle.peer_codes.specs.declared.hello.Link.TheVariants.{Plain, Coded}
 use Rattle.peer_codes.specs.declared.hello.Hello.{Hello}
 use Rattle.peer_codes.specs.declared.hellos.Hellos.{Hellos}
 use Rattle.peer_codes.specs.declared.beat.Beat.{Beat}
+use Rattle.peer_codes.specs.declared.more.More.{More}
 use Rattle.peer_codes.specs.declared.records.Proof.{Proof}
 use Rattle.peer_codes.specs.declared.kind.Kind.{Kind}
 use Rattle.peer_codes.specs.declared.kind.Kind.TheVariants as kind_of
@@ -22,6 +25,7 @@ use Rattle.peer_codes.specs.declared.phase.Ways.{Ways}
 use Rattle.peer_codes.specs.declared.phase.Phase.{Phase}
 use Rattle.peer_codes.specs.declared.phase.Phase.TheVariants as phases
 use Rattle.peer_codes.specs.declared.step.Step.{Step}
+use Rattle.peer_codes.specs.Versions.{same_version}
 use Rattle.peer_codes.specs.Reading.{hello_of, beat_of, is_frame}
 use Rattle.peer_codes.specs.Faults.{kind_in}
 use Rattle.peer_codes.specs.Codes.{proof_tag, way_of, after, covered, uncovered}
@@ -51,12 +55,18 @@ abbrev pub only_coded : Option Hello → Option Hello
 only_coded None = None
 only_coded (Some hello) = if is_coded hello.link then Some hello else None
 
--- no Hello of a connection with codes came: the called may still say its own, the caller said it already
+-- who dialled takes no Hello of another version than its own
+abbrev pub of_version : Option Hello → Option Hello → Option Hello
+of_version None theirs = theirs
+of_version (Some own) None = None
+of_version (Some own) (Some theirs) = if same_version own.version theirs.version then Some theirs else None
+
+-- no such Hello came: the called may still say its own, the caller said it already
 abbrev pub no_hello : Option Hello → Step
 no_hello None = record { phase = phases.Refused; proof = None; event = Err (faults.Record BadHello) }
 no_hello (Some own) = closed (faults.Record BadHello)
 
--- the other's Hello came, or bytes that are none
+-- the other's Hello came, or bytes that are none of this kind and version
 abbrev pub greeted : List ℕ → Option Hello → Option Hello → Step
 greeted key own None = no_hello own
 greeted key None (Some theirs) = record { phase = phases.Asked theirs; proof = None; event = Ok (events.Greeted theirs) }
@@ -65,10 +75,11 @@ greeted key (Some own) (Some theirs) =
     record { phase = proving key Caller Called hellos; proof = Some (proof_of key Caller hellos); event = Ok (events.Greeted theirs) }
 
 abbrev pub on_greeting : List ℕ → Option Hello → Kind → List ℕ → Step
-on_greeting key own kind_of.Hello content = greeted key own (only_coded (hello_of content))
+on_greeting key own kind_of.Hello content = greeted key own (of_version own (only_coded (hello_of content)))
 on_greeting key own kind_of.Proof content = closed faults.UnexpectedRecord
 on_greeting key own kind_of.Frame content = closed faults.UnexpectedRecord
 on_greeting key own kind_of.Beat content = closed faults.UnexpectedRecord
+on_greeting key own (kind_of.More byte) content = closed (faults.Record BadKind)
 
 -- the other's proof is right
 abbrev pub opened : Ways → Step
@@ -83,6 +94,7 @@ on_proof theirs ways kind_of.Proof content =
 on_proof theirs ways kind_of.Hello content = closed faults.UnexpectedRecord
 on_proof theirs ways kind_of.Frame content = closed faults.UnexpectedRecord
 on_proof theirs ways kind_of.Beat content = closed faults.UnexpectedRecord
+on_proof theirs ways (kind_of.More byte) content = closed (faults.Record BadKind)
 
 -- the other's way goes on behind a body of so many bytes
 abbrev pub heard : Ways → ℕ → Event → Step
@@ -100,11 +112,21 @@ abbrev pub beat_heard : Ways → ℕ → Result (List ℕ) ConnectionFault → S
 beat_heard ways count (Err fault) = closed fault
 beat_heard ways count (Ok body) = beat_told ways count (beat_of body)
 
+abbrev pub more_heard : Ways → ℕ → ℕ → Result (List ℕ) ConnectionFault → Step
+more_heard ways count byte (Err fault) = closed fault
+more_heard ways count byte (Ok body) = heard ways count (events.More (record { kind = byte; bytes = record { items = body } }))
+
+-- a further kind comes only behind Hellos of the second version
+abbrev pub on_more : Version → Ways → ℕ → List ℕ → Step
+on_more First ways byte content = closed (faults.Record BadKind)
+on_more Second ways byte content = more_heard ways (length content - TAG_BYTES) byte (uncovered ways.reading (kind_of.More byte) content)
+
 abbrev pub on_record : Ways → Kind → List ℕ → Step
 on_record ways kind_of.Frame content = frame_heard ways (length content - TAG_BYTES) (uncovered ways.reading kind_of.Frame content)
 on_record ways kind_of.Beat content = beat_heard ways (length content - TAG_BYTES) (uncovered ways.reading kind_of.Beat content)
 on_record ways kind_of.Hello content = closed faults.UnexpectedRecord
 on_record ways kind_of.Proof content = closed faults.UnexpectedRecord
+on_record ways (kind_of.More byte) content = on_more ways.reading.version ways byte content
 
 -- a connection stays open where something came, and a fault closes it
 abbrev pub staying : Ways → Result Event ConnectionFault → Step
@@ -143,6 +165,14 @@ pub record IsBeatSaid (phase : Phase) (kind : Kind) (content : List ℕ) (beat :
   pub kind_is : kind ≡ kind_of.Beat
   pub text : content ≡ covered ways.reading kind_of.Beat body
   pub beat_is : beat_of body ≡ Ok beat
+
+-- the same of a record of a further kind, on a connection of the second version
+pub record IsMoreSaid (phase : Phase) (kind : Kind) (content : List ℕ) (more : More) : Type 0 where
+  pub ways : Ways
+  pub phase_is : phase ≡ phases.Open ways
+  pub version : ways.reading.version ≡ Second
+  pub kind_is : kind ≡ kind_of.More more.kind
+  pub text : content ≡ covered ways.reading (kind_of.More more.kind) more.bytes.items
 
 -- a proof was awaited, and it came
 pub record IsOpening (phase : Phase) (kind : Kind) (content : List ℕ) : Type 0 where

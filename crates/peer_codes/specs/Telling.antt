@@ -1,6 +1,7 @@
 -- What a connection goes by when it tells an event: what stands in front of what came.
-use Rattle.std.specs.Prelude.{◌≡◌, ℕ, List, length, drop, Option, Some, None, Ok}
+use Rattle.std.specs.Prelude.{◌≡◌, ℕ, List, length, drop, Option, Some, None, IfSome, Ok}
 use Rattle.peer_codes.specs.declared.role.Role.TheVariants.{Caller}
+use Rattle.peer_codes.specs.declared.version.Version.TheVariants.{Second}
 use Rattle.peer_codes.specs.declared.hello.Hello.{Hello}
 use Rattle.peer_codes.specs.declared.records.Proof.{Proof}
 use Rattle.peer_codes.specs.declared.kind.Kind.{Kind}
@@ -26,13 +27,14 @@ abbrev pub own_proof : List ℕ → Option Hello → Hello → Option Proof → 
 own_proof key None theirs earlier = earlier
 own_proof key (Some own) theirs earlier = Some (proof_of key Caller (record { caller = own; called = theirs }))
 
--- no Hello came yet, and one of a connection with codes stands in front
+-- no Hello came yet, and one of a connection with codes stands in front, of the version in which the caller called
 pub record IsGreeting (hello : Hello) (old new : Connection) : Type 0 where
   pub own : Option Hello
   pub content : List ℕ
   pub greeting : old.phase ≡ phases.Greeting own
   pub came : InFront kind_of.Hello content old
   pub hello_is : only_coded (hello_of content) ≡ Some hello
+  pub version : IfSome own (λ mine. mine.version ≡ hello.version)
   pub out : new.out ≡ record old.out { proof = own_proof old.key.bytes own hello old.out.proof }
 
 -- the proof that is awaited stands in front, and opens the connection
@@ -51,11 +53,17 @@ pub record IsHeard (kind : Kind) (body : List ℕ) (old new : Connection) : Type
   pub came : InFront kind (covered ways.reading kind body) old
   pub goes_on : new.phase ≡ phases.Open (record { reading = after ways.reading (length body); writing = ways.writing })
 
+-- the same of a record of a further kind, on a connection of the second version
+pub record IsMoreHeard (kind : ℕ) (body : List ℕ) (old new : Connection) : Type 0 where
+  pub heard : IsHeard (kind_of.More kind) body old new
+  pub second : heard.ways.reading.version ≡ Second
+
 -- what each event goes by
 abbrev pub ToldBy : Event → Connection → Connection → Type 0
 ToldBy (events.Greeted hello) old new = IsGreeting hello old new
 ToldBy events.Opened old new = IsOpened old new
 ToldBy (events.Frame frame) old new = IsHeard kind_of.Frame frame.bytes.items old new
+ToldBy (events.More more) old new = IsMoreHeard more.kind more.bytes.items old new
 ToldBy (events.Beat beat) old new = (body : List ℕ) × (beat_of body ≡ Ok beat) × IsHeard kind_of.Beat body old new
 
 -- the called has to answer before it reads on

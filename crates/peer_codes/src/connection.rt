@@ -5,7 +5,7 @@ ghost use Rattle.peer_codes.specs.declared.records.Record.TheVariants as record_
 ghost use Rattle.peer_codes.specs.Spelling.{record_text};
 ghost use Rattle.peer_codes.specs.Outgoings.{unwritten, with_begun, Put};
 ghost use Rattle.peer_codes.specs.Steps.{is_coded};
-ghost use Rattle.peer_codes.specs.Connections.{ReadsOrWaits, Next, answered, begun_coded, begun_first, begun_next};
+ghost use Rattle.peer_codes.specs.Connections.{ReadsOrWaits, Next, met, turned_away, answered, takes_more, with_more, begun_coded, begun_first, begun_next};
 
 use crate::beat::Beat;
 use crate::connection_fault::ConnectionFault;
@@ -15,12 +15,15 @@ use crate::frame::Frame;
 use crate::hello::Hello;
 use crate::hellos::Hellos;
 use crate::key::Key;
+use crate::kind::is_more;
+use crate::more::More;
 use crate::outgoing::Outgoing;
 use crate::phase::Phase;
 use crate::reading::front_end;
 use crate::records::{Proof, Record};
 use crate::role::Role;
 use crate::step::{take_front, ways_of};
+use crate::version::Version;
 use crate::writing::record_bytes;
 use byte_queue::ByteQueue;
 use std::alloc::{AllocError, Global};
@@ -28,8 +31,9 @@ use std::alloc::{AllocError, Global};
 /// A connection with codes, as a machine without sockets.
 ///
 /// What comes is put in by `take_piece`, in any pieces, and comes out as events by `next`; the called then answers with its
-/// own Hello by `answer`. What is to be said is put in by `tell_beat` and `put_frame`, and comes out as bytes: `begin` begins the
-/// next record where none is unfinished, `unwritten` shows what of it isn't written yet, and `wrote` says how much was.
+/// own Hello by `answer`. What is to be said is put in by `tell_beat`, `put_more` and `put_frame`, and comes out as bytes:
+/// `begin` begins the next record where none is unfinished, `unwritten` shows what of it isn't written yet, and `wrote` says
+/// how much was.
 /// So a frame is coded when its first byte is about to be written and no sooner: what waits is frames, and whoever
 /// keeps them may drop them.
 #[derive(Drop)]
@@ -56,7 +60,7 @@ impl Connection {
         ensures phase { result.phase ≡ phases.Greeting (Some own) }
         ensures key { result.key ≡ key }
         ensures came { result.came.waiting ≡ [] }
-        ensures out { result.out ≡ record { hello = Some own; proof = None; beat = None; frame = None; begun = record { items = [] }; written = 0 } }
+        ensures out { result.out ≡ record { hello = Some own; proof = None; beat = None; more = None; frame = None; begun = record { items = [] }; written = 0 } }
     {
         Connection {
             key,
@@ -71,7 +75,7 @@ impl Connection {
         ensures phase { result.phase ≡ phases.Greeting None }
         ensures key { result.key ≡ key }
         ensures came { result.came.waiting ≡ [] }
-        ensures out { result.out ≡ record { hello = None; proof = None; beat = None; frame = None; begun = record { items = [] }; written = 0 } }
+        ensures out { result.out ≡ record { hello = None; proof = None; beat = None; more = None; frame = None; begun = record { items = [] }; written = 0 } }
     {
         Connection {
             key,
@@ -108,7 +112,7 @@ impl Connection {
     ///
     /// `None` where the record in front isn't whole, and where the called has to answer first. The fault is the first
     /// of: 120 `BadLength` and 121 `BadKind` of the record in front, 126 `UnexpectedRecord` (a kind that may not come now, or no
-    /// number is left), 120 `BadLength` (a proof of another length, or no room for a tag), and then 122 `BadHello`, 124
+    /// number is left) or 121 `BadKind` (a further kind where the connection isn't open, or isn't of the second version), 120 `BadLength` (a proof of another length, or no room for a tag), and then 122 `BadHello`, 124
     /// `WrongProof`, 125 `WrongTag`, or those of what stood under the seal.
     pub fn next(&mut self) -> Option<Result<Event, ConnectionFault>>
         ensures { Next self.old.phase self.old result self.new }
@@ -124,22 +128,33 @@ impl Connection {
     }
 
     /// The called answers with its own Hello, whose nonce is to be new, once it knows who calls. Where it refused the
-    /// caller's Hello by 122 `BadHello`, its own is said all the same, once and without a proof, so that the caller sees
-    /// why. Else nothing happens.
+    /// caller's Hello by 122 `BadHello`, or its own is of another version than the caller's, its own is said all the same,
+    /// once and without a proof, so that the caller sees why, and the connection is closed by 122. Else nothing happens.
     pub fn answer(&mut self, own: Hello)
         requires { is_coded own.link ≡ true }
         ensures { self.new ≡ answered self.old.phase own self.old }
     {
         if let Phase::Refused = &self.phase {
-            self.phase = Phase::Closed(ConnectionFault::Record(RecordFault::BadHello));
-            self.out.hello = Some(own);
+            self.turn_away(own);
             return;
         }
         let Phase::Asked(caller) = &self.phase else {
             return;
         };
+        let caller = *caller;
+        if caller.version.is_same(own.version) {
+            self.meet(caller, own);
+        } else {
+            self.turn_away(own);
+        }
+    }
+
+    /// Both Hellos are said: the own and its proof are to be written, and the caller's proof is awaited.
+    fn meet(&mut self, caller: Hello, own: Hello)
+        ensures { self.new ≡ met caller own self.old }
+    {
         let hellos = Hellos {
-            caller: *caller,
+            caller,
             called: own,
         };
         let theirs = hellos.proof(&self.key, Role::Caller);
@@ -148,6 +163,14 @@ impl Connection {
         self.phase = Phase::Proving(theirs, ways);
         self.out.hello = Some(own);
         self.out.proof = Some(proof);
+    }
+
+    /// The own Hello is said alone, once.
+    fn turn_away(&mut self, own: Hello)
+        ensures { self.new ≡ turned_away own self.old }
+    {
+        self.phase = Phase::Closed(ConnectionFault::Record(RecordFault::BadHello));
+        self.out.hello = Some(own);
     }
 
     /// This beat is to be said next, in place of one that isn't begun yet.
@@ -165,6 +188,40 @@ impl Connection {
         ensures others { self.new ≡ record self.old { out = self.new.out } }
     {
         self.out.put_frame(frame)
+    }
+
+    /// Whether a record of this further kind is taken now.
+    fn takes_more(&self, kind: u8) -> bool
+        ensures { result ≡ takes_more self.now.phase self.now.out.more kind }
+    {
+        match &self.phase {
+            Phase::Open(ways) => match &self.out.more {
+                None => match ways.writing.version() {
+                    Version::First => false,
+                    Version::Second => is_more(kind),
+                },
+                Some(_) => false,
+            },
+            Phase::Greeting(_) => false,
+            Phase::Asked(_) => false,
+            Phase::Refused => false,
+            Phase::Proving(_, _) => false,
+            Phase::Closed(_) => false,
+        }
+    }
+
+    /// This record of a further kind is to be said next, behind the beat and before the frame; whether it is taken. It is
+    /// only on an open connection of the second version, where none waits already; and not where its byte tells no further
+    /// kind.
+    pub fn put_more(&mut self, more: More) -> bool
+        ensures taken { result ≡ takes_more self.old.phase self.old.out.more more.kind }
+        ensures put { self.new ≡ with_more result more self.old }
+    {
+        if !self.takes_more(more.kind) {
+            return false;
+        }
+        self.out.more = Some(more);
+        true
     }
 
     /// Codes and begins what waits, if the connection is open.
@@ -208,7 +265,7 @@ impl Connection {
     }
 
     /// Begins the next record, where none is unfinished: this side's own Hello, its own proof, and where the connection
-    /// is open the beat and then the frame, coded now. Hello and proof are said also where a fault closed it meanwhile.
+    /// is open the beat, then the record of a further kind and then the frame, coded now. Hello and proof are said also where a fault closed it meanwhile.
     #[tactic(auto, unfolding(crate::specs::Connections::begun_next))]
     pub fn begin(&mut self)
         ensures { self.new ≡ begun_next self.old }

@@ -11,7 +11,8 @@ use thiserror::Error;
 pub enum RecordFault {
     /// 120: a length of 0 or above 4133, or one that no record of its kind has.
     BadLength,
-    /// 121: another kind than 0 to 3, or a beat with other flags than those that there are.
+    /// 121: a kind that there isn't, or that may not come on this connection, or a beat with other flags than those that
+    /// there are.
     BadKind,
     /// 122: no Hello of this kind of connection, or a value in it out of its range.
     BadHello,

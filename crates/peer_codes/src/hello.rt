@@ -1,4 +1,5 @@
 use crate::limits::{DIGEST_BYTES, LIFE_BYTES, NONCE_BYTES};
+use crate::version::Version;
 use paxos_wire::Ballot;
 
 /// Who speaks to whom, and of how many nodes; nodes are counted from 0.
@@ -42,6 +43,8 @@ pub enum Link {
 /// What each side of a connection says first.
 #[derive(Clone, Copy, Debug, PartialEq, Eq)]
 pub struct Hello {
+    /// Its version: whether records of further kinds may come behind it.
+    pub version: Version,
     /// Who speaks to whom.
     pub ends: Ends,
     /// The match that the speaker plays.

@@ -6,8 +6,9 @@ ghost use Rattle.peer_codes.specs.Reading.{ends_at, life_at, kept_at, promised_a
 
 use crate::fields::{are_zeros, read_array, read_byte, read_number};
 use crate::hello::{Ends, Hello, Life, Link, MatchDigest, Nonce};
-use crate::limits::{BALLOT_BYTES, DIGEST_BYTES, MAGIC, NODES};
-use paxos_wire::{Ballot, Version, read_ballot};
+use crate::limits::{BALLOT_BYTES, DIGEST_BYTES, NODES};
+use crate::version::Version;
+use paxos_wire::{Ballot, read_ballot};
 
 /// Who speaks to whom, and the bytes after it.
 #[tactic(auto, unfolding(crate::specs::Reading::ends_at))]
@@ -59,25 +60,22 @@ fn read_promised(bytes: &[u8]) -> Option<(Option<Ballot>, &[u8])>
     if are_zeros(&front) {
         return Some((None, rest));
     }
-    match read_ballot(Version::New, bytes) {
+    match read_ballot(paxos_wire::Version::New, bytes) {
         Some((ballot, rest)) => Some((Some(ballot), rest)),
         None => None,
     }
 }
 
-/// What stands in front of a Hello: the byte of its kind of connection, and who speaks to whom.
+/// What stands in front of a Hello: its version, the byte of its kind of connection, and who speaks to whom.
 #[tactic(auto, unfolding(crate::specs::Reading::greeting_at))]
-fn read_greeting(bytes: &[u8]) -> Option<(u8, Ends, &[u8])>
-    ensures { Gives (λ x. (x.0, x.1, x.2.now)) result (greeting_at bytes.now) }
+fn read_greeting(bytes: &[u8]) -> Option<(Version, u8, Ends, &[u8])>
+    ensures { Gives (λ x. (x.0, x.1, x.2, x.3.now)) result (greeting_at bytes.now) }
 {
     let (magic, rest) = read_number(bytes)?;
     let (link, rest) = read_byte(rest)?;
     let (ends, rest) = read_ends(rest)?;
-    if magic == MAGIC {
-        Some((link, ends, rest))
-    } else {
-        None
-    }
+    let version = Version::of_magic(magic)?;
+    Some((version, link, ends, rest))
 }
 
 /// The match and both lives, and the bytes after them.
@@ -111,12 +109,13 @@ fn read_link(byte: u8, bytes: &[u8]) -> Option<(Link, &[u8])>
 pub(crate) fn hello_of(bytes: &[u8]) -> Option<Hello>
     ensures { result ≡ hello_of bytes.now }
 {
-    let (byte, ends, rest) = read_greeting(bytes)?;
+    let (version, byte, ends, rest) = read_greeting(bytes)?;
     let (digest, life, kept, rest) = read_lives(rest)?;
     let (promised, rest) = read_promised(rest)?;
     let (link, rest) = read_link(byte, rest)?;
     if rest.is_empty() {
         Some(Hello {
+            version,
             ends,
             digest: MatchDigest { bytes: digest },
             life,

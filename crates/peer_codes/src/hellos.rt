@@ -1,13 +1,13 @@
 //! Both Hellos of a connection, and what follows from them and the key: each side's proof, and the way on which it speaks.
 
 ghost use Rattle.std.specs.Prelude.{◌≡◌};
-ghost use Rattle.peer_codes.specs.Codes.{hellos_text, way_of};
+ghost use Rattle.peer_codes.specs.Codes.{hellos_text, way_key, way_of};
 ghost use Rattle.peer_codes.specs.Steps.{proof_of};
 
 use crate::hello::Hello;
 use crate::hmac::tag;
 use crate::key::Key;
-use crate::limits::CODED_HELLO_BYTES;
+use crate::limits::{CODED_HELLO_BYTES, KEY_BYTES};
 use crate::records::Proof;
 use crate::role::Role;
 use crate::way::Way;
@@ -49,13 +49,21 @@ impl Hellos {
         }
     }
 
-    /// The way on which the side in this role speaks, at its beginning. A connection makes it once: on two ways of one
+    /// The key of the way on which the side in this role speaks.
+    fn way_key(&self, key: &Key, role: Role) -> [u8; KEY_BYTES]
+        ensures { result ≡ way_key key.now.bytes role self.now }
+    {
+        let speaker = role.byte();
+        let front = [b'H', b'D', b'N', b'1', b' ', b'w', b'a', b'y', speaker];
+        tag(&key.bytes, &front, self.text().as_slice())
+    }
+
+    /// The way on which the side in this role speaks, at its beginning; its version is that of the caller's Hello, which is
+    /// the called's too on each connection that opens. A connection makes it once: on two ways of one
     /// connection and role two records would have one number and lie under one part of the seal.
     pub fn way(&self, key: &Key, role: Role) -> Way
         ensures { result ≡ way_of key.now.bytes role self.now }
     {
-        let speaker = role.byte();
-        let front = [b'H', b'D', b'N', b'1', b' ', b'w', b'a', b'y', speaker];
-        Way::new(tag(&key.bytes, &front, self.text().as_slice()))
+        Way::new(self.caller.version, self.way_key(key, role))
     }
 }

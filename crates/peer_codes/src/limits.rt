@@ -6,7 +6,7 @@ pub const NODES: u8 = paxos_wire::limits::NODES;
 /// The bytes of a record's length itself.
 pub const LENGTH_BYTES: usize = 4;
 
-/// The bytes of a tag: those of a proof, and those behind what is sent of a frame or a beat.
+/// The bytes of a tag: those of a proof, and those behind what is sent of a coded record.
 pub const TAG_BYTES: usize = 32;
 
 /// The least bytes of a frame: a length, a version and a kind.
@@ -21,8 +21,18 @@ pub const MOST_LENGTH: usize = 1 + MOST_FRAME + TAG_BYTES;
 /// The most bytes of a record, its length's four among them.
 pub const MOST_RECORD: usize = LENGTH_BYTES + MOST_LENGTH;
 
-/// What a Hello begins with, the bytes `HDN1`, as a number.
-pub const MAGIC: u32 = 0x4844_4e31;
+/// What a Hello of the first version begins with, the bytes `HDN1`, as a number.
+pub const FIRST_MAGIC: u32 = 0x4844_4e31;
+
+/// What a Hello of the second version begins with, the bytes `HDN2`, as a number.
+pub const SECOND_MAGIC: u32 = 0x4844_4e32;
+
+/// The least byte of a kind of records without a name here.
+pub const LEAST_MORE: u8 = 4;
+
+/// The one byte above them that tells no kind: the last of `HDN1 seal`, an `l`, so that no record's number and kind are that
+/// text.
+pub const NO_KIND: u8 = 108;
 
 /// The bytes of the digest of a match.
 pub const DIGEST_BYTES: usize = 32;

@@ -13,6 +13,7 @@ use crate::frame::Frame;
 use crate::hello::Hello;
 use crate::kind::Kind;
 use crate::limits::{LAST_NUMBER, MOST_RECORD};
+use crate::more::More;
 use crate::records::Proof;
 use crate::way::Way;
 use crate::writing::beat_bytes;
@@ -28,6 +29,8 @@ pub struct Outgoing {
     pub(crate) proof: Option<Proof>,
     /// The newest beat.
     pub(crate) beat: Option<Beat>,
+    /// The next record of a further kind.
+    pub(crate) more: Option<More>,
     /// The next frame.
     pub(crate) frame: Option<Frame>,
     /// The record that was begun.
@@ -49,12 +52,13 @@ fn later(earlier: Option<Proof>, given: Option<Proof>) -> Option<Proof>
 impl Outgoing {
     /// Nothing is to be written but this Hello, if it is given.
     pub(crate) fn new(hello: Option<Hello>) -> Outgoing
-        ensures { result ≡ record { hello = hello; proof = None; beat = None; frame = None; begun = record { items = [] }; written = 0 } }
+        ensures { result ≡ record { hello = hello; proof = None; beat = None; more = None; frame = None; begun = record { items = [] }; written = 0 } }
     {
         Outgoing {
             hello,
             proof: None,
             beat: None,
+            more: None,
             frame: None,
             begun: ArrayVec::new(),
             written: 0,
@@ -117,7 +121,7 @@ impl Outgoing {
     /// Codes and begins the frame that waits, if one does.
     fn begin_frame(&mut self, way: &mut Way)
         requires { way.old.number < LAST_NUMBER }
-        ensures { (reading : Way) (key : Key) (came : Queued) → record { key = key; phase = phases.Open (record { reading = reading; writing = way.new }); came = came; out = self.new } ≡ begun_on (record { reading = reading; writing = way.old }) None self.old.frame key came self.old }
+        ensures { (reading : Way) (key : Key) (came : Queued) → record { key = key; phase = phases.Open (record { reading = reading; writing = way.new }); came = came; out = self.new } ≡ begun_on (record { reading = reading; writing = way.old }) None None self.old.frame key came self.old }
     {
         if let Some(frame) = &self.frame {
             way.cover(Kind::Frame, frame.bytes.as_slice(), &mut self.begun);
@@ -126,10 +130,28 @@ impl Outgoing {
         }
     }
 
-    /// Codes and begins the beat, or else the frame that waits.
+    /// Codes and begins the record of a further kind that waits, or else the frame.
+    fn begin_behind(&mut self, way: &mut Way)
+        requires { way.old.number < LAST_NUMBER }
+        ensures { (reading : Way) (key : Key) (came : Queued) → record { key = key; phase = phases.Open (record { reading = reading; writing = way.new }); came = came; out = self.new } ≡ begun_on (record { reading = reading; writing = way.old }) None self.old.more self.old.frame key came self.old }
+    {
+        if let Some(more) = &self.more {
+            way.cover(
+                Kind::More(more.kind),
+                more.bytes.as_slice(),
+                &mut self.begun,
+            );
+            self.written = 0;
+            self.more = None;
+            return;
+        }
+        self.begin_frame(way);
+    }
+
+    /// Codes and begins the beat, or else what waits behind it.
     fn begin_on(&mut self, way: &mut Way)
         requires { way.old.number < LAST_NUMBER }
-        ensures { (reading : Way) (key : Key) (came : Queued) → record { key = key; phase = phases.Open (record { reading = reading; writing = way.new }); came = came; out = self.new } ≡ begun_on (record { reading = reading; writing = way.old }) self.old.beat self.old.frame key came self.old }
+        ensures { (reading : Way) (key : Key) (came : Queued) → record { key = key; phase = phases.Open (record { reading = reading; writing = way.new }); came = came; out = self.new } ≡ begun_on (record { reading = reading; writing = way.old }) self.old.beat self.old.more self.old.frame key came self.old }
     {
         if let Some(beat) = self.beat {
             way.cover(Kind::Beat, beat_bytes(&beat).as_slice(), &mut self.begun);
@@ -137,9 +159,7 @@ impl Outgoing {
             self.beat = None;
             return;
         }
-        if self.frame.is_some() {
-            self.begin_frame(way);
-        }
+        self.begin_behind(way);
     }
 
     /// Codes and begins what waits, while numbers are left.

@@ -12,9 +12,12 @@ use crate::fault::RecordFault;
 use crate::frame::Frame;
 use crate::hello_reading::hello_of;
 use crate::kind::Kind;
-use crate::limits::{LENGTH_BYTES, MOST_LENGTH, MOST_RECORD, TAG_BYTES};
+use crate::limits::{LENGTH_BYTES, MOST_FRAME, MOST_LENGTH, MOST_RECORD, TAG_BYTES};
+use crate::more::More;
 use crate::records::{Proof, Record};
+use arrayvec::ArrayVec;
 use byteorder::{BigEndian, ByteOrder};
+use paxos_wire::push_all;
 
 /// Where the record in front ends, or the length that no record may have; `None` while it isn't whole.
 #[tactic(auto, unfolding(crate::specs::Faults::needed))]
@@ -65,6 +68,19 @@ fn proof_of(bytes: &[u8]) -> Result<Record, RecordFault>
     Ok(Record::Proof(Proof { tag }))
 }
 
+/// A record of a further kind with these bytes.
+#[tactic(auto, unfolding(crate::specs::Reading::content_of))]
+fn more_of(kind: u8, bytes: &[u8]) -> Result<Record, RecordFault>
+    ensures { result ≡ content_of (Kind.More kind) bytes.now }
+{
+    if bytes.len() > MOST_FRAME {
+        return Err(RecordFault::BadLength);
+    }
+    let mut kept = ArrayVec::new();
+    push_all(&mut kept, bytes);
+    Ok(Record::More(More { kind, bytes: kept }))
+}
+
 /// The record of a kind with these bytes, all of them, or its fault.
 #[tactic(auto, unfolding(crate::specs::Reading::content_of))]
 fn content_of(kind: Kind, bytes: &[u8]) -> Result<Record, RecordFault>
@@ -84,6 +100,7 @@ fn content_of(kind: Kind, bytes: &[u8]) -> Result<Record, RecordFault>
             Ok(beat) => Ok(Record::Beat(beat)),
             Err(fault) => Err(fault),
         },
+        Kind::More(kind) => more_of(kind, bytes),
     }
 }
 
@@ -100,7 +117,9 @@ fn record_of(bytes: &[u8]) -> Result<Record, RecordFault>
 /// is neither a whole record nor at fault.
 ///
 /// The fault is the first of: 120 `BadLength` (a length of 0 or above 4133, as soon as its four bytes are there), 121
-/// `BadKind`, and then 122 `BadHello`, 120 `BadLength` (no length of its kind) or 121 `BadKind` (a beat's flags).
+/// `BadKind` (of the byte 108 alone), and then 122 `BadHello`, 120 `BadLength` (no length of its kind) or 121 `BadKind` (a
+/// beat's flags). Whether a record of its kind may come now is for the caller to judge: of a kind above 3 only behind Hellos
+/// of the second version.
 pub fn read_record(bytes: &[u8]) -> Option<(Result<Record, RecordFault>, usize)>
     // It waits just where the record isn't whole.
     ensures partial { IsNone result ↔ IsPartial bytes.now }

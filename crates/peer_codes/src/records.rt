@@ -2,6 +2,7 @@ use crate::beat::Beat;
 use crate::frame::Frame;
 use crate::hello::Hello;
 use crate::limits::TAG_BYTES;
+use crate::more::More;
 
 /// That a side has the key: a tag under it, over its role and both Hellos.
 #[derive(Clone, Copy, Debug, PartialEq, Eq)]
@@ -20,4 +21,6 @@ pub enum Record {
     Frame(Frame),
     /// How the speaker is.
     Beat(Beat),
+    /// What has another kind: only behind Hellos of the second version.
+    More(More),
 }

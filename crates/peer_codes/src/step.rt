@@ -4,7 +4,7 @@ ghost use Rattle.std.specs.Prelude.{◌≡◌, ℕ, List, ◌-◌, ◌≤◌, le
 ghost use Rattle.peer_codes.specs.declared.kind.Kind.TheVariants as kind_of;
 ghost use Rattle.peer_codes.specs.declared.phase.Phase.TheVariants as phases;
 ghost use Rattle.peer_codes.specs.Codes.{uncovered};
-ghost use Rattle.peer_codes.specs.Steps.{closed, ways_of, only_coded, no_hello, greeted, on_greeting, on_proof, frame_heard, beat_heard, on_record, staying, stepped, front_step};
+ghost use Rattle.peer_codes.specs.Steps.{closed, ways_of, only_coded, of_version, no_hello, greeted, on_greeting, on_proof, frame_heard, beat_heard, more_heard, on_more, on_record, staying, stepped, front_step};
 ghost use Rattle.peer_codes.specs.Reading.{hello_of};
 ghost use Rattle.peer_codes.specs.Outgoings.{later};
 
@@ -20,11 +20,13 @@ use crate::hmac::is_same;
 use crate::key::Key;
 use crate::kind::Kind;
 use crate::limits::{LEAST_FRAME, MOST_CONTENT, MOST_RECORD, TAG_BYTES};
+use crate::more::More;
 use crate::outgoing::Outgoing;
 use crate::phase::{Phase, Ways};
 use crate::reading::kind_in;
 use crate::records::Proof;
 use crate::role::Role;
+use crate::version::Version;
 use std::mem;
 
 /// What a record does to a connection.
@@ -70,7 +72,22 @@ fn coded_hello(bytes: &[u8]) -> Option<Hello>
     }
 }
 
-/// No Hello of a connection with codes came.
+/// The Hello that came, where this side dialled and its own is of another version none.
+fn of_version(own: Option<Hello>, theirs: Option<Hello>) -> Option<Hello>
+    ensures { result ≡ of_version own theirs }
+{
+    let Some(own) = own else {
+        return theirs;
+    };
+    let theirs = theirs?;
+    if own.version.is_same(theirs.version) {
+        Some(theirs)
+    } else {
+        None
+    }
+}
+
+/// No Hello of a connection with codes came, or none of this version.
 fn no_hello(own: Option<Hello>) -> Step
     ensures { result ≡ no_hello own }
 {
@@ -118,10 +135,11 @@ fn on_greeting(key: &Key, own: Option<Hello>, kind: Kind, content: &[u8]) -> Ste
     ensures { result ≡ on_greeting key.now.bytes own kind content.now }
 {
     match kind {
-        Kind::Hello => greeted(key, own, coded_hello(content)),
+        Kind::Hello => greeted(key, own, of_version(own, coded_hello(content))),
         Kind::Proof => closed(ConnectionFault::UnexpectedRecord),
         Kind::Frame => closed(ConnectionFault::UnexpectedRecord),
         Kind::Beat => closed(ConnectionFault::UnexpectedRecord),
+        Kind::More(_) => closed(ConnectionFault::Record(RecordFault::BadKind)),
     }
 }
 
@@ -151,6 +169,7 @@ fn on_proof(theirs: Proof, ways: Ways, kind: Kind, content: &[u8]) -> Step
         Kind::Hello => closed(ConnectionFault::UnexpectedRecord),
         Kind::Frame => closed(ConnectionFault::UnexpectedRecord),
         Kind::Beat => closed(ConnectionFault::UnexpectedRecord),
+        Kind::More(_) => closed(ConnectionFault::Record(RecordFault::BadKind)),
     }
 }
 
@@ -184,6 +203,28 @@ fn beat_heard(ways: &mut Ways, content: &[u8]) -> Result<Event, ConnectionFault>
     }
 }
 
+/// A record of a further kind came, as far as its tag is right.
+fn more_heard(ways: &mut Ways, kind: u8, content: &[u8]) -> Result<Event, ConnectionFault>
+    requires { length content.now ≤ MOST_CONTENT }
+    ensures { staying ways.new result ≡ more_heard ways.old (length content.now - TAG_BYTES) kind (uncovered ways.old.reading (kind_of.More kind) content.now) }
+{
+    match ways.reading.uncover(Kind::More(kind), content) {
+        Ok(bytes) => Ok(Event::More(More { kind, bytes })),
+        Err(fault) => Err(fault),
+    }
+}
+
+/// A record of a further kind came, which may come behind Hellos of the second version alone.
+fn on_more(ways: &mut Ways, kind: u8, content: &[u8]) -> Result<Event, ConnectionFault>
+    requires { length content.now ≤ MOST_CONTENT }
+    ensures { staying ways.new result ≡ on_more ways.old.reading.version ways.old kind content.now }
+{
+    match ways.reading.version() {
+        Version::First => Err(ConnectionFault::Record(RecordFault::BadKind)),
+        Version::Second => more_heard(ways, kind, content),
+    }
+}
+
 /// A record came on an open connection.
 fn on_record(ways: &mut Ways, kind: Kind, content: &[u8]) -> Result<Event, ConnectionFault>
     requires { length content.now ≤ MOST_CONTENT }
@@ -194,6 +235,7 @@ fn on_record(ways: &mut Ways, kind: Kind, content: &[u8]) -> Result<Event, Conne
         Kind::Beat => beat_heard(ways, content),
         Kind::Hello => Err(ConnectionFault::UnexpectedRecord),
         Kind::Proof => Err(ConnectionFault::UnexpectedRecord),
+        Kind::More(kind) => on_more(ways, kind, content),
     }
 }
 

@@ -9,6 +9,7 @@ use crate::fault::RecordFault;
 use crate::hmac::{HashedKey, is_same};
 use crate::kind::Kind;
 use crate::limits::{KEY_BYTES, LAST_NUMBER, MOST_CONTENT, MOST_FRAME, MOST_RECORD, TAG_BYTES};
+use crate::version::Version;
 use crate::writing::{CONTENT_AT, begin_envelope};
 use arrayvec::ArrayVec;
 use byteorder::{BigEndian, ByteOrder};
@@ -23,6 +24,8 @@ const SHORT: usize = 256;
 /// One way of a connection: who holds it can code what is said on it, and read what was coded.
 #[derive(Drop)]
 pub struct Way {
+    /// The version of the Hellos that it was made from.
+    version: Version,
     key: HashedKey,
     /// The number of the next record, counted from 0.
     number: u64,
@@ -93,12 +96,13 @@ fn mask(seal: &mut ChaCha20Rng, bytes: &mut [u8])
 
 impl Way {
     /// A way on which nothing was said.
-    pub(crate) fn new(key: [u8; KEY_BYTES]) -> Way
-        ensures { result ≡ fresh_way key }
+    pub(crate) fn new(version: Version, key: [u8; KEY_BYTES]) -> Way
+        ensures { result ≡ fresh_way version key }
     {
         let key = HashedKey::new(&key);
         let seal = key.tag(b"HDN1 seal", &[]);
         Way {
+            version,
             key,
             number: 0,
             seal: ChaCha20Rng::from_seed(seal),
@@ -113,6 +117,13 @@ impl Way {
         BigEndian::write_u64(&mut front, self.number);
         front[8] = kind.byte();
         self.key.tag(&front, sent)
+    }
+
+    /// The version of the Hellos that it was made from.
+    pub fn version(&self) -> Version
+        ensures { result ≡ self.now.version }
+    {
+        self.version
     }
 
     /// Whether another record can be said: all but the last number are used.

@@ -3,6 +3,7 @@
 ghost use Rattle.std.specs.Prelude.{◌≡◌, ◌+◌, ◌≤◌, ◌++◌, [], ◌∷◌, length, IfSome};
 ghost use Rattle.arrayvec.specs.ArrayVec.{array_vec_len};
 ghost use Rattle.byteorder.specs.Endian.{big_bytes};
+ghost use Rattle.peer_codes.specs.Versions.{magic_of};
 ghost use Rattle.peer_codes.specs.Kinds.{kind_byte};
 ghost use Rattle.peer_codes.specs.Fits.{IsLink, HasWidths, IsBeat, IsHeld, CanBeSaid, IsRecord};
 ghost use Rattle.peer_codes.specs.Spelling.{link_byte, ends_text, kept_text, promised_text, nonce_text, hello_text, flags_byte, beat_text, enveloped, kind, body, record_text};
@@ -11,8 +12,8 @@ use crate::beat::Beat;
 use crate::hello::{Hello, Life, Link};
 use crate::kind::Kind;
 use crate::limits::{
-    BALLOT_BYTES, BEAT_BYTES, CODED_HELLO_BYTES, DIGEST_BYTES, LIFE_BYTES, MAGIC, MOST_FRAME,
-    MOST_LENGTH, MOST_RECORD,
+    BALLOT_BYTES, BEAT_BYTES, CODED_HELLO_BYTES, DIGEST_BYTES, LIFE_BYTES, MOST_FRAME, MOST_LENGTH,
+    MOST_RECORD,
 };
 use crate::records::Record;
 use arrayvec::ArrayVec;
@@ -60,10 +61,10 @@ fn promised_bytes(promised: &Option<Ballot>) -> [u8; BALLOT_BYTES]
 /// Puts what stands in front of a Hello behind the last byte.
 fn push_greeting(out: &mut ArrayVec<u8, CODED_HELLO_BYTES>, hello: &Hello)
     requires { array_vec_len out.old + 8 ≤ CODED_HELLO_BYTES }
-    ensures items { out.new.items ≡ out.old.items ++ (big_bytes 4 MAGIC ++ (link_byte hello.now.link ∷ ends_text hello.now.ends)) }
+    ensures items { out.new.items ≡ out.old.items ++ (big_bytes 4 (magic_of hello.now.version) ++ (link_byte hello.now.link ∷ ends_text hello.now.ends)) }
     ensures len { array_vec_len out.new ≡ array_vec_len out.old + 8 }
 {
-    push_all(out, &number_bytes(MAGIC));
+    push_all(out, &number_bytes(hello.version.magic()));
     out.push(link_byte(&hello.link));
     out.push(hello.ends.from);
     out.push(hello.ends.to);
@@ -186,6 +187,7 @@ pub(crate) fn body_bytes(said: &Record) -> ArrayVec<u8, MOST_FRAME>
         Record::Proof(proof) => push_all(&mut out, &proof.tag),
         Record::Frame(frame) => push_all(&mut out, frame.bytes.as_slice()),
         Record::Beat(beat) => push_all(&mut out, beat_bytes(beat).as_slice()),
+        Record::More(more) => push_all(&mut out, more.bytes.as_slice()),
     }
     out
 }
@@ -199,6 +201,7 @@ fn kind_of(said: &Record) -> Kind
         Record::Proof(_) => Kind::Proof,
         Record::Frame(_) => Kind::Frame,
         Record::Beat(_) => Kind::Beat,
+        Record::More(more) => Kind::More(more.kind),
     }
 }
 

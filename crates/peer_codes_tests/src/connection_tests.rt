@@ -3,10 +3,13 @@
 ghost use Rattle.std.specs.Prelude.{◌≡◌, true};
 ghost use Rattle.peer_codes.specs.Steps.{is_coded};
 
-use crate::samples::{ASK, BEAT, assert_bytes, called, caller, key, with_nonce};
+use crate::samples::{
+    ASK, BEAT, LIVES, LIVES_BYTES, assert_bytes, called, caller, key, lives, second, with_nonce,
+};
 use crate::vectors::{
-    CALLED_FRAME, CALLED_HELLO, CALLED_PROOF, CALLER_HELLO, CALLER_PROOF, FIRST_FRAME, THEN_BEAT,
-    THEN_FRAME,
+    CALLED_FRAME, CALLED_HELLO, CALLED_PROOF, CALLER_HELLO, CALLER_PROOF, FIRST_FRAME, FIRST_LIVES,
+    SECOND_BEAT, SECOND_CALLED_HELLO, SECOND_CALLED_PROOF, SECOND_CALLER_HELLO,
+    SECOND_CALLER_PROOF, SECOND_FRAME, SECOND_LIVES, THEN_BEAT, THEN_FRAME,
 };
 use peer_codes::{Connection, Event, Frame, Hello};
 use std::alloc::{AllocError, Global};
@@ -20,6 +23,7 @@ struct Heard {
     proofs: u8,
     frames: u8,
     beats: u8,
+    lives: u8,
     /// Hellos, frames and beats that nobody said.
     others: u8,
     fault: u8,
@@ -30,6 +34,7 @@ const NOTHING: Heard = Heard {
     proofs: 0,
     frames: 0,
     beats: 0,
+    lives: 0,
     others: 0,
     fault: 0,
 };
@@ -59,7 +64,11 @@ fn closed_by(fault: u8) -> Heard {
 fn and_event(heard: Heard, event: &Event) -> Heard {
     let mut heard = heard;
     match event {
-        Event::Greeted(hello) if *hello == caller() || *hello == called() => {
+        Event::Greeted(hello)
+            if *hello == caller()
+                || *hello == called()
+                || *hello == second(caller())
+                || *hello == second(called()) => {
             heard.hellos = heard.hellos.saturating_add(1);
         }
         Event::Opened => heard.proofs = heard.proofs.saturating_add(1),
@@ -67,6 +76,10 @@ fn and_event(heard: Heard, event: &Event) -> Heard {
             heard.frames = heard.frames.saturating_add(1);
         }
         Event::Beat(beat) if *beat == BEAT => heard.beats = heard.beats.saturating_add(1),
+        Event::More(more)
+            if more.kind == LIVES && more.bytes.as_slice() == LIVES_BYTES.as_slice() => {
+            heard.lives = heard.lives.saturating_add(1);
+        }
         _ => heard.others = heard.others.saturating_add(1),
     }
     heard
@@ -289,5 +302,95 @@ fn a_proof_of_an_earlier_connection_is_refused(rt: HostRuntime) -> Result<(), Fa
             ..greeted()
         },
     );
+    Ok(())
+}
+
+/// Whether lives are to be said.
+fn put_lives(side: &mut Connection) -> bool {
+    match lives(LIVES) {
+        Some(more) => side.put_more(more),
+        None => false,
+    }
+}
+
+/// The caller, open to the called in the second version.
+fn open_second(rt: &impl Abort, alloc: Global) -> Result<Connection, AllocError> {
+    let mut side = Connection::call(alloc, key(), second(caller()));
+    assert_bytes(rt, said(alloc, &mut side)?.as_slice(), &SECOND_CALLER_HELLO);
+    side.take_piece(&SECOND_CALLED_HELLO)?;
+    side.take_piece(&SECOND_CALLED_PROOF)?;
+    let _heard = hear_all(&mut side, caller());
+    assert_bytes(rt, said(alloc, &mut side)?.as_slice(), &SECOND_CALLER_PROOF);
+    Ok(side)
+}
+
+/// Behind the beat lives are said, and then the frame; a second time they aren't taken while they wait.
+#[test]
+fn the_caller_tells_lives(rt: HostRuntime) -> Result<(), Fail> {
+    let alloc = rt.alloc();
+    let mut side = open_second(&rt, alloc)?;
+    put_ask(&rt, &mut side);
+    assert!(rt; put_lives(&mut side), "not taken");
+    assert!(rt; !put_lives(&mut side), "taken twice");
+    side.tell_beat(BEAT);
+    let mut whole = Vec::new(alloc);
+    whole.extend_from_slice(&SECOND_BEAT)?;
+    whole.extend_from_slice(&SECOND_LIVES)?;
+    whole.extend_from_slice(&SECOND_FRAME)?;
+    let told = said(alloc, &mut side)?;
+    assert_bytes(&rt, told.as_slice(), whole.as_slice());
+    Ok(())
+}
+
+#[test]
+fn the_called_hears_lives(rt: HostRuntime) -> Result<(), Fail> {
+    let alloc = rt.alloc();
+    let mut side = Connection::listen(alloc, key());
+    side.take_piece(&SECOND_CALLER_HELLO)?;
+    side.take_piece(&SECOND_CALLER_PROOF)?;
+    side.take_piece(&SECOND_BEAT)?;
+    side.take_piece(&SECOND_LIVES)?;
+    side.take_piece(&SECOND_FRAME)?;
+    let all = Heard {
+        hellos: 1,
+        proofs: 1,
+        frames: 1,
+        beats: 1,
+        lives: 1,
+        ..NOTHING
+    };
+    assert_heard(&rt, hear_all(&mut side, second(called())), all);
+    Ok(())
+}
+
+/// On a connection of the first version lives are neither said nor heard.
+#[test]
+fn lives_are_of_the_second_version(rt: HostRuntime) -> Result<(), Fail> {
+    let alloc = rt.alloc();
+    let mut side = open_caller(alloc)?;
+    assert!(rt; !put_lives(&mut side), "taken");
+    side.take_piece(&FIRST_LIVES)?;
+    assert_heard(&rt, hear_all(&mut side, caller()), closed_by(121));
+    Ok(())
+}
+
+/// Who called in the second version takes no answer in the first; the called says its own Hello alone.
+#[test]
+fn an_answer_in_another_version_is_refused(rt: HostRuntime) -> Result<(), Fail> {
+    let alloc = rt.alloc();
+    let mut side = Connection::call(alloc, key(), second(caller()));
+    side.take_piece(&CALLED_HELLO)?;
+    assert_heard(&rt, hear_all(&mut side, caller()), closed_by(122));
+    let mut side = Connection::listen(alloc, key());
+    side.take_piece(&SECOND_CALLER_HELLO)?;
+    assert_heard(
+        &rt,
+        hear_all(&mut side, called()),
+        Heard {
+            fault: 122,
+            ..greeted()
+        },
+    );
+    assert_bytes(&rt, said(alloc, &mut side)?.as_slice(), &CALLED_HELLO);
     Ok(())
 }

@@ -5,7 +5,7 @@ ghost use Rattle.peer_codes.specs.Steps.{is_coded};
 
 use crate::vectors::DIGEST;
 use paxos_wire::Ballot;
-use peer_codes::{Beat, Ends, Hello, Hellos, Key, Life, Link, MatchDigest, Nonce};
+use peer_codes::{Beat, Ends, Hello, Hellos, Key, Life, Link, MatchDigest, More, Nonce, Version};
 use std::process::Abort;
 
 /// The frame of an Ask from slot 1.
@@ -22,6 +22,20 @@ pub(crate) const BEAT: Beat = Beat {
 
 /// The bytes of that beat.
 pub(crate) const BEAT_BYTES: [u8; 15] = [0, 0, 0, 1, 0, 0, 0, 0, 0, 0, 0, 37, 1, 0, 5];
+
+/// The byte of the kind of records that tell lives.
+pub(crate) const LIVES: u8 = 4;
+
+/// The lives of two stores of three, as such a record has them.
+pub(crate) const LIVES_BYTES: [u8; 48] = [
+    1, 2, 3, 4, 5, 6, 7, 8, 9, 10, 11, 12, 13, 14, 15, 16, 17, 18, 19, 20, 21, 22, 23, 24, 25, 26,
+    27, 28, 29, 30, 31, 32, 0, 0, 0, 0, 0, 0, 0, 0, 0, 0, 0, 0, 0, 0, 0, 0,
+];
+
+/// A record of this kind that tells them.
+pub(crate) fn lives(kind: u8) -> Option<More> {
+    More::new(kind, &LIVES_BYTES)
+}
 
 /// Bytes that rise by one from the first.
 pub(crate) fn rising<const COUNT: usize>(first: u8) -> [u8; COUNT] {
@@ -42,6 +56,7 @@ pub(crate) fn caller() -> Hello
     ensures { is_coded result.link ≡ true }
 {
     Hello {
+        version: Version::First,
         ends: Ends {
             from: 1,
             to: 0,
@@ -59,6 +74,7 @@ pub(crate) fn called() -> Hello
     ensures { is_coded result.link ≡ true }
 {
     Hello {
+        version: Version::First,
         ends: Ends {
             from: 0,
             to: 1,
@@ -69,6 +85,16 @@ pub(crate) fn called() -> Hello
         kept: None,
         promised: None,
         link: Link::Coded(Nonce { bytes: rising(200) }),
+    }
+}
+
+/// The same side in the second version.
+pub(crate) fn second(hello: Hello) -> Hello
+    ensures { result.link ≡ hello.link }
+{
+    Hello {
+        version: Version::Second,
+        ..hello
     }
 }
 

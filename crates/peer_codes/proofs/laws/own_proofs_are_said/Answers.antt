@@ -1,4 +1,4 @@
-use Rattle.peer_codes.proofs.TellingLaws.{out_stays, asked_answers, refused_answers, others_answer_nothing}
+use Rattle.peer_codes.proofs.TellingLaws.{out_stays, asked_answers, asked_in_another, refused_answers, others_answer_nothing}
 use Rattle.peer_codes.proofs.laws.own_proofs_are_said.Goals as goal
 
 pub returns-clause-next : goal.returns-clause-next
@@ -6,6 +6,9 @@ returns-clause-next c = out_stays
 
 pub returns-clause-answer : goal.returns-clause-answer
 returns-clause-answer c = asked_answers
+
+pub returns-clause-other : goal.returns-clause-other
+returns-clause-other c = asked_in_another
 
 pub returns-clause-refusal : goal.returns-clause-refusal
 returns-clause-refusal c = refused_answers
