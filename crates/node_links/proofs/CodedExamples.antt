@@ -1,9 +1,11 @@
 -- Connections with codes on values: what is judged when, what comes, what waits, and what a frame that is told goes by.
 use Rattle.std.proofs.Common.{◌≡◌, ℕ, ◌+◌, List, [], ◌∷◌, ◌++◌, length, replicate, true, false, Option, Some, None, Ok, Err, refl, ap, subst}
 use Rattle.paxos_wire.specs.Reading.{ballot_at}
+use Rattle.peer_codes.specs.declared.fault.RecordFault.TheVariants.{BadHello}
 use Rattle.peer_codes.specs.declared.connection_fault.ConnectionFault.TheVariants as channel_faults
 use Rattle.peer_codes.specs.declared.event.Event.TheVariants as events
 use Rattle.peer_codes.specs.declared.frame.Frame.{Frame}
+use Rattle.peer_codes.specs.declared.version.Version.TheVariants.{First, Second}
 use Rattle.peer_codes.specs.declared.hello.Hello.{Hello}
 use Rattle.peer_codes.specs.declared.hello.Life.{Life}
 use Rattle.peer_codes.specs.declared.hello.Link.TheVariants as links
@@ -45,7 +47,7 @@ own = record { number = 0; nodes = 3; digest = record { bytes = replicate 32 9 }
 
 abbrev hello_by : ℕ → ℕ → ℕ → ℕ → Hello
 hello_by from to digest nonce =
-    record { ends = record { from = from; to = to; nodes = 3 }; digest = record { bytes = replicate 32 digest }; life = life 5; kept = None; promised = None; link = links.Coded (record { bytes = replicate 32 nonce }) }
+    record { version = First; ends = record { from = from; to = to; nodes = 3 }; digest = record { bytes = replicate 32 digest }; life = life 5; kept = None; promised = None; link = links.Coded (record { bytes = replicate 32 nonce }) }
 
 abbrev theirs : Hello
 theirs = hello_by 1 0 9 3
@@ -101,6 +103,10 @@ frame_before_it_is_open = refl
 
 pub frame_told : coded_step (stages.Open theirs) (Ok (events.Frame frame)) ≡ record { stage = stages.Open theirs; heard = Ok (heards.Frame frame) }
 frame_told = refl
+
+-- a Hello of another version than the first isn't taken
+pub second_hello : coded_step stages.Greeting (Ok (events.Greeted (record theirs { version = Second }))) ≡ closed (faults.Record BadHello)
+second_hello = refl
 
 -- ---- what waits
 
@@ -170,7 +176,7 @@ pub nothing_written : IsWritten mine [] → ⊥
 nothing_written (more, e) = never_enveloped kind_of.Hello (hello_text mine) (none_in (record_text (record_of.Hello mine)) more e)
 
 abbrev left : Option Hello → List ℕ → Outgoing
-left waits begun = record { hello = waits; proof = None; beat = None; frame = None; begun = record { items = begun }; written = 0 }
+left waits begun = record { hello = waits; proof = None; beat = None; more = None; frame = None; begun = record { items = begun }; written = 0 }
 
 -- the own Hello waits, or something is unfinished, or neither
 pub hello_waits : has_said_hello (left (Some mine) []) ≡ false

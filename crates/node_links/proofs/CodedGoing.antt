@@ -1,5 +1,5 @@
 -- What calls leave of what a connection with codes goes by.
-use Rattle.std.proofs.Common.{◌≡◌, inl, inr, ℕ, ◌==◌, ◌&&◌, Bool, true, false, List, [], ◌∷◌, ◌++◌, length, drop, append_assoc, append-nil, Option, Some, None, is_none, Result, Ok, Err, refl, sym, ap, subst, ◌∙◌}
+use Rattle.std.proofs.Common.{◌≡◌, inl, inr, ℕ, ◌==◌, ◌&&◌, Bool, true, false, List, [], ◌∷◌, ◌++◌, length, drop, append_assoc, append-nil, Option, Some, None, is_none, IfSome, Result, Ok, Err, cond, refl, sym, ap, subst, ◌∙◌}
 use Rattle.std.proofs.Math.Logic.{∥∥₁_map}
 use Rattle.std.proofs.lemmas.Bool.{eqb-true, and_parts}
 use Rattle.std.proofs.lemmas.List.{take-append-drop}
@@ -9,6 +9,8 @@ use Rattle.peer_codes.specs.declared.fault.RecordFault.TheVariants.{BadHello}
 use Rattle.peer_codes.specs.declared.event.Event.{Event}
 use Rattle.peer_codes.specs.declared.event.Event.TheVariants as events
 use Rattle.peer_codes.specs.declared.frame.Frame.{Frame}
+use Rattle.peer_codes.specs.declared.version.Version.{Version}
+use Rattle.peer_codes.specs.declared.version.Version.TheVariants.{First, Second}
 use Rattle.peer_codes.specs.declared.hello.Hello.{Hello}
 use Rattle.peer_codes.specs.declared.key.Key.{Key}
 use Rattle.peer_codes.specs.declared.kind.Kind.{Kind}
@@ -28,7 +30,8 @@ use Rattle.peer_codes.specs.Faults.{needed, front}
 use Rattle.peer_codes.specs.Histories.{across}
 use Rattle.peer_codes.specs.Outgoings.{unwritten}
 use Rattle.peer_codes.specs.Reading.{hello_of}
-use Rattle.peer_codes.specs.Steps.{only_coded, greeted, front_step, step_by, stepped, proof_of, ways_of}
+use Rattle.peer_codes.specs.Versions.{same_version}
+use Rattle.peer_codes.specs.Steps.{only_coded, of_version, greeted, front_step, step_by, stepped, proof_of, ways_of}
 use Rattle.peer_codes.specs.Telling.{ToldBy, IsGreeting, IsOpened, IsHeard}
 use Rattle.node_links.specs.declared.heard.Heard.{Heard}
 use Rattle.node_links.specs.declared.heard.Heard.TheVariants as heards
@@ -38,7 +41,7 @@ use Rattle.node_links.specs.declared.stage.Stage.{Stage}
 use Rattle.node_links.specs.declared.stage.Stage.TheVariants as stages
 use Rattle.node_links.specs.declared.coded_connection.CodedConnection.{CodedConnection}
 use Rattle.node_links.specs.declared.connection.Connection.TheVariants.{Coded}
-use Rattle.node_links.specs.Coding.{coded_step, taken, peer_at, Hears, HearsOrWaits, HearsProof, NextCoded, has_said_hello, given}
+use Rattle.node_links.specs.Coding.{greeted as greeted_in, coded_step, taken, peer_at, Hears, HearsOrWaits, HearsProof, NextCoded, has_said_hello, given}
 use Rattle.node_links.specs.Talks.{Talk, way_behind, bytes_of, role_of, hellos_of, their_way, IsHelloIn, IsWritten, SaysCoded, SaysBy, Says}
 use Rattle.node_links.specs.Going.{Begins, HasHello, Awaits, Proved, CodedAt, CodedOn, CodedGoes, GoesOn, Goes, peer_of, TellsFrame}
 
@@ -102,10 +105,23 @@ on own talk c stage key waiting phase mine own_key key_is waiting_is phase_is be
       (subst (λ (p : Phase). CodedAt own talk key waiting p mine stage) (sym phase_is) at));
 }
 
-step_behind : (key : List ℕ) (mine : Option Hello) (bytes : List ℕ) (hello : Hello) → IsHelloIn hello bytes → (front_step key (phases.Greeting mine) bytes).phase ≡ (greeted key mine (Some hello)).phase
+pub version_same : (a b : Version) → a ≡ b → same_version a b ≡ true
+version_same First First e = refl
+version_same First Second e = absurd cc
+version_same Second First e = absurd cc
+version_same Second Second e = refl
+
+abbrev OfVersion : Option Hello → Hello → Type 0
+OfVersion mine hello = IfSome mine (λ own. own.version ≡ hello.version)
+
+of_same : (mine : Option Hello) (hello : Hello) → OfVersion mine hello → of_version mine (Some hello) ≡ Some hello
+of_same None hello same = refl
+of_same (Some mine) hello same = ap (λ (b : Bool). cond b (Some hello) None) (version_same mine.version hello.version same)
+
+step_behind : (key : List ℕ) (mine : Option Hello) (bytes : List ℕ) (hello : Hello) → IsHelloIn hello bytes → OfVersion mine hello → (front_step key (phases.Greeting mine) bytes).phase ≡ (greeted key mine (Some hello)).phase
 unfolding front_step stepped
-step_behind key mine bytes hello is =
-    ap (λ (k : Result Kind _). (step_by key (phases.Greeting mine) k (drop 5 bytes)).phase) is.0 ∙ ap (λ (h : Option Hello). (greeted key mine h).phase) is.1
+step_behind key mine bytes hello is same =
+    ap (λ (k : Result Kind _). (step_by key (phases.Greeting mine) k (drop 5 bytes)).phase) is.0 ∙ ap (λ (h : Option Hello). (greeted key mine (of_version mine h)).phase) is.1 ∙ ap (λ (h : Option Hello). (greeted key mine h).phase) (of_same mine hello same)
 
 -- the phase behind the other's Hello
 greeted_awaits : (key : Key) (dialled : Option ℕ) (mine : Option Hello) (theirs : Hello) → HasHello dialled mine → Awaits key dialled mine theirs (greeted key.bytes mine (Some theirs)).phase
@@ -121,17 +137,17 @@ own_proof_none : (key : List ℕ) (given mine : Option Hello) (theirs : Hello) (
 own_proof_none key None mine theirs earlier e none = refl
 own_proof_none key (Some given) mine theirs earlier e none = absurd cc
 
-greets : (own : Own) (talk : Talk) (old new : Channel) (theirs : Hello) → Reads old new (Ok (events.Greeted theirs)) → IsGreeting theirs old new → CodedOn own talk old stages.Greeting → CodedOn own talk new (stages.Asked theirs)
-greets own talk old new theirs reads is goes =
+greets : (own : Own) (talk : Talk) (old new : Channel) (theirs : Hello) → theirs.version ≡ First → Reads old new (Ok (events.Greeted theirs)) → IsGreeting theirs old new → CodedOn own talk old stages.Greeting → CodedOn own talk new (stages.Asked theirs)
+greets own talk old new theirs first reads is goes =
     let bytes : List ℕ = front old.came.waiting in
     let hello_is : IsHelloIn theirs bytes = (is.came.kind_is, ap (λ (t : List ℕ). only_coded (hello_of t)) is.came.content_is ∙ is.hello_is) in
-    let phase_is : new.phase ≡ (greeted old.key.bytes goes.mine (Some theirs)).phase =
-    ap (λ (c : Channel). c.phase) reads.others ∙ (ap (λ (p : Phase). (front_step old.key.bytes p bytes).phase) goes.at.1 ∙ step_behind old.key.bytes goes.mine bytes theirs hello_is) in
     let same : is.own ≡ goes.mine = mine_is is.own goes.mine (sym is.greeting ∙ goes.at.1) in
+    let phase_is : new.phase ≡ (greeted old.key.bytes goes.mine (Some theirs)).phase =
+    ap (λ (c : Channel). c.phase) reads.others ∙ (ap (λ (p : Phase). (front_step old.key.bytes p bytes).phase) goes.at.1 ∙ step_behind old.key.bytes goes.mine bytes theirs hello_is (subst (λ (o : Option Hello). OfVersion o theirs) same is.version)) in
     on own talk new (stages.Asked theirs) old.key new.came.waiting (greeted old.key.bytes goes.mine (Some theirs)).phase goes.mine goes.key (key_kept old new _ reads) refl phase_is
     (begins_alike goes.mine talk.wrote old.out new.out (ap (λ (o : Outgoing). unwritten o) is.out) (ap (λ (o : Outgoing). o.hello) is.out)
     (λ none. ap (λ (o : Outgoing). o.proof) is.out ∙ own_proof_none old.key.bytes is.own goes.mine theirs old.out.proof same none) goes.begins)
-    (record { hello = bytes; is = hello_is; text = goes.at.0 ∙ front_taken old new _ reads }, greeted_awaits old.key talk.dialled goes.mine theirs goes.at.2)
+    (record { hello = bytes; is = hello_is; first = first; text = goes.at.0 ∙ front_taken old new _ reads }, greeted_awaits old.key talk.dialled goes.mine theirs goes.at.2)
 
 theirs_is : (a b : Proof) (v w : Ways) → phases.Proving a v ≡ phases.Proving b w → a ≡ b
 theirs_is a b v w e = cc
@@ -235,19 +251,27 @@ hears own talk old new theirs event kind body (Some mine) reads is key begins at
     on own talk new (stages.Open theirs) old.key new.came.waiting new.phase (Some mine) key (key_kept old new _ reads) refl refl (begins_on own mine talk.wrote old new event reads begins)
     (at.0, pieces old.key (role_of talk.dialled) mine theirs talk.wrote talk.came old new kind body (front_taken old new _ reads) is at.1)
 
+greets_in : (v : Version) (own : Own) (talk : Talk) (old new : Channel) (theirs : Hello) → theirs.version ≡ v → Reads old new (Ok (events.Greeted theirs)) → IsGreeting theirs old new → CodedOn own talk old stages.Greeting
+    → CodedGoes own talk new (greeted_in v theirs).stage
+greets_in First own talk old new theirs version reads is goes = greets own talk old new theirs version reads is goes
+greets_in Second own talk old new theirs version reads is goes = tt
+
 event_goes : (own : Own) (talk : Talk) (old new : Channel) (stage : Stage) (event : Event) → Reads old new (Ok event) → ToldBy event old new → MayRead stage old.out → CodedGoes own talk old stage → CodedGoes own talk new (coded_step stage (Ok event)).stage
-event_goes own talk old new stages.Greeting (events.Greeted theirs) reads is may goes = greets own talk old new theirs reads is goes
+event_goes own talk old new stages.Greeting (events.Greeted theirs) reads is may goes = greets_in theirs.version own talk old new theirs refl reads is goes
 event_goes own talk old new stages.Greeting events.Opened reads is may goes = tt
 event_goes own talk old new stages.Greeting (events.Frame frame) reads is may goes = tt
 event_goes own talk old new stages.Greeting (events.Beat beat) reads is may goes = tt
+event_goes own talk old new stages.Greeting (events.More more) reads is may goes = tt
 event_goes own talk old new (stages.Asked theirs) event reads is may goes = tt
 event_goes own talk old new (stages.Matched theirs) (events.Greeted other) reads is may goes = tt
 event_goes own talk old new (stages.Matched theirs) events.Opened reads is may goes = opens own talk old new theirs goes.mine reads is may goes.key goes.begins goes.at
 event_goes own talk old new (stages.Matched theirs) (events.Frame frame) reads is may goes = tt
 event_goes own talk old new (stages.Matched theirs) (events.Beat beat) reads is may goes = tt
+event_goes own talk old new (stages.Matched theirs) (events.More more) reads is may goes = tt
 event_goes own talk old new (stages.Proved theirs) event reads is may goes = tt
 event_goes own talk old new (stages.Open theirs) (events.Greeted other) reads is may goes = tt
 event_goes own talk old new (stages.Open theirs) events.Opened reads is may goes = tt
+event_goes own talk old new (stages.Open theirs) (events.More more) reads is may goes = tt
 event_goes own talk old new (stages.Open theirs) (events.Frame frame) reads is may goes = hears own talk old new theirs (events.Frame frame) kind_of.Frame frame.bytes.items goes.mine reads is goes.key goes.begins goes.at
 event_goes own talk old new (stages.Open theirs) (events.Beat beat) reads (body, reading, is) may goes = hears own talk old new theirs (events.Beat beat) kind_of.Beat body goes.mine reads is goes.key goes.begins goes.at
 event_goes own talk old new (stages.Closed fault) event reads is may goes = tt
@@ -334,21 +358,28 @@ frame_of a b e = cc
 from_of : (a b : ℕ) → Some a ≡ Some b → a ≡ b
 from_of a b e = cc
 
+greeting_no_frame : (v : Version) (hello : Hello) (frame : Frame) → Ok (heards.Frame frame) ≡ (greeted_in v hello).heard → ⊥
+greeting_no_frame First hello frame e = absurd cc
+greeting_no_frame Second hello frame e = absurd cc
+
 event_says : (stands : Stands) (own : Own) (talk : Talk) (old new : Channel) (stage : Stage) (event : Event) (frame : Frame) (from : ℕ) → Next old.phase old (Some (Ok event)) new → Ok (heards.Frame frame) ≡ (coded_step stage (Ok event)).heard
     → peer_at (coded_step stage (Ok event)).stage ≡ Some from → CodedGoes own talk old stage → Says own from frame talk
-event_says stands own talk old new stages.Greeting (events.Greeted other) frame from next e peer goes = absurd cc
+event_says stands own talk old new stages.Greeting (events.Greeted other) frame from next e peer goes = absurd (greeting_no_frame other.version other frame e)
 event_says stands own talk old new stages.Greeting events.Opened frame from next e peer goes = absurd cc
 event_says stands own talk old new stages.Greeting (events.Frame found) frame from next e peer goes = absurd cc
 event_says stands own talk old new stages.Greeting (events.Beat beat) frame from next e peer goes = absurd cc
+event_says stands own talk old new stages.Greeting (events.More more) frame from next e peer goes = absurd cc
 event_says stands own talk old new (stages.Asked theirs) event frame from next e peer goes = absurd cc
 event_says stands own talk old new (stages.Matched theirs) (events.Greeted other) frame from next e peer goes = absurd cc
 event_says stands own talk old new (stages.Matched theirs) events.Opened frame from next e peer goes = absurd cc
 event_says stands own talk old new (stages.Matched theirs) (events.Frame found) frame from next e peer goes = absurd cc
 event_says stands own talk old new (stages.Matched theirs) (events.Beat beat) frame from next e peer goes = absurd cc
+event_says stands own talk old new (stages.Matched theirs) (events.More more) frame from next e peer goes = absurd cc
 event_says stands own talk old new (stages.Proved theirs) event frame from next e peer goes = absurd cc
 event_says stands own talk old new (stages.Open theirs) (events.Greeted other) frame from next e peer goes = absurd cc
 event_says stands own talk old new (stages.Open theirs) events.Opened frame from next e peer goes = absurd cc
 event_says stands own talk old new (stages.Open theirs) (events.Beat beat) frame from next e peer goes = absurd cc
+event_says stands own talk old new (stages.Open theirs) (events.More more) frame from next e peer goes = absurd cc
 event_says stands own talk old new (stages.Closed fault) event frame from next e peer goes = absurd cc
 event_says stands own talk old new (stages.Open theirs) (events.Frame found) frame from next e peer goes =
     subst (λ (f : Frame). Says own from f talk) (frame_of found frame (sym e))

@@ -1,8 +1,9 @@
 -- What a connection with codes goes by where it begins, takes pieces, judges and answers, and where it speaks.
-use Rattle.std.proofs.Common.{◌≡◌, inl, inr, ℕ, nat_le, ◌==◌, Bool, true, false, if◌then◌else◌, List, [], ◌++◌, length, take, drop, append_assoc, append-nil, Option, Some, None, Result, Ok, Err, refl, sym, ap, subst, ◌∙◌}
+use Rattle.std.proofs.Common.{◌≡◌, inl, inr, ℕ, nat_le, ◌==◌, Bool, true, false, if◌then◌else◌, cond, List, [], ◌++◌, length, take, drop, append_assoc, append-nil, Option, Some, None, Result, Ok, Err, refl, sym, ap, subst, ◌∙◌}
 use Rattle.std.proofs.Math.Logic.{∥∥₁_map}
 use Rattle.std.proofs.lemmas.List.{take-append-drop}
 use Rattle.peer_codes.specs.declared.limits.TheConstants.{LEAST_FRAME}
+use Rattle.peer_codes.specs.declared.version.Version.TheVariants.{First}
 use Rattle.peer_codes.specs.declared.hello.Hello.{Hello}
 use Rattle.peer_codes.specs.declared.key.Key.{Key}
 use Rattle.peer_codes.specs.declared.kind.Kind.{Kind}
@@ -16,7 +17,7 @@ use Rattle.peer_codes.specs.declared.outgoing.Outgoing.{Outgoing}
 use Rattle.peer_codes.specs.declared.connection.Connection.{Connection as Channel}
 use Rattle.peer_codes.specs.Beginning.{Begins as ChannelBegins, TextBegun, HelloBegun, ProofBegun, CodedBegun}
 use Rattle.peer_codes.specs.Codes.{after}
-use Rattle.peer_codes.specs.Connections.{answered, begun_next}
+use Rattle.peer_codes.specs.Connections.{met as met_by, turned_away, answered, begun_next}
 use Rattle.peer_codes.specs.Histories.{IsCoded, said_phase}
 use Rattle.peer_codes.specs.Outgoings.{unwritten}
 use Rattle.peer_codes.specs.Spelling.{record_text}
@@ -28,18 +29,18 @@ use Rattle.node_links.specs.declared.stage.Stage.{Stage}
 use Rattle.node_links.specs.declared.stage.Stage.TheVariants as stages
 use Rattle.node_links.specs.declared.coded_connection.CodedConnection.{CodedConnection}
 use Rattle.node_links.specs.declared.connection.Connection.TheVariants.{Coded}
-use Rattle.node_links.specs.Coding.{settled_stage, matched, taken, given, and_frame, begun_open, begun_by, begun_where, begun_coded}
+use Rattle.node_links.specs.Coding.{settled_stage, matched, taken, in_first, given, and_frame, begun_open, begun_by, begun_where, begun_coded}
 use Rattle.node_links.specs.Judging.{judged_match, judged_known}
 use Rattle.node_links.specs.Waits.{Waits}
 use Rattle.node_links.specs.Waiting.{next_of, has_next}
 use Rattle.node_links.specs.Talks.{Talk, bytes_of, hellos_of}
 use Rattle.node_links.specs.Going.{Begins, Greeted, HasHello, Awaits, Matches, ProvedBy, CodedAt, CodedOn, CodedGoes, GoesOn, GoesOnWith, GoesOnWritten, Goes, silence}
-use Rattle.node_links.proofs.CodedGoing.{BeginsEach, begins_alike, all_written, on}
+use Rattle.node_links.proofs.CodedGoing.{BeginsEach, version_same, begins_alike, all_written, on}
 
 -- ---- its beginning
 
 abbrev fresh : Option Hello → Outgoing
-fresh mine = record { hello = mine; proof = None; beat = None; frame = None; begun = record { items = [] }; written = 0 }
+fresh mine = record { hello = mine; proof = None; beat = None; more = None; frame = None; begun = record { items = [] }; written = 0 }
 
 begins_fresh : (mine : Hello) (out : Outgoing) → IsCoded mine → out ≡ fresh (Some mine) → Begins (Some mine) [] out
 begins_fresh mine out coded e = subst (λ (o : Outgoing). Begins (Some mine) [] o) (sym e) (coded, inl (refl, refl))
@@ -63,7 +64,7 @@ coded_listens own c key own_key stage phase key_is waiting out = begun_of own No
 -- ---- a piece more
 
 piece_on : (own : Own) (came waiting piece : List ℕ) (theirs : Hello) → Greeted came waiting theirs → Greeted (came ++ piece) (waiting ++ piece) theirs
-piece_on own came waiting piece theirs at = record { hello = at.hello; is = at.is; text = ap (λ (t : List ℕ). t ++ piece) at.text ∙ append_assoc at.hello waiting piece }
+piece_on own came waiting piece theirs at = record { hello = at.hello; is = at.is; first = at.first; text = ap (λ (t : List ℕ). t ++ piece) at.text ∙ append_assoc at.hello waiting piece }
 
 piece_behind : (key : Key) (mine : Option Hello) (theirs : Hello) (talk : Talk) (waiting piece : List ℕ) (phase : Phase) → ProvedBy key mine theirs talk waiting phase
     → ProvedBy key mine theirs (record talk { came = talk.came ++ piece }) (waiting ++ piece) phase
@@ -148,42 +149,44 @@ unanswered : (own : Own) (talk : Talk) (c : Channel) (stage : Stage) (mine : Hel
 unanswered own talk c stage mine phase e same goes = subst (λ (d : Channel). CodedOn own talk d stage) (sym (same_answer phase mine c e same)) goes
 
 -- the Hello came that is answered
-answers : (own : Own) (talk : Talk) (c : Channel) (stage : Stage) (theirs mine : Hello) → IsCoded mine → c.phase ≡ phases.Asked theirs → own.key ≡ Some c.key → Begins None talk.wrote c.out
+answers : (own : Own) (talk : Talk) (c : Channel) (stage : Stage) (theirs mine : Hello) → IsCoded mine → theirs.version ≡ mine.version → c.phase ≡ phases.Asked theirs → own.key ≡ Some c.key → Begins None talk.wrote c.out
     → CodedAt own talk c.key c.came.waiting (proving c.key.bytes Called Caller (hellos_of Called mine theirs)) (Some mine) stage → CodedOn own talk (answered c.phase mine c) stage
-answers own talk c stage theirs mine coded phase key begins at =
-    subst (λ (p : Phase). CodedOn own talk (answered p mine c) stage) (sym phase) (record { key = key; mine = Some mine; begins = (coded, inl (begins.0, refl)); at = at })
+answers own talk c stage theirs mine coded version phase key begins at =
+    subst (λ (p : Phase). CodedOn own talk (answered p mine c) stage) (sym phase)
+    (subst (λ (b : Bool). CodedOn own talk (cond b (met_by theirs mine c) (turned_away mine c)) stage) (sym (version_same theirs.version mine.version version))
+    (record { key = key; mine = Some mine; begins = (coded, inl (begins.0, refl)); at = at }))
 
 called_awaits : (key : Key) (dialled : Option ℕ) (mine theirs : Hello) → dialled ≡ None → Awaits key dialled (Some mine) theirs (proving key.bytes Called Caller (hellos_of Called mine theirs))
 called_awaits key None mine theirs e = refl
 called_awaits key (Some number) mine theirs e = absurd cc
 
-asked_answers : (own : Own) (talk : Talk) (c : Channel) (theirs mine : Hello) (given : Option Hello) → IsCoded mine → own.key ≡ Some c.key → Begins given talk.wrote c.out → Greeted talk.came c.came.waiting theirs
+asked_answers : (own : Own) (talk : Talk) (c : Channel) (theirs mine : Hello) (given : Option Hello) → IsCoded mine → mine.version ≡ First → own.key ≡ Some c.key → Begins given talk.wrote c.out → Greeted talk.came c.came.waiting theirs
     → Awaits c.key talk.dialled given theirs c.phase → CodedOn own talk c (stages.Asked theirs) → CodedOn own talk (answered c.phase mine c) (stages.Asked theirs)
-asked_answers own talk c theirs mine None coded key begins greeted awaits goes = answers own talk c (stages.Asked theirs) theirs mine coded awaits.1 key begins (greeted, called_awaits c.key talk.dialled mine theirs awaits.0)
-asked_answers own talk c theirs mine (Some given) coded key begins greeted awaits goes = unanswered own talk c (stages.Asked theirs) mine _ awaits refl goes
+asked_answers own talk c theirs mine None coded first key begins greeted awaits goes = answers own talk c (stages.Asked theirs) theirs mine coded (greeted.first ∙ sym first) awaits.1 key begins (greeted, called_awaits c.key talk.dialled mine theirs awaits.0)
+asked_answers own talk c theirs mine (Some given) coded first key begins greeted awaits goes = unanswered own talk c (stages.Asked theirs) mine _ awaits refl goes
 
-matched_answers : (own : Own) (talk : Talk) (c : Channel) (theirs mine : Hello) (given : Option Hello) → IsCoded mine → own.key ≡ Some c.key → Begins given talk.wrote c.out → Matches own talk.dialled theirs
+matched_answers : (own : Own) (talk : Talk) (c : Channel) (theirs mine : Hello) (given : Option Hello) → IsCoded mine → mine.version ≡ First → own.key ≡ Some c.key → Begins given talk.wrote c.out → Matches own talk.dialled theirs
     → Greeted talk.came c.came.waiting theirs → Awaits c.key talk.dialled given theirs c.phase → CodedOn own talk c (stages.Matched theirs) → CodedOn own talk (answered c.phase mine c) (stages.Matched theirs)
-matched_answers own talk c theirs mine None coded key begins matches greeted awaits goes = answers own talk c (stages.Matched theirs) theirs mine coded awaits.1 key begins (matches, greeted, called_awaits c.key talk.dialled mine theirs awaits.0)
-matched_answers own talk c theirs mine (Some given) coded key begins matches greeted awaits goes = unanswered own talk c (stages.Matched theirs) mine _ awaits refl goes
+matched_answers own talk c theirs mine None coded first key begins matches greeted awaits goes = answers own talk c (stages.Matched theirs) theirs mine coded (greeted.first ∙ sym first) awaits.1 key begins (matches, greeted, called_awaits c.key talk.dialled mine theirs awaits.0)
+matched_answers own talk c theirs mine (Some given) coded first key begins matches greeted awaits goes = unanswered own talk c (stages.Matched theirs) mine _ awaits refl goes
 
 open_phase : (key : Key) (mine : Option Hello) (theirs : Hello) (talk : Talk) (waiting : List ℕ) (phase : Phase) → ProvedBy key mine theirs talk waiting phase → (ways : Ways) × (phase ≡ phases.Open ways)
 open_phase key None theirs talk waiting phase at = absurd at
 open_phase key (Some mine) theirs talk waiting phase at = (at.ways, at.open_is)
 
-answer_goes : (own : Own) (talk : Talk) (c : Channel) (stage : Stage) (mine : Hello) → IsCoded mine → CodedGoes own talk c stage → CodedGoes own talk (answered c.phase mine c) stage
-answer_goes own talk c (stages.Closed fault) mine coded goes = tt
-answer_goes own talk c stages.Greeting mine coded goes = unanswered own talk c stages.Greeting mine (phases.Greeting goes.mine) goes.at.1 refl goes
-answer_goes own talk c (stages.Asked theirs) mine coded goes = asked_answers own talk c theirs mine goes.mine coded goes.key goes.begins goes.at.0 goes.at.1 goes
-answer_goes own talk c (stages.Matched theirs) mine coded goes = matched_answers own talk c theirs mine goes.mine coded goes.key goes.begins goes.at.0 goes.at.1 goes.at.2 goes
-answer_goes own talk c (stages.Proved theirs) mine coded goes =
+answer_goes : (own : Own) (talk : Talk) (c : Channel) (stage : Stage) (mine : Hello) → IsCoded mine → mine.version ≡ First → CodedGoes own talk c stage → CodedGoes own talk (answered c.phase mine c) stage
+answer_goes own talk c (stages.Closed fault) mine coded first goes = tt
+answer_goes own talk c stages.Greeting mine coded first goes = unanswered own talk c stages.Greeting mine (phases.Greeting goes.mine) goes.at.1 refl goes
+answer_goes own talk c (stages.Asked theirs) mine coded first goes = asked_answers own talk c theirs mine goes.mine coded first goes.key goes.begins goes.at.0 goes.at.1 goes
+answer_goes own talk c (stages.Matched theirs) mine coded first goes = matched_answers own talk c theirs mine goes.mine coded first goes.key goes.begins goes.at.0 goes.at.1 goes.at.2 goes
+answer_goes own talk c (stages.Proved theirs) mine coded first goes =
     let is = open_phase c.key goes.mine theirs talk c.came.waiting c.phase goes.at.1 in unanswered own talk c (stages.Proved theirs) mine (phases.Open is.0) is.1 refl goes
-answer_goes own talk c (stages.Open theirs) mine coded goes =
+answer_goes own talk c (stages.Open theirs) mine coded first goes =
     let is = open_phase c.key goes.mine theirs talk c.came.waiting c.phase goes.at.1 in unanswered own talk c (stages.Open theirs) mine (phases.Open is.0) is.1 refl goes
 
-pub coded_answers : (old new : CodedConnection) (mine : Hello) → IsCoded mine → new ≡ record old { channel = answered old.channel.phase mine old.channel } → GoesOn (Coded old) (Coded new)
+pub coded_answers : (old new : CodedConnection) (mine : Hello) → IsCoded mine → new ≡ record old { channel = answered old.channel.phase (in_first mine) old.channel } → GoesOn (Coded old) (Coded new)
 coded_answers old new mine coded e own talk goes =
-    ∥∥₁_map goes (λ g. subst (λ (c : CodedConnection). CodedGoes own talk c.channel c.stage) (sym e) (answer_goes own talk old.channel old.stage mine coded g))
+    ∥∥₁_map goes (λ g. subst (λ (c : CodedConnection). CodedGoes own talk c.channel c.stage) (sym e) (answer_goes own talk old.channel old.stage (in_first mine) coded refl g))
 
 -- ---- a record that is begun
 
@@ -295,7 +298,8 @@ begins_goes own talk old new stage runs (inr (inl is)) goes =
 begins_goes own talk old new stage runs (inr (inr (inl is))) goes =
     on own talk new stage old.key old.came.waiting old.phase goes.mine goes.key is.begun.key (ap (λ q. q.waiting) is.begun.came) is.phase (proof_begins goes.mine talk.wrote old new is goes.begins) goes.at
 begins_goes own talk old new stage runs (inr (inr (inr (inl is)))) goes = coded_begun own talk old new stage _ _ _ runs is.begun.hello is.begun goes
-begins_goes own talk old new stage runs (inr (inr (inr (inr is)))) goes = coded_begun own talk old new stage _ _ _ runs is.begun.hello is.begun goes
+begins_goes own talk old new stage runs (inr (inr (inr (inr (inl is))))) goes = coded_begun own talk old new stage _ _ _ runs is.begun.hello is.begun goes
+begins_goes own talk old new stage runs (inr (inr (inr (inr (inr is))))) goes = coded_begun own talk old new stage _ _ _ runs is.begun.hello is.begun goes
 
 channel_begins : (begins : BeginsEach) (own : Own) (talk : Talk) (c : Channel) (stage : Stage) → CodedGoes own talk c stage → CodedGoes own talk (begun_next c) stage
 channel_begins begins own talk c (stages.Closed fault) goes = tt
@@ -321,6 +325,7 @@ given_goes own talk c stage (Some (record_of.Frame frame)) goes =
     if_goes own talk (record c { out = record c.out { frame = and_frame c.out.frame frame } }) c stage (nat_le LEAST_FRAME (length frame.bytes.items)) (left_goes own talk c (record c.out { frame = and_frame c.out.frame frame }) stage refl refl refl goes) goes
 given_goes own talk c stage (Some (record_of.Hello hello)) goes = goes
 given_goes own talk c stage (Some (record_of.Proof proof)) goes = goes
+given_goes own talk c stage (Some (record_of.More more)) goes = goes
 
 abbrev GoesOf : Own → Talk → CodedConnection → Type 0
 GoesOf own talk c = CodedGoes own talk c.channel c.stage

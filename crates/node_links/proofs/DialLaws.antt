@@ -1,7 +1,7 @@
 -- When something is due of a connection that is dialled.
 use Rattle.std.proofs.Common.{◌≡◌, ℕ, ◌+◌, ◌-◌, ◌<◌, ◌≤◌, Bool, true, false, cond, leb, Some, refl, ap, subst, arith}
 use Rattle.std.proofs.lemmas.Bool.{leb-true, leb-false, le-leb, lt-leb}
-use Rattle.node_links.specs.declared.limits.TheConstants.{CONNECT, GREET, REDIAL}
+use Rattle.node_links.specs.declared.limits.TheConstants.{GREET, REDIAL}
 use Rattle.node_links.specs.declared.dial.Dial.TheVariants as dials
 use Rattle.node_links.specs.declared.dial.DialDue.{DialDue}
 use Rattle.node_links.specs.declared.dial.DialDue.TheVariants as dues
@@ -36,7 +36,7 @@ not_before since pause now wait early what ahead before e due is =
 
 pub waits_end : WaitsEnd
 waits_end (dials.Waits since pause) now wait shut ahead e = (due_then since pause now wait dues.Dial ahead e tt, λ early before is. not_before since pause now wait early dues.Dial ahead before e tt is)
-waits_end (dials.Dialled since) now wait shut ahead e = (due_then since CONNECT now wait dues.GiveUp ahead e tt, λ early before is. not_before since CONNECT now wait early dues.GiveUp ahead before e tt is)
+waits_end (dials.Dialled since most) now wait shut ahead e = (due_then since most now wait dues.GiveUp ahead e tt, λ early before is. not_before since most now wait early dues.GiveUp ahead before e tt is)
 waits_end (dials.Answered since at) now wait shut ahead e = (due_then at GREET now wait dues.GiveUp ahead e tt, λ early before is. not_before at GREET now wait early dues.GiveUp ahead before e tt is)
 waits_end (dials.Open since) now wait shut ahead e = absurd cc
 
@@ -52,7 +52,7 @@ apart_by at since later is e =
     subst (λ (m : ℕ). REDIAL ≤ later - m) same passed
 
 pub dials_are_apart : DialsAreApart
-dials_are_apart (dials.Dialled at) since ended later is e = apart_by at since later is e
+dials_are_apart (dials.Dialled at most) since ended later is e = apart_by at since later is e
 dials_are_apart (dials.Answered at answered) since ended later is e = apart_by at since later is e
 dials_are_apart (dials.Open at) since ended later is e = apart_by at since later is e
 dials_are_apart (dials.Waits at pause) since ended later is e = absurd cc

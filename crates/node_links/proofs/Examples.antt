@@ -4,6 +4,7 @@ use Rattle.peer_codes.specs.declared.fault.RecordFault.TheVariants.{BadHello}
 use Rattle.peer_codes.specs.declared.hello.Life.{Life}
 use Rattle.peer_codes.specs.declared.hello.Link.{Link}
 use Rattle.peer_codes.specs.declared.hello.Link.TheVariants.{Plain, Coded}
+use Rattle.peer_codes.specs.declared.version.Version.TheVariants.{First, Second}
 use Rattle.peer_codes.specs.declared.hello.Hello.{Hello}
 use Rattle.peer_codes.specs.declared.beat.Beat.{Beat}
 use Rattle.peer_codes.specs.declared.frame.Frame.{Frame}
@@ -27,7 +28,7 @@ use Rattle.node_links.specs.Steps.{closed, stepped, settled}
 use Rattle.node_links.specs.Waits.{Waits}
 use Rattle.node_links.specs.Waiting.{newest, has_next, next_of, rest_of}
 use Rattle.node_links.specs.Connections.{Next, begun_next}
-use Rattle.node_links.specs.Dialling.{due_of, answered_dial, opened_dial, ended_dial}
+use Rattle.node_links.specs.Dialling.{connect_wait, due_of, answered_dial, opened_dial, ended_dial}
 use Rattle.node_links.specs.Pausing.{pause_after}
 use Rattle.node_links.specs.Noting.{fault_place, is_told}
 use Rattle.node_links.specs.Pulses.{wait_of, beat_of, heard_at}
@@ -67,7 +68,7 @@ abbrev known : List Met
 known = met ∷ met ∷ met ∷ []
 
 abbrev hello_by : ℕ → ℕ → ℕ → ℕ → Option Life → Link → Hello
-hello_by from to nodes digest kept link = record { ends = record { from = from; to = to; nodes = nodes }; digest = record { bytes = replicate 32 digest }; life = life 5; kept = kept; promised = None; link = link }
+hello_by from to nodes digest kept link = record { version = First; ends = record { from = from; to = to; nodes = nodes }; digest = record { bytes = replicate 32 digest }; life = life 5; kept = kept; promised = None; link = link }
 
 abbrev hello : Hello
 hello = hello_by 1 0 3 9 None Plain
@@ -78,6 +79,10 @@ coded_hello = hello_by 1 0 5 8 None (Coded (record { bytes = replicate 32 8 }))
 -- of a connection with codes, and of another match of five nodes
 pub codes_before_all : judged own None known coded_hello ≡ Err (faults.Record BadHello)
 codes_before_all = refl
+
+-- of another version than the first
+pub second_version : judged own None known (record hello { version = Second }) ≡ Err (faults.Record BadHello)
+second_version = refl
 
 pub first_hello_taken : judged own None known hello ≡ Ok tt
 first_hello_taken = refl
@@ -226,31 +231,38 @@ hello_begun = refl
 pub dialled_at_once : due_of (dials.Waits 0 0) 0 ≡ dues.Dial
 dialled_at_once = refl
 
-pub given_up : due_of (dials.Dialled 1000) 501000 ≡ dues.GiveUp
+pub given_up : due_of (dials.Dialled 1000 500000) 501000 ≡ dues.GiveUp
 given_up = refl
 
-pub not_given_up_yet : due_of (dials.Dialled 1000) 500999 ≡ dues.Nothing 1
+pub not_given_up_yet : due_of (dials.Dialled 1000 500000) 500999 ≡ dues.Nothing 1
 not_given_up_yet = refl
 
+-- the second and the fourth that isn't answered
+pub short_dial : connect_wait 1 ≡ 500000
+short_dial = refl
+
+pub long_dial : connect_wait 3 ≡ 2000000
+long_dial = refl
+
 -- the dial was answered after 450 ms: its Hello has 2 s more
-pub hello_awaited : due_of (answered_dial (dials.Dialled 1000) 451000) 2450999 ≡ dues.Nothing 1
+pub hello_awaited : due_of (answered_dial (dials.Dialled 1000 500000) 451000) 2450999 ≡ dues.Nothing 1
 hello_awaited = refl
 
-pub hello_given_up : due_of (answered_dial (dials.Dialled 1000) 451000) 2451000 ≡ dues.GiveUp
+pub hello_given_up : due_of (answered_dial (dials.Dialled 1000 500000) 451000) 2451000 ≡ dues.GiveUp
 hello_given_up = refl
 
 -- refused at once by the system: 50 ms from dial to dial
-pub dialled_again : due_of (ended_dial (dials.Dialled 1000) 1200 None) 51000 ≡ dues.Dial
+pub dialled_again : due_of (ended_dial (dials.Dialled 1000 500000) 1200 None) 51000 ≡ dues.Dial
 dialled_again = refl
 
-pub not_dialled_yet : due_of (ended_dial (dials.Dialled 1000) 1200 None) 50999 ≡ dues.Nothing 1
+pub not_dialled_yet : due_of (ended_dial (dials.Dialled 1000 500000) 1200 None) 50999 ≡ dues.Nothing 1
 not_dialled_yet = refl
 
 -- one that was open for long is dialled at once
-pub dialled_when_it_ends : due_of (ended_dial (opened_dial (dials.Dialled 1000)) 9000000 None) 9000000 ≡ dues.Dial
+pub dialled_when_it_ends : due_of (ended_dial (opened_dial (dials.Dialled 1000 500000)) 9000000 None) 9000000 ≡ dues.Dial
 dialled_when_it_ends = refl
 
-pub pause_waited_for : due_of (ended_dial (dials.Dialled 1000) 2000 (Some 1000000)) 1001999 ≡ dues.Nothing 1
+pub pause_waited_for : due_of (ended_dial (dials.Dialled 1000 500000) 2000 (Some 1000000)) 1001999 ≡ dues.Nothing 1
 pause_waited_for = refl
 
 -- another match, once and again: a second, two, four, eight and no more

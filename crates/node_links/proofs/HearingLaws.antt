@@ -24,12 +24,14 @@ is_record (record_of.Frame frame) is = is
 is_record (record_of.Beat beat) is = is
 is_record (record_of.Hello hello) is = absurd is
 is_record (record_of.Proof proof) is = absurd is
+is_record (record_of.More more) is = absurd is
 
 stays_open : (other : Hello) (said : Record) → IsSaid said → (on_open other said).phase ≡ phases.Open other
 stays_open other (record_of.Frame frame) is = refl
 stays_open other (record_of.Beat beat) is = refl
 stays_open other (record_of.Hello hello) is = absurd is
 stays_open other (record_of.Proof proof) is = absurd is
+stays_open other (record_of.More more) is = absurd is
 
 -- what is read in front of a record's text is that record
 read_is : ToldApart → (bytes : List ℕ) (read : Result Record RecordFault) (left : List ℕ) (said : Record) (rest : List ℕ) → IsRecord said → bytes ≡ record_text said ++ rest → IsFront bytes read left

@@ -31,11 +31,13 @@ IsSound before (phases.Closed fault) = Unit {0}
 stepped_sound : (before : List Happening) (read : Result Record RecordFault) (phase : Phase) (said : Record) → read ≡ Ok said → IsSound before phase → IsSound (Came read ∷ before) (stepped phase said).phase
 stepped_sound before read phases.Greeting (record_of.Hello hello) is sound = inl is
 stepped_sound before read phases.Greeting (record_of.Proof proof) is sound = tt
+stepped_sound before read phases.Greeting (record_of.More more) is sound = tt
 stepped_sound before read phases.Greeting (record_of.Frame frame) is sound = tt
 stepped_sound before read phases.Greeting (record_of.Beat beat) is sound = tt
 stepped_sound before read (phases.Asked hello) said is sound = tt
 stepped_sound before read (phases.Open other) (record_of.Hello hello) is sound = tt
 stepped_sound before read (phases.Open other) (record_of.Proof proof) is sound = tt
+stepped_sound before read (phases.Open other) (record_of.More more) is sound = tt
 stepped_sound before read (phases.Open other) (record_of.Frame frame) is sound = inr sound
 stepped_sound before read (phases.Open other) (record_of.Beat beat) is sound = inr sound
 stepped_sound before read (phases.Closed fault) said is sound = tt
@@ -95,11 +97,13 @@ frame_is a b e = cc
 stepped_frame : (phase : Phase) (said : Record) (frame : Frame) → (stepped phase said).heard ≡ Ok (heards.Frame frame) → IsOfOpen phase (Ok said) frame
 stepped_frame phases.Greeting (record_of.Hello hello) frame e = absurd cc
 stepped_frame phases.Greeting (record_of.Proof proof) frame e = absurd cc
+stepped_frame phases.Greeting (record_of.More more) frame e = absurd cc
 stepped_frame phases.Greeting (record_of.Frame came) frame e = absurd cc
 stepped_frame phases.Greeting (record_of.Beat beat) frame e = absurd cc
 stepped_frame (phases.Asked hello) said frame e = absurd cc
 stepped_frame (phases.Open other) (record_of.Hello hello) frame e = absurd cc
 stepped_frame (phases.Open other) (record_of.Proof proof) frame e = absurd cc
+stepped_frame (phases.Open other) (record_of.More more) frame e = absurd cc
 stepped_frame (phases.Open other) (record_of.Frame came) frame e = (ap (λ (f : Frame). let r : Result Record RecordFault = Ok (record_of.Frame f) in r) (frame_is came frame e), (other, refl))
 stepped_frame (phases.Open other) (record_of.Beat beat) frame e = absurd cc
 stepped_frame (phases.Closed fault) said frame e = absurd cc
@@ -119,11 +123,13 @@ beat_is a b e = cc
 stepped_beat : (phase : Phase) (said : Record) (beat : Beat) → (stepped phase said).heard ≡ Ok (heards.Beat beat) → IsBeatOfOpen phase (Ok said) beat
 stepped_beat phases.Greeting (record_of.Hello hello) beat e = absurd cc
 stepped_beat phases.Greeting (record_of.Proof proof) beat e = absurd cc
+stepped_beat phases.Greeting (record_of.More more) beat e = absurd cc
 stepped_beat phases.Greeting (record_of.Frame frame) beat e = absurd cc
 stepped_beat phases.Greeting (record_of.Beat came) beat e = absurd cc
 stepped_beat (phases.Asked hello) said beat e = absurd cc
 stepped_beat (phases.Open other) (record_of.Hello hello) beat e = absurd cc
 stepped_beat (phases.Open other) (record_of.Proof proof) beat e = absurd cc
+stepped_beat (phases.Open other) (record_of.More more) beat e = absurd cc
 stepped_beat (phases.Open other) (record_of.Frame frame) beat e = absurd cc
 stepped_beat (phases.Open other) (record_of.Beat came) beat e = (ap (λ (b : Beat). let r : Result Record RecordFault = Ok (record_of.Beat b) in r) (beat_is came beat e), (other, refl))
 stepped_beat (phases.Closed fault) said beat e = absurd cc
@@ -145,11 +151,13 @@ stepped_hello phases.Greeting (record_of.Hello came) hello e =
     let same : came ≡ hello = hello_is came hello e in
     (ap (λ (h : Hello). let r : Result Record RecordFault = Ok (record_of.Hello h) in r) same, refl, ap (λ (h : Hello). phases.Asked h) same)
 stepped_hello phases.Greeting (record_of.Proof proof) hello e = absurd cc
+stepped_hello phases.Greeting (record_of.More more) hello e = absurd cc
 stepped_hello phases.Greeting (record_of.Frame frame) hello e = absurd cc
 stepped_hello phases.Greeting (record_of.Beat beat) hello e = absurd cc
 stepped_hello (phases.Asked other) said hello e = absurd cc
 stepped_hello (phases.Open other) (record_of.Hello came) hello e = absurd cc
 stepped_hello (phases.Open other) (record_of.Proof proof) hello e = absurd cc
+stepped_hello (phases.Open other) (record_of.More more) hello e = absurd cc
 stepped_hello (phases.Open other) (record_of.Frame frame) hello e = absurd cc
 stepped_hello (phases.Open other) (record_of.Beat beat) hello e = absurd cc
 stepped_hello (phases.Closed fault) said hello e = absurd cc

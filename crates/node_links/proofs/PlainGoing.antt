@@ -70,11 +70,13 @@ said_at own dialled came waiting rest hello r is text at = record {
 stepped_at : (own : Own) (dialled : Option ℕ) (came waiting rest : List ℕ) (phase : Phase) (said : Record) → IsRecord said → waiting ≡ record_text said ++ rest → PlainAt own dialled came waiting phase → PlainAt own dialled came rest (stepped phase said).phase
 stepped_at own dialled came waiting rest phases.Greeting (record_of.Hello hello) is text at = record { is = is; text = at ∙ text }
 stepped_at own dialled came waiting rest phases.Greeting (record_of.Proof proof) is text at = tt
+stepped_at own dialled came waiting rest phases.Greeting (record_of.More more) is text at = tt
 stepped_at own dialled came waiting rest phases.Greeting (record_of.Frame frame) is text at = tt
 stepped_at own dialled came waiting rest phases.Greeting (record_of.Beat beat) is text at = tt
 stepped_at own dialled came waiting rest (phases.Asked hello) said is text at = tt
 stepped_at own dialled came waiting rest (phases.Open other) (record_of.Hello hello) is text at = tt
 stepped_at own dialled came waiting rest (phases.Open other) (record_of.Proof proof) is text at = tt
+stepped_at own dialled came waiting rest (phases.Open other) (record_of.More more) is text at = tt
 stepped_at own dialled came waiting rest (phases.Open other) (record_of.Frame frame) is text at = said_at own dialled came waiting rest other (record_of.Frame frame) is text at
 stepped_at own dialled came waiting rest (phases.Open other) (record_of.Beat beat) is text at = said_at own dialled came waiting rest other (record_of.Beat beat) is text at
 stepped_at own dialled came waiting rest (phases.Closed fault) said is text at = tt
@@ -131,11 +133,13 @@ stepped_says : (own : Own) (dialled : Option ℕ) (came waiting rest : List ℕ)
     → Ok (heards.Frame frame) ≡ (stepped phase said).heard → peer_in (stepped phase said).phase ≡ Some from → SaysPlain own from frame dialled came
 stepped_says own dialled came waiting rest phases.Greeting (record_of.Hello hello) frame from is text at e peer = absurd cc
 stepped_says own dialled came waiting rest phases.Greeting (record_of.Proof proof) frame from is text at e peer = absurd cc
+stepped_says own dialled came waiting rest phases.Greeting (record_of.More more) frame from is text at e peer = absurd cc
 stepped_says own dialled came waiting rest phases.Greeting (record_of.Frame other) frame from is text at e peer = absurd cc
 stepped_says own dialled came waiting rest phases.Greeting (record_of.Beat beat) frame from is text at e peer = absurd cc
 stepped_says own dialled came waiting rest (phases.Asked hello) said frame from is text at e peer = absurd cc
 stepped_says own dialled came waiting rest (phases.Open other) (record_of.Hello hello) frame from is text at e peer = absurd cc
 stepped_says own dialled came waiting rest (phases.Open other) (record_of.Proof proof) frame from is text at e peer = absurd cc
+stepped_says own dialled came waiting rest (phases.Open other) (record_of.More more) frame from is text at e peer = absurd cc
 stepped_says own dialled came waiting rest (phases.Open other) (record_of.Frame found) frame from is text at e peer =
     frame_said own dialled came waiting rest other found frame from (frame_is found frame (sym e)) (from_of other.ends.from from peer) is text at
 stepped_says own dialled came waiting rest (phases.Open other) (record_of.Beat beat) frame from is text at e peer = absurd cc

@@ -1,6 +1,9 @@
 -- A connection with codes: what it hears next, how the Hello that came is judged, and what it writes next.
 use Rattle.std.specs.Prelude.{◌≡◌, ℕ, nat_le, ◌==◌, ◌&&◌, Bool, true, false, if◌then◌else◌, List, length, Option, Some, None, is_none, Result, Ok, Err}
 use Rattle.peer_codes.specs.declared.limits.TheConstants.{LEAST_FRAME}
+use Rattle.peer_codes.specs.declared.version.Version.{Version}
+use Rattle.peer_codes.specs.declared.version.Version.TheVariants.{First, Second}
+use Rattle.peer_codes.specs.declared.fault.RecordFault.TheVariants.{BadHello}
 use Rattle.peer_codes.specs.declared.connection_fault.ConnectionFault.{ConnectionFault}
 use Rattle.peer_codes.specs.declared.connection_fault.ConnectionFault.TheVariants as channel_faults
 use Rattle.peer_codes.specs.declared.event.Event.{Event}
@@ -38,12 +41,18 @@ peer_fault_of channel_faults.UnexpectedRecord = faults.UnexpectedRecord
 abbrev pub closed : PeerFault → CodedStep
 closed fault = record { stage = stages.Closed fault; heard = Err fault }
 
--- first of all comes a Hello, which is judged next
+-- one of the first version is judged next; here none speaks another
+abbrev pub greeted : Version → Hello → CodedStep
+greeted First hello = record { stage = stages.Asked hello; heard = Ok (heards.Hello hello) }
+greeted Second hello = closed (faults.Record BadHello)
+
+-- first of all comes a Hello
 abbrev pub on_greeting : Event → CodedStep
-on_greeting (events.Greeted hello) = record { stage = stages.Asked hello; heard = Ok (heards.Hello hello) }
+on_greeting (events.Greeted hello) = greeted hello.version hello
 on_greeting events.Opened = closed faults.UnexpectedRecord
 on_greeting (events.Frame frame) = closed faults.UnexpectedRecord
 on_greeting (events.Beat beat) = closed faults.UnexpectedRecord
+on_greeting (events.More more) = closed faults.UnexpectedRecord
 
 -- then the proof: what its Hello changes is judged next
 abbrev pub on_matched : Hello → Event → CodedStep
@@ -51,6 +60,7 @@ on_matched hello events.Opened = record { stage = stages.Proved hello; heard = O
 on_matched hello (events.Greeted other) = closed faults.UnexpectedRecord
 on_matched hello (events.Frame frame) = closed faults.UnexpectedRecord
 on_matched hello (events.Beat beat) = closed faults.UnexpectedRecord
+on_matched hello (events.More more) = closed faults.UnexpectedRecord
 
 -- and then frames and beats
 abbrev pub on_open : Hello → Event → CodedStep
@@ -58,6 +68,7 @@ on_open hello (events.Frame frame) = record { stage = stages.Open hello; heard =
 on_open hello (events.Beat beat) = record { stage = stages.Open hello; heard = Ok (heards.Beat beat) }
 on_open hello (events.Greeted other) = closed faults.UnexpectedRecord
 on_open hello events.Opened = closed faults.UnexpectedRecord
+on_open hello (events.More more) = closed faults.UnexpectedRecord
 
 abbrev pub on_event : Stage → Event → CodedStep
 on_event stages.Greeting event = on_greeting event
@@ -140,6 +151,10 @@ fault_at (stages.Open hello) = None
 
 -- ---- what is written
 
+-- the own Hello, in the version in which those that are taken came
+abbrev pub in_first : Hello → Hello
+in_first own = record own { version = First }
+
 abbrev pub and_frame : Option Frame → Frame → Option Frame
 and_frame None frame = Some frame
 and_frame (Some other) frame = Some other
@@ -151,6 +166,7 @@ given c (Some (record_of.Beat beat)) = record c { out = record c.out { beat = So
 given c (Some (record_of.Frame frame)) = if nat_le LEAST_FRAME (length frame.bytes.items) then record c { out = record c.out { frame = and_frame c.out.frame frame } } else c
 given c (Some (record_of.Hello hello)) = c
 given c (Some (record_of.Proof proof)) = c
+given c (Some (record_of.More more)) = c
 
 -- what waits next is coded now, and waits no longer
 abbrev pub begun_open : CodedConnection → Waits → CodedConnection × Waits

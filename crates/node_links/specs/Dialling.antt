@@ -1,6 +1,6 @@
 -- When a peer is dialled, and when a connection that isn't open is given up.
-use Rattle.std.specs.Prelude.{◌≡◌, ℕ, ◌+◌, ◌-◌, ◌<◌, ◌≤◌, nat_le, Bool, true, false, if◌then◌else◌, Option, Some, None}
-use Rattle.node_links.specs.declared.limits.TheConstants.{CONNECT, GREET, LOOK, REDIAL}
+use Rattle.std.specs.Prelude.{◌≡◌, ℕ, ◌+◌, ◌-◌, ◌%◌, ◌==◌, ◌<◌, ◌≤◌, nat_le, Bool, true, false, if◌then◌else◌, Option, Some, None}
+use Rattle.node_links.specs.declared.limits.TheConstants.{CONNECT, DIALS, GREET, LONG_CONNECT, LOOK, REDIAL}
 use Rattle.node_links.specs.declared.dial.Dial.{Dial}
 use Rattle.node_links.specs.declared.dial.Dial.TheVariants as dials
 use Rattle.node_links.specs.declared.dial.DialDue.{DialDue}
@@ -10,22 +10,26 @@ use Rattle.node_links.specs.declared.dial.DialDue.TheVariants as dues
 abbrev pub after_pause : ℕ → ℕ → ℕ → DialDue → DialDue
 after_pause since pause now what = if nat_le pause (now - since) then what else dues.Nothing (pause - (now - since))
 
+-- how long a dial waits for an answer: of four that aren't answered one for long
+abbrev pub connect_wait : ℕ → ℕ
+connect_wait unanswered = if unanswered % DIALS == DIALS - 1 then LONG_CONNECT else CONNECT
+
 abbrev pub due_of : Dial → ℕ → DialDue
 due_of (dials.Waits since pause) now = after_pause since pause now dues.Dial
-due_of (dials.Dialled since) now = after_pause since CONNECT now dues.GiveUp
+due_of (dials.Dialled since most) now = after_pause since most now dues.GiveUp
 due_of (dials.Answered since at) now = after_pause at GREET now dues.GiveUp
 due_of (dials.Open since) now = dues.Nothing LOOK
 
 -- the dial is answered, and the Hello is awaited from now on
 abbrev pub answered_dial : Dial → ℕ → Dial
-answered_dial (dials.Dialled since) now = dials.Answered since now
+answered_dial (dials.Dialled since most) now = dials.Answered since now
 answered_dial (dials.Waits since pause) now = dials.Waits since pause
 answered_dial (dials.Answered since at) now = dials.Answered since at
 answered_dial (dials.Open since) now = dials.Open since
 
 -- what was dialled is open
 abbrev pub opened_dial : Dial → Dial
-opened_dial (dials.Dialled since) = dials.Open since
+opened_dial (dials.Dialled since most) = dials.Open since
 opened_dial (dials.Answered since at) = dials.Open since
 opened_dial (dials.Waits since pause) = dials.Waits since pause
 opened_dial (dials.Open since) = dials.Open since
@@ -33,7 +37,7 @@ opened_dial (dials.Open since) = dials.Open since
 -- the next dial is so long after the last one
 abbrev pub redialled : Dial → Dial
 redialled (dials.Waits since pause) = dials.Waits since pause
-redialled (dials.Dialled since) = dials.Waits since REDIAL
+redialled (dials.Dialled since most) = dials.Waits since REDIAL
 redialled (dials.Answered since at) = dials.Waits since REDIAL
 redialled (dials.Open since) = dials.Waits since REDIAL
 
@@ -46,13 +50,13 @@ ended_dial d now (Some pause) = dials.Waits now pause
 abbrev pub since_of : Dial → ℕ
 since_of (dials.Answered since at) = at
 since_of (dials.Waits since pause) = since
-since_of (dials.Dialled since) = since
+since_of (dials.Dialled since most) = since
 since_of (dials.Open since) = since
 
 abbrev pub is_open : Dial → Bool
 is_open (dials.Open since) = true
 is_open (dials.Waits since pause) = false
-is_open (dials.Dialled since) = false
+is_open (dials.Dialled since most) = false
 is_open (dials.Answered since at) = false
 
 -- something is due
@@ -68,7 +72,7 @@ WaitsEnd = (d : Dial) (now wait : ℕ) → is_open d ≡ false → since_of d �
 
 -- when what is there was dialled
 abbrev pub dialled_in : Dial → Option ℕ
-dialled_in (dials.Dialled since) = Some since
+dialled_in (dials.Dialled since most) = Some since
 dialled_in (dials.Answered since at) = Some since
 dialled_in (dials.Open since) = Some since
 dialled_in (dials.Waits since pause) = None

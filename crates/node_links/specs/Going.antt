@@ -1,6 +1,7 @@
 -- What a connection goes by: how far it is, by all that came over it and was written to it.
 use Rattle.std.specs.Prelude.{◌≡◌, ◌⊎◌, ℕ, true, List, [], ◌++◌, take, Option, Some, None, Result, Ok, Err}
 use Rattle.peer_codes.specs.declared.hello.Hello.{Hello}
+use Rattle.peer_codes.specs.declared.version.Version.TheVariants.{First}
 use Rattle.peer_codes.specs.declared.hello.Link.{Link}
 use Rattle.peer_codes.specs.declared.key.Key.{Key}
 use Rattle.peer_codes.specs.declared.kind.Kind.TheVariants as kind_of
@@ -63,10 +64,11 @@ Begins None wrote out = (wrote ++ unwritten out ≡ []) × (out.hello ≡ None) 
 Begins (Some mine) wrote out =
     IsCoded mine × (((wrote ++ unwritten out ≡ []) × (out.hello ≡ Some mine)) ⊎ ((out.hello ≡ None) × ((more : List ℕ) × (wrote ++ unwritten out ≡ record_text (record_of.Hello mine) ++ more))))
 
--- the other's Hello came, and so much behind it isn't read yet
+-- the other's Hello came, of the first version, and so much behind it isn't read yet
 pub record Greeted (came waiting : List ℕ) (theirs : Hello) : Type 0 where
   pub hello : List ℕ
   pub is : IsHelloIn theirs hello
+  pub first : theirs.version ≡ First
   pub text : came ≡ hello ++ waiting
 
 -- who dialled has its own Hello from the beginning, and who was dialled has none yet

@@ -23,6 +23,7 @@ IsSaid (record_of.Frame frame) = IsRecord (record_of.Frame frame)
 IsSaid (record_of.Beat beat) = IsRecord (record_of.Beat beat)
 IsSaid (record_of.Hello hello) = ⊥
 IsSaid (record_of.Proof proof) = ⊥
+IsSaid (record_of.More more) = ⊥
 
 abbrev pub AreSaid : List Record → Type 0
 AreSaid [] = Unit {0}

@@ -1,6 +1,8 @@
 -- Which Hello is taken, and the first fault of one that isn't.
-use Rattle.std.specs.Prelude.{ℕ, ◌==◌, ◌&&◌, not, nat_lt, Bool, true, false, if◌then◌else◌, List, get_or, Option, Some, None, Result, Ok, Err}
+use Rattle.std.specs.Prelude.{◌≡◌, ℕ, ◌==◌, ◌&&◌, ◌||◌, not, nat_lt, Bool, true, false, if◌then◌else◌, List, get_or, Option, Some, None, Result, Ok, Err}
 use Rattle.std.specs.Str.{bytes_eq}
+use Rattle.peer_codes.specs.declared.version.Version.{Version}
+use Rattle.peer_codes.specs.declared.version.Version.TheVariants.{First, Second}
 use Rattle.peer_codes.specs.declared.hello.Ends.{Ends}
 use Rattle.peer_codes.specs.declared.hello.Life.{Life}
 use Rattle.peer_codes.specs.declared.hello.Link.{Link}
@@ -60,8 +62,18 @@ abbrev pub both : Result (Unit {0}) PeerFault → Result (Unit {0}) PeerFault �
 both (Err fault) next = Err fault
 both (Ok done) next = next
 
--- on a connection without codes both at once
+abbrev pub is_second : Version → Bool
+is_second First = false
+is_second Second = true
+
+-- on a connection without codes both at once; here none speaks another version than the first
 abbrev pub judged : Own → Option ℕ → List Met → Hello → Result (Unit {0}) PeerFault
 judged own dialled met hello =
-    if is_coded hello.link then Err (faults.Record BadHello)
+    if is_coded hello.link || is_second hello.version then Err (faults.Record BadHello)
     else both (judged_match own dialled hello) (judged_known own met hello)
+
+-- where a Hello is taken and none was before, it was judged by this that is known of the other nodes
+abbrev pub IsKnown : Own → List Met → Option Hello → Option Hello → Type 0
+IsKnown own met None (Some hello) = judged_known own met hello ≡ Ok tt
+IsKnown own met None None = Unit {0}
+IsKnown own met (Some earlier) taken = Unit {0}

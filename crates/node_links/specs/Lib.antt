@@ -1,4 +1,7 @@
 pub mod Lines
+pub mod Frames
+pub mod Arriving
+pub mod Fronts
 pub mod Judging
 pub mod Steps
 pub mod Outgoings

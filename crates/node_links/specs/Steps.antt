@@ -1,6 +1,7 @@
 -- What a record does to a connection, and how its Hello is judged.
 use Rattle.std.specs.Prelude.{ℕ, List, Option, Result, Ok, Err}
 use Rattle.peer_codes.specs.declared.fault.RecordFault.{RecordFault}
+use Rattle.peer_codes.specs.declared.fault.RecordFault.TheVariants.{BadKind}
 use Rattle.peer_codes.specs.declared.hello.Hello.{Hello}
 use Rattle.peer_codes.specs.declared.records.Record.{Record}
 use Rattle.peer_codes.specs.declared.records.Record.TheVariants as record_of
@@ -28,6 +29,7 @@ on_greeting (record_of.Hello hello) = greeted hello
 on_greeting (record_of.Proof proof) = closed faults.UnexpectedRecord
 on_greeting (record_of.Frame frame) = closed faults.UnexpectedRecord
 on_greeting (record_of.Beat beat) = closed faults.UnexpectedRecord
+on_greeting (record_of.More more) = closed (faults.Record BadKind)
 
 -- and then frames and beats
 abbrev pub on_open : Hello → Record → Step
@@ -35,6 +37,7 @@ on_open other (record_of.Frame frame) = record { phase = phases.Open other; hear
 on_open other (record_of.Beat beat) = record { phase = phases.Open other; heard = Ok (heards.Beat beat) }
 on_open other (record_of.Hello hello) = closed faults.UnexpectedRecord
 on_open other (record_of.Proof proof) = closed faults.UnexpectedRecord
+on_open other (record_of.More more) = closed (faults.Record BadKind)
 
 -- what a record does
 abbrev pub stepped : Phase → Record → Step

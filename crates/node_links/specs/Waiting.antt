@@ -1,5 +1,5 @@
 -- What waits for a peer, what of it stays, and what goes next.
-use Rattle.std.specs.Prelude.{◌≡◌, ℕ, ◌-◌, ◌==◌, ◌||◌, not, Bool, if◌then◌else◌, List, [], ◌∷◌, ◌++◌, length, drop, Option, Some, None, is_some}
+use Rattle.std.specs.Prelude.{◌≡◌, ◌⊎◌, ℕ, ◌-◌, ◌==◌, ◌||◌, not, Bool, if◌then◌else◌, List, [], ◌∷◌, ◌++◌, length, drop, Option, Some, None, is_some}
 use Rattle.peer_codes.specs.declared.beat.Beat.{Beat}
 use Rattle.peer_codes.specs.declared.frame.Frame.{Frame}
 use Rattle.peer_codes.specs.declared.records.Record.{Record}
@@ -17,6 +17,10 @@ Puts frame most old there new = new ≡ record old { frames = newest (most - 1) 
 -- something waits
 abbrev pub has_next : Waits → Bool
 has_next w = is_some w.beat || not (length w.frames == 0)
+
+abbrev pub first_of : List Frame → Option Frame
+first_of [] = None
+first_of (frame ∷ more) = Some frame
 
 abbrev pub first_frame : List Frame → Option Record
 first_frame [] = None
@@ -37,3 +41,7 @@ next_of w = next_by w.beat w.frames
 -- what waits behind it
 abbrev pub rest_of : Waits → Waits
 rest_of w = rest_by w.beat w.frames
+
+-- what waits once a record could be begun: all that did, or what waits behind the next
+abbrev pub IsBegun : Waits → Waits → Type 0
+IsBegun old new = (new ≡ old) ⊎ (new ≡ rest_of old)

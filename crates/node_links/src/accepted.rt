@@ -1,13 +1,14 @@
 //! The last Accepted that went to a peer, which is sent again while the peer is behind.
 
-ghost use Rattle.std.specs.Prelude.{◌≡◌, None};
+ghost use Rattle.std.specs.Prelude.{◌≡◌, ◌≤◌, [], None, Some, length, option_map};
+ghost use Rattle.node_links.specs.Frames.{frame_of};
 ghost use Rattle.node_links.specs.Repeating.{accepted_slot, ends_block, kept_after, slot_in, is_due, copy_of};
 
+use crate::frames::{copy_into, empty};
 use crate::limits::{BLOCK, REPEAT};
-use arrayvec::ArrayVec;
 use byteorder::{BigEndian, ByteOrder};
-use paxos_wire::push_all;
 use peer_codes::Frame;
+use peer_codes::limits::MOST_FRAME;
 
 /// The byte that tells an Accepted among frames.
 const ACCEPTED: u8 = 5;
@@ -52,13 +53,28 @@ pub fn ends_block(frame: &[u8]) -> bool
     BigEndian::read_u32(&frame[6..]) % BLOCK == BLOCK - 1
 }
 
-/// The same frame once more.
-pub(crate) fn copied(frame: &Frame) -> Frame
-    ensures { result ≡ frame.now }
+/// Makes room for an Accepted, where none went yet.
+fn make_room(last: &mut Option<LastAccepted>)
+    ensures { last.new ≡ Some (record { frame = frame_of []; slot = 0 }) }
 {
-    let mut bytes = ArrayVec::new();
-    push_all(&mut bytes, frame.bytes.as_slice());
-    Frame { bytes }
+    *last = Some(LastAccepted {
+        frame: empty(),
+        slot: 0,
+    });
+}
+
+/// This Accepted went last, and stands in place of the one before it.
+fn put_in(last: &mut Option<LastAccepted>, frame: &[u8], slot: u32)
+    requires { length frame.now ≤ MOST_FRAME }
+    ensures { last.new ≡ Some (record { frame = frame_of frame.now; slot = slot }) }
+{
+    if last.is_none() {
+        make_room(last);
+    }
+    if let Some(kept) = last {
+        copy_into(&mut kept.frame, frame);
+        kept.slot = slot;
+    }
 }
 
 impl Accepted {
@@ -72,17 +88,15 @@ impl Accepted {
         }
     }
 
-    /// A frame goes to the peer now: it is kept if it is an Accepted.
-    pub fn keep(&mut self, frame: &Frame, now: u64)
-        ensures { self.new ≡ kept_after (accepted_slot frame.now.bytes.items) frame.now now self.old }
+    /// A frame of these bytes goes to the peer now: it is kept if it is an Accepted.
+    pub fn keep(&mut self, frame: &[u8], now: u64)
+        requires { length frame.now ≤ MOST_FRAME }
+        ensures { self.new ≡ kept_after (accepted_slot frame.now) (frame_of frame.now) now self.old }
     {
-        let Some(slot) = accepted_slot(frame.bytes.as_slice()) else {
+        let Some(slot) = accepted_slot(frame) else {
             return;
         };
-        self.last = Some(LastAccepted {
-            frame: copied(frame),
-            slot,
-        });
+        put_in(&mut self.last, frame, slot);
         self.sent = now;
     }
 
@@ -103,14 +117,19 @@ impl Accepted {
         self.last.is_some() && REPEAT <= now.saturating_sub(self.sent)
     }
 
-    /// The last that went, which goes again now.
-    pub fn again(&mut self, now: u64) -> Option<Frame>
-        ensures frame { result ≡ copy_of self.old.last }
-        ensures sent { self.new ≡ record self.old { sent = now } }
+    /// The last that went goes again now.
+    pub fn go_again(&mut self, now: u64)
+        ensures { self.new ≡ record self.old { sent = now } }
     {
         self.sent = now;
+    }
+
+    /// The frame of the last that went.
+    pub fn frame(&self) -> Option<&Frame>
+        ensures { option_map (λ frame. frame.now) result ≡ copy_of self.now.last }
+    {
         match &self.last {
-            Some(last) => Some(copied(&last.frame)),
+            Some(last) => Some(&last.frame),
             None => None,
         }
     }

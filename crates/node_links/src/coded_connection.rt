@@ -6,7 +6,7 @@ ghost use Rattle.peer_codes.specs.Steps.{is_coded};
 ghost use Rattle.node_links.specs.declared.stage.Stage.TheVariants as stages;
 ghost use Rattle.node_links.specs.Going.{taken_at};
 ghost use Rattle.node_links.specs.Waiting.{next_of, rest_of};
-ghost use Rattle.node_links.specs.Coding.{HearsOrWaits, HearsProof, NextCoded, has_said_hello, settled_stage, peer_at, fault_at, given, begun_open, begun_by, begun_coded};
+ghost use Rattle.node_links.specs.Coding.{HearsOrWaits, HearsProof, NextCoded, has_said_hello, settled_stage, peer_at, fault_at, in_first, given, begun_open, begun_by, begun_coded};
 ghost use Rattle.peer_codes.specs.declared.records.Record.TheVariants as record_of;
 
 use crate::coded_step::{CodedStep, coded_step, settled_stage};
@@ -16,7 +16,7 @@ use crate::own::{Met, Own};
 use crate::peer_fault::PeerFault;
 use crate::stage::Stage;
 use peer_codes::limits::LEAST_FRAME;
-use peer_codes::{Connection as Channel, Frame, Hello, Key, Record};
+use peer_codes::{Connection as Channel, Frame, Hello, Key, Record, Version};
 use std::alloc::{AllocError, Global};
 
 /// A connection between two nodes with codes, as a machine without sockets: a channel of `peer_codes`, and how the other's
@@ -39,7 +39,7 @@ impl CodedConnection {
         ensures phase { result.channel.phase ≡ phases.Greeting (Some own) }
         ensures key { result.channel.key ≡ key }
         ensures came { result.channel.came.waiting ≡ [] }
-        ensures out { result.channel.out ≡ record { hello = Some own; proof = None; beat = None; frame = None; begun = record { items = [] }; written = 0 } }
+        ensures out { result.channel.out ≡ record { hello = Some own; proof = None; beat = None; more = None; frame = None; begun = record { items = [] }; written = 0 } }
     {
         CodedConnection {
             channel: Channel::call(alloc, key, own),
@@ -53,7 +53,7 @@ impl CodedConnection {
         ensures phase { result.channel.phase ≡ phases.Greeting None }
         ensures key { result.channel.key ≡ key }
         ensures came { result.channel.came.waiting ≡ [] }
-        ensures out { result.channel.out ≡ record { hello = None; proof = None; beat = None; frame = None; begun = record { items = [] }; written = 0 } }
+        ensures out { result.channel.out ≡ record { hello = None; proof = None; beat = None; more = None; frame = None; begun = record { items = [] }; written = 0 } }
     {
         CodedConnection {
             channel: Channel::listen(alloc, key),
@@ -110,13 +110,16 @@ impl CodedConnection {
         }
     }
 
-    /// This side's own Hello and its proof are to be written next, where it was dialled and a Hello came, also one that it
-    /// refused; its nonce is to be new. Else nothing happens.
+    /// This side's own Hello, in the first version, and its proof are to be written next, where it was dialled and a Hello
+    /// came, also one that it refused; its nonce is to be new. Else nothing happens.
     pub fn answer(&mut self, own: Hello)
         requires { is_coded own.link ≡ true }
-        ensures { self.new ≡ record self.old { channel = answered self.old.channel.phase own self.old.channel } }
+        ensures { self.new ≡ record self.old { channel = answered self.old.channel.phase (in_first own) self.old.channel } }
     {
-        self.channel.answer(own);
+        self.channel.answer(Hello {
+            version: Version::First,
+            ..own
+        });
     }
 
     /// Judges what waits to be judged: what the Hello says of the match, or once the proof is right what it changes.
@@ -187,6 +190,7 @@ impl CodedConnection {
             Some(Record::Frame(frame)) => self.give_frame(frame),
             Some(Record::Hello(_)) => (),
             Some(Record::Proof(_)) => (),
+            Some(Record::More(_)) => (),
             None => (),
         }
     }

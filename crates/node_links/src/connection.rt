@@ -2,15 +2,19 @@ ghost use Rattle.std.specs.Prelude.{◌≡◌, ◌≤◌, ◌++◌, List, ℕ, l
 ghost use Rattle.node_links.specs.declared.own.Own as owns;
 ghost use Rattle.node_links.specs.declared.connection.Connection.TheVariants.{Coded};
 ghost use Rattle.node_links.specs.Talks.{Talk};
+ghost use Rattle.node_links.specs.Judging.{IsKnown};
+ghost use Rattle.node_links.specs.Waiting.{IsBegun};
+ghost use Rattle.node_links.specs.Arriving.{told};
+ghost use Rattle.node_links.specs.Coding.{NextCoded};
 ghost use Rattle.node_links.specs.Going.{Goes, GoesOn, GoesOnWith, GoesOnWritten, IsOfKey, TellsFrame, OpensAs, silence, unwritten_of, peer_of, taken_of, fault_of};
 
+use crate::arrived::{Arrived, lend};
 use crate::coded_connection::CodedConnection;
-use crate::heard::Heard;
 use crate::outbox::Outbox;
 use crate::own::{Met, Own};
 use crate::peer_fault::PeerFault;
 use crate::plain_connection::PlainConnection;
-use peer_codes::{Hello, Key, Link, calls_happen, events_stand_in_front};
+use peer_codes::{Frame, Hello, Key, Link, calls_happen, events_stand_in_front};
 use std::alloc::{AllocError, Global};
 
 /// A connection between two nodes, as a machine without sockets, with codes where the node has a key.
@@ -38,6 +42,13 @@ fn answer_coded(coded: &mut CodedConnection, own: Hello)
         Link::Plain => (),
         Link::Coded(_) => coded.answer(own),
     }
+}
+
+/// What came next over a connection with codes, of which a frame goes into the buffer.
+fn next_coded(coded: &mut CodedConnection, frame: &mut Frame) -> Option<Result<Arrived, PeerFault>>
+    ensures { NextCoded coded.old.stage coded.old (told result frame.new) coded.new }
+{
+    lend(coded.next(), frame)
 }
 
 impl Connection {
@@ -74,21 +85,22 @@ impl Connection {
         }
     }
 
-    /// What came next, or the fault that closed the connection, told again from then on.
+    /// What came next, or the fault that closed the connection, told again from then on. A frame goes into the buffer, in
+    /// place of what that had.
     ///
     /// `None` where the record in front isn't whole, and while something waits to be judged or answered. A frame came from the
     /// node at the other end: without codes behind its Hello; with them as the next coded record of its way, behind both
     /// Hellos and its proof.
-    pub fn next(&mut self) -> Option<Result<Heard, PeerFault>>
+    pub fn next(&mut self, frame: &mut Frame) -> Option<Result<Arrived, PeerFault>>
         ensures goes { GoesOn self.old self.new }
-        ensures frame { TellsFrame result self.old self.new }
+        ensures frame { TellsFrame (told result frame.new) self.old self.new }
     {
         match self {
-            Connection::Plain(plain) => plain.next(),
+            Connection::Plain(plain) => plain.next(frame),
             Connection::Coded(coded) => {
                 events_stand_in_front();
                 calls_happen();
-                coded.next()
+                next_coded(coded, frame)
             }
         }
     }
@@ -107,7 +119,8 @@ impl Connection {
     /// Judges what waits to be judged, of the node that was dialled or of one who dialled. Without codes that is the whole
     /// Hello; with them what it says of the match first, and what changes by it once the other's proof is right.
     pub fn settle(&mut self, own: &Own, dialled: Option<u8>, met: &[Met])
-        ensures { (talk : Talk) → talk.dialled ≡ dialled → Goes own.now talk self.old → Goes own.now talk self.new }
+        ensures known { IsKnown own.now met.now (taken_of self.old) (taken_of self.new) }
+        ensures goes { (talk : Talk) → talk.dialled ≡ dialled → Goes own.now talk self.old → Goes own.now talk self.new }
     {
         match self {
             Connection::Plain(plain) => plain.settle(own, dialled, met),
@@ -150,7 +163,8 @@ impl Connection {
     /// Begins the next record, where none is unfinished: this side's own Hello, with codes its proof, and where the connection
     /// is open what waits, the beat first.
     pub fn begin(&mut self, waiting: &mut Outbox)
-        ensures { GoesOn self.old self.new }
+        ensures goes { GoesOn self.old self.new }
+        ensures waiting { IsBegun waiting.old waiting.new }
     {
         match self {
             Connection::Plain(plain) => plain.begin(waiting),

@@ -1,8 +1,8 @@
 ghost use Rattle.std.specs.Prelude.{◌≡◌};
 ghost use Rattle.node_links.specs.declared.dial.Dial.TheVariants as dials;
-ghost use Rattle.node_links.specs.Dialling.{due_of, answered_dial, opened_dial, ended_dial};
+ghost use Rattle.node_links.specs.Dialling.{connect_wait, due_of, answered_dial, opened_dial, ended_dial};
 
-use crate::limits::{CONNECT, GREET, LOOK, REDIAL};
+use crate::limits::{CONNECT, DIALS, GREET, LONG_CONNECT, LOOK, REDIAL};
 
 /// How far the connection to a peer is that this process dials. Moments are whole microseconds since one that stays the
 /// same; one that lies ahead counts as the present.
@@ -10,8 +10,8 @@ use crate::limits::{CONNECT, GREET, LOOK, REDIAL};
 pub enum Dial {
     /// There is none. The peer is dialled once so long has passed since then.
     Waits { since: u64, pause: u64 },
-    /// It was dialled then, and that isn't answered yet.
-    Dialled { since: u64 },
+    /// It was dialled then, and that isn't answered yet; after `most` it is given up.
+    Dialled { since: u64, most: u64 },
     /// It was dialled then, and that was answered at `at`: its Hello is awaited.
     Answered { since: u64, at: u64 },
     /// It was dialled then, and is open.
@@ -27,6 +27,17 @@ pub enum DialDue {
     GiveUp,
     /// Nothing, for so long.
     Nothing { wait: u64 },
+}
+
+/// How long a dial of a peer waits for an answer behind so many that weren't answered, in whole microseconds.
+pub fn connect_wait(unanswered: u8) -> u64
+    ensures { result ≡ connect_wait unanswered }
+{
+    if unanswered % DIALS == DIALS - 1 {
+        LONG_CONNECT
+    } else {
+        CONNECT
+    }
 }
 
 impl Dial {
@@ -52,13 +63,13 @@ impl Dial {
                     }
                 }
             }
-            Dial::Dialled { since } => {
+            Dial::Dialled { since, most } => {
                 let passed = now.saturating_sub(since);
-                if CONNECT <= passed {
+                if most <= passed {
                     DialDue::GiveUp
                 } else {
                     DialDue::Nothing {
-                        wait: CONNECT - passed,
+                        wait: most - passed,
                     }
                 }
             }
@@ -81,7 +92,7 @@ impl Dial {
         ensures { result ≡ answered_dial self now }
     {
         match self {
-            Dial::Dialled { since } => Dial::Answered { since, at: now },
+            Dial::Dialled { since, most: _ } => Dial::Answered { since, at: now },
             Dial::Waits { since, pause } => Dial::Waits { since, pause },
             Dial::Answered { since, at } => Dial::Answered { since, at },
             Dial::Open { since } => Dial::Open { since },
@@ -93,7 +104,7 @@ impl Dial {
         ensures { result ≡ opened_dial self }
     {
         match self {
-            Dial::Dialled { since } => Dial::Open { since },
+            Dial::Dialled { since, most: _ } => Dial::Open { since },
             Dial::Answered { since, at: _ } => Dial::Open { since },
             Dial::Waits { since, pause } => Dial::Waits { since, pause },
             Dial::Open { since } => Dial::Open { since },
@@ -110,7 +121,7 @@ impl Dial {
         }
         match self {
             Dial::Waits { since, pause } => Dial::Waits { since, pause },
-            Dial::Dialled { since } => Dial::Waits {
+            Dial::Dialled { since, most: _ } => Dial::Waits {
                 since,
                 pause: REDIAL,
             },

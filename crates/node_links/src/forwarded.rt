@@ -1,11 +1,13 @@
 //! The last act that went on to a peer, which goes again while the front stands.
 
-ghost use Rattle.std.specs.Prelude.{◌≡◌, None};
+ghost use Rattle.std.specs.Prelude.{◌≡◌, ◌≤◌, [], None, Some, length, option_map};
+ghost use Rattle.node_links.specs.Frames.{frame_of};
 ghost use Rattle.node_links.specs.Forwarding.{is_forward, forwarded_after, again_in};
 
-use crate::accepted::copied;
+use crate::frames::{copy_into, empty};
 use crate::limits::{FORWARD_AGAIN, LOOK};
 use peer_codes::Frame;
+use peer_codes::limits::MOST_FRAME;
 
 /// The byte that tells a Forward among frames.
 const FORWARD: u8 = 8;
@@ -28,6 +30,26 @@ fn is_forward(frame: &[u8]) -> bool
     frame.len() >= 6 && frame[5] == FORWARD
 }
 
+/// Makes room for a Forward, where none is kept.
+fn make_room(last: &mut Option<Frame>)
+    ensures { last.new ≡ Some (frame_of []) }
+{
+    *last = Some(empty());
+}
+
+/// This Forward went last, and stands in place of the one before it.
+fn put_in(last: &mut Option<Frame>, frame: &[u8])
+    requires { length frame.now ≤ MOST_FRAME }
+    ensures { last.new ≡ Some (frame_of frame.now) }
+{
+    if last.is_none() {
+        make_room(last);
+    }
+    if let Some(kept) = last {
+        copy_into(kept, frame);
+    }
+}
+
 impl Forwarded {
     /// None went.
     pub fn new() -> Forwarded
@@ -39,14 +61,15 @@ impl Forwarded {
         }
     }
 
-    /// A frame goes to the peer now: it is kept if it is a Forward.
-    pub fn keep(&mut self, frame: &Frame, now: u64)
-        ensures { self.new ≡ forwarded_after (is_forward frame.now.bytes.items) frame.now now self.old }
+    /// A frame of these bytes goes to the peer now: it is kept if it is a Forward.
+    pub fn keep(&mut self, frame: &[u8], now: u64)
+        requires { length frame.now ≤ MOST_FRAME }
+        ensures { self.new ≡ forwarded_after (is_forward frame.now) (frame_of frame.now) now self.old }
     {
-        if !is_forward(frame.bytes.as_slice()) {
+        if !is_forward(frame) {
             return;
         }
-        self.last = Some(copied(frame));
+        put_in(&mut self.last, frame);
         self.sent = now;
     }
 
@@ -54,7 +77,10 @@ impl Forwarded {
     pub fn forget(&mut self)
         ensures { self.new ≡ record self.old { last = None } }
     {
-        self.last = None;
+        // What is none is written over whole.
+        if self.last.is_some() {
+            self.last = None;
+        }
     }
 
     /// How long it is until it goes again; 0 where it does.
@@ -68,13 +94,18 @@ impl Forwarded {
     }
 
     /// It goes again now.
-    pub fn again(&mut self, now: u64) -> Option<Frame>
-        ensures frame { result ≡ self.old.last }
-        ensures sent { self.new ≡ record self.old { sent = now } }
+    pub fn go_again(&mut self, now: u64)
+        ensures { self.new ≡ record self.old { sent = now } }
     {
         self.sent = now;
+    }
+
+    /// Its frame.
+    pub fn frame(&self) -> Option<&Frame>
+        ensures { option_map (λ frame. frame.now) result ≡ self.now.last }
+    {
         match &self.last {
-            Some(frame) => Some(copied(frame)),
+            Some(frame) => Some(frame),
             None => None,
         }
     }

@@ -2,16 +2,26 @@
 
 ghost use Rattle.std.specs.Prelude.{◌≡◌};
 ghost use Rattle.std.specs.Str.{bytes_eq};
-ghost use Rattle.node_links.specs.Judging.{is_coded, is_awaited, is_other, met_at, judged_node, judged_match, judged_known, judged};
+ghost use Rattle.node_links.specs.Judging.{is_coded, is_second, is_awaited, is_other, met_at, judged_node, judged_match, judged_known, judged};
 
 use crate::own::{Met, Own};
 use crate::peer_fault::{Mismatch, PeerFault, Whose};
-use peer_codes::{Ends, Hello, Life, Link, RecordFault};
+use peer_codes::{Ends, Hello, Life, Link, RecordFault, Version};
 
 fn is_same(bytes: &[u8], others: &[u8]) -> bool
     ensures { result ≡ bytes_eq bytes.now others.now }
 {
     bytes == others
+}
+
+/// Whether a Hello is of the second version.
+fn is_second(version: Version) -> bool
+    ensures { result ≡ is_second version }
+{
+    match version {
+        Version::First => false,
+        Version::Second => true,
+    }
 }
 
 /// Whether a Hello is one of a connection with codes.
@@ -104,12 +114,12 @@ pub(crate) fn judge_known(own: &Own, met: &[Met], hello: &Hello) -> Result<(), P
 /// Judges the Hello of a connection without codes, where this node dialled that one, or else was dialled; of each node
 /// stands in its place what is known of it.
 ///
-/// The fault is the first of: 122 `BadHello` (of a connection with codes), 123 `OtherMatch` (the digest, the count of nodes,
+/// The fault is the first of: 122 `BadHello` (of a connection with codes, or of the second version), 123 `OtherMatch` (the digest, the count of nodes,
 /// then the numbers), 128 `AlreadyHere`, 127 `StoreReplaced` (this node's own store, then the other's).
 pub fn judge(own: &Own, dialled: Option<u8>, met: &[Met], hello: &Hello) -> Result<(), PeerFault>
     ensures { result ≡ judged own.now dialled met.now hello.now }
 {
-    if is_coded(hello.link) {
+    if is_coded(hello.link) || is_second(hello.version) {
         return Err(PeerFault::Record(RecordFault::BadHello));
     }
     match judge_match(own, dialled, hello) {

@@ -25,14 +25,18 @@
 #![tactic(auto)]
 
 mod accepted;
+mod arrived;
 mod asked;
 mod coded_connection;
 mod coded_step;
 mod connection;
 mod dial;
 mod forwarded;
+mod frames;
+mod front;
 mod heard;
 mod judging;
+mod kept_frame;
 pub mod laws;
 pub mod limits;
 mod notes;
@@ -50,13 +54,15 @@ mod stage;
 mod step;
 
 pub use accepted::{Accepted, LastAccepted, ends_block};
+pub use arrived::Arrived;
 pub use asked::{Asked, LastAsk};
 pub use coded_connection::CodedConnection;
 pub use connection::Connection;
-pub use dial::{Dial, DialDue};
+pub use dial::{Dial, DialDue, connect_wait};
 pub use forwarded::Forwarded;
 pub use heard::Heard;
 pub use judging::judge;
+pub use kept_frame::KeptFrame;
 pub use notes::Notes;
 pub use outbox::Outbox;
 pub use outgoing::Outgoing;

@@ -6,8 +6,14 @@ pub const NODES: usize = peer_codes::limits::NODES as usize;
 /// A beat is told so long after the one before it.
 pub const BEAT: u64 = 50_000;
 
-/// A dial that isn't answered after so long is given up.
+/// A dial that isn't answered after so long is given up,
 pub const CONNECT: u64 = 500_000;
+
+/// but of so many dials of a peer that aren't answered one after so long: over slow ways none is answered sooner, and a peer
+/// that is back is found sooner by short ones.
+pub const DIALS: u8 = 4;
+
+pub const LONG_CONNECT: u64 = 2_000_000;
 
 /// A connection whose dial was answered and over which no Hello comes for so long is given up.
 pub const GREET: u64 = 2_000_000;

@@ -1,11 +1,16 @@
 //! What is written on a connection.
 
 ghost use Rattle.std.specs.Prelude.{◌≡◌, ◌≤◌, [], length, drop};
+ghost use Rattle.peer_codes.specs.declared.records.Record.TheVariants as record_of;
+ghost use Rattle.peer_codes.specs.Spelling.{record_text};
+ghost use Rattle.node_links.specs.Frames.{frame_of};
 ghost use Rattle.node_links.specs.Outgoings.{unwritten, with_begun};
 
 use arrayvec::ArrayVec;
-use peer_codes::Hello;
-use peer_codes::limits::MOST_RECORD;
+use byteorder::{BigEndian, ByteOrder};
+use paxos_wire::push_all;
+use peer_codes::limits::{LENGTH_BYTES, MOST_FRAME, MOST_RECORD};
+use peer_codes::{Hello, Kind};
 
 /// What is written on a connection: this side's own Hello, as long as it waits, and the record that was begun.
 #[derive(Drop)]
@@ -60,6 +65,21 @@ impl Outgoing {
         ensures { self.new ≡ with_begun text.items self.old }
     {
         self.begun = text;
+        self.written = 0;
+    }
+
+    /// The record of a frame of these bytes is begun, written where the one before it stood.
+    #[tactic(auto, unfolding(peer_codes::specs::Spelling::enveloped))]
+    pub(crate) fn start_frame(&mut self, frame: &[u8])
+        requires { length frame.now ≤ MOST_FRAME }
+        ensures { self.new ≡ with_begun (record_text (record_of.Frame (frame_of frame.now))) self.old }
+    {
+        let mut length = [0; LENGTH_BYTES];
+        BigEndian::write_u32(&mut length, (frame.len() + 1) as u32);
+        self.begun.clear();
+        push_all(&mut self.begun, &length);
+        self.begun.push(Kind::Frame.byte());
+        push_all(&mut self.begun, frame);
         self.written = 0;
     }
 }

@@ -1,12 +1,19 @@
-ghost use Rattle.std.specs.Prelude.{◌≡◌, ◌≤◌, ◌<◌, ◌++◌, [], length, drop, Some, None, OnOk, OnErr};
+ghost use Rattle.std.specs.Prelude.{◌≡◌, ◌≤◌, ◌<◌, ◌++◌, [], length, drop, take, Some, None, OnOk, OnErr};
 ghost use Rattle.peer_codes.specs.declared.records.Record.TheVariants as record_of;
 ghost use Rattle.peer_codes.specs.Spelling.{record_text};
 ghost use Rattle.node_links.specs.declared.phase.Phase.TheVariants as phases;
+ghost use Rattle.node_links.specs.Arriving.{told};
+ghost use Rattle.node_links.specs.Fronts.{HasFrame};
 ghost use Rattle.node_links.specs.Outgoings.{unwritten, with_begun};
 ghost use Rattle.node_links.specs.Steps.{settled};
 ghost use Rattle.node_links.specs.Going.{taken_in};
-ghost use Rattle.node_links.specs.Connections.{ReadsOrWaits, Next, begun_open, begun_first, begun_next, peer_in, fault_in};
+ghost use Rattle.node_links.specs.Frames.{frame_of};
+ghost use Rattle.node_links.specs.Waiting.{first_frame};
+ghost use Rattle.node_links.specs.Connections.{ReadsOrWaits, Next, said_next, begun_open, begun_first, begun_next, peer_in, fault_in};
 
+use crate::arrived::{Arrived, lend};
+use crate::frames::copy_into;
+use crate::front::{CONTENT_AT, Front, front_of};
 use crate::heard::Heard;
 use crate::outbox::Outbox;
 use crate::outgoing::Outgoing;
@@ -15,7 +22,7 @@ use crate::peer_fault::PeerFault;
 use crate::phase::Phase;
 use crate::step::{Step, settled, step_by};
 use byte_queue::ByteQueue;
-use peer_codes::{Hello, Record, read_record, record_bytes};
+use peer_codes::{Beat, Frame, Hello, Record, read_record, record_bytes};
 use std::alloc::{AllocError, Global};
 
 /// A connection between two nodes without codes, as a machine without sockets.
@@ -73,26 +80,60 @@ impl PlainConnection {
     fn read(&mut self) -> Option<Result<Heard, PeerFault>>
         ensures { ReadsOrWaits self.old result self.new }
     {
-        let (read, end) = read_record(self.came.waiting())?;
+        let (read, length) = read_record(self.came.waiting())?;
         let Step { phase, heard } = step_by(self.phase, read);
-        self.came.skip(end);
+        self.came.skip(length);
         self.phase = phase;
         Some(heard)
     }
 
-    /// What came next, or the fault that closed the connection, told again from then on.
+    /// The same, where a frame goes into the buffer.
+    fn read_into(&mut self, frame: &mut Frame) -> Option<Result<Arrived, PeerFault>>
+        ensures { ReadsOrWaits self.old (told result frame.new) self.new }
+    {
+        lend(self.read(), frame)
+    }
+
+    /// Takes the frame in front, which ends there, into the buffer.
+    fn take_frame(&mut self, end: usize, frame: &mut Frame)
+        requires { HasFrame self.old.came.waiting end }
+        ensures waiting { self.new.came.waiting ≡ drop end self.old.came.waiting }
+        ensures others { self.new ≡ record self.old { came = self.new.came } }
+        ensures frame { frame.new ≡ frame_of (drop 5 (take end self.old.came.waiting)) }
+    {
+        copy_into(frame, &self.came.waiting()[CONTENT_AT..end]);
+        self.came.skip(end);
+    }
+
+    /// What stands in front of what came on an open connection. A frame is copied as it lies, and nothing else that is as
+    /// long: each call makes room for what it may hand on.
+    fn read_open(&mut self, frame: &mut Frame) -> Option<Result<Arrived, PeerFault>>
+        ensures { (other : Hello) → self.old.phase ≡ phases.Open other → ReadsOrWaits self.old (told result frame.new) self.new }
+    {
+        match front_of(self.came.waiting()) {
+            Front::Partial => None,
+            Front::Frame(end) => {
+                self.take_frame(end, frame);
+                Some(Ok(Arrived::Frame))
+            }
+            Front::Other => self.read_into(frame),
+        }
+    }
+
+    /// What came next, or the fault that closed the connection, told again from then on. A frame goes into the buffer, in
+    /// place of what that had.
     ///
     /// `None` where the record in front isn't whole, and while the Hello that came isn't judged. The fault is the first of:
     /// 120 `BadLength`, 121 `BadKind` and 122 `BadHello` of the record in front, and 126 `UnexpectedRecord` (a kind that may not
     /// come now).
-    pub fn next(&mut self) -> Option<Result<Heard, PeerFault>>
-        ensures { Next self.old.phase self.old result self.new }
+    pub fn next(&mut self, frame: &mut Frame) -> Option<Result<Arrived, PeerFault>>
+        ensures { Next self.old.phase self.old (told result frame.new) self.new }
     {
         match self.phase {
             Phase::Asked(_) => None,
             Phase::Closed(fault) => Some(Err(fault)),
-            Phase::Greeting => self.read(),
-            Phase::Open(_) => self.read(),
+            Phase::Greeting => self.read_into(frame),
+            Phase::Open(_) => self.read_open(frame),
         }
     }
 
@@ -146,13 +187,31 @@ impl PlainConnection {
         }
     }
 
+    /// Begins a beat.
+    fn begin_beat(&mut self, beat: Beat)
+        ensures { self.new ≡ record self.old { out = with_begun (record_text (record_of.Beat beat)) self.old.out } }
+    {
+        self.out.start(record_bytes(&Record::Beat(beat)));
+    }
+
+    /// Begins the oldest frame that waits, if one does.
+    fn begin_frame(&mut self, waiting: &mut Outbox)
+        ensures own { self.new ≡ said_next self.old (first_frame waiting.old.frames) }
+        ensures waiting { waiting.new ≡ record waiting.old { frames = drop 1 waiting.old.frames } }
+    {
+        if let Some(frame) = waiting.take_frame() {
+            self.out.start_frame(frame.as_slice());
+        }
+    }
+
     /// Begins what waits next, if anything does.
     fn begin_open(&mut self, waiting: &mut Outbox)
         ensures own { self.new ≡ (begun_open self.old waiting.old).0 }
         ensures waiting { waiting.new ≡ (begun_open self.old waiting.old).1 }
     {
-        if let Some(said) = waiting.next() {
-            self.out.start(record_bytes(&said));
+        match waiting.take_beat() {
+            Some(beat) => self.begin_beat(beat),
+            None => self.begin_frame(waiting),
         }
     }
 

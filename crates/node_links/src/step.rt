@@ -46,6 +46,7 @@ fn on_greeting(said: Record) -> Step
         Record::Proof(_) => closed(PeerFault::UnexpectedRecord),
         Record::Frame(_) => closed(PeerFault::UnexpectedRecord),
         Record::Beat(_) => closed(PeerFault::UnexpectedRecord),
+        Record::More(_) => closed(PeerFault::Record(RecordFault::BadKind)),
     }
 }
 
@@ -64,6 +65,7 @@ fn on_open(other: Hello, said: Record) -> Step
         },
         Record::Hello(_) => closed(PeerFault::UnexpectedRecord),
         Record::Proof(_) => closed(PeerFault::UnexpectedRecord),
+        Record::More(_) => closed(PeerFault::Record(RecordFault::BadKind)),
     }
 }
 

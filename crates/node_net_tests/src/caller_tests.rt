@@ -425,3 +425,26 @@ fn who_is_refused_dials_ever_later(rt: HostRuntime) -> Result<(), Fail> {
     assert_number(&rt, dials_in(rt.alloc(), 7_500)?, 4);
     Ok(())
 }
+
+/// Turns of a node that hears nothing, two a second, from one second to another.
+fn turns_alone(side: &mut Side, from: u64, to: u64) {
+    for second in from..to {
+        let now = second.saturating_mul(1_000_000);
+        side.turn(now);
+        side.turn(now.saturating_add(500_000));
+    }
+}
+
+/// That dials of a peer bring no Hello is told once a minute, as long as they do.
+#[test]
+fn who_answers_no_dial_is_told_once_a_minute(rt: HostRuntime) -> Result<(), Fail> {
+    let mut side = Side::new(rt.alloc(), 1, 9, &[], 0)?;
+    turns_alone(&mut side, 0, 62);
+    assert_number(&rt, side.seen.unreached as u64, 0);
+    turns_alone(&mut side, 62, 122);
+    assert_number(&rt, side.seen.unreached as u64, 1);
+    turns_alone(&mut side, 122, 124);
+    assert_number(&rt, side.seen.unreached as u64, 2);
+    assert_number(&rt, side.seen.refuses as u64, 0);
+    Ok(())
+}

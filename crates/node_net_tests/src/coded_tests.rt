@@ -2,8 +2,9 @@
 
 use crate::pair::{Side, exchange, say};
 use crate::samples::{ASK, assert_number, coded_hello, frame, key, own};
-use node_links::{CodedConnection, Connection, Heard, Met, Outbox};
+use node_links::{Arrived, CodedConnection, Connection, Met, Outbox};
 use node_wires::{Line, Wire};
+use peer_codes::Frame;
 use std::alloc::{AllocError, Global};
 use std::process::Abort;
 use std::test::Fail;
@@ -154,6 +155,7 @@ struct End {
     connection: Connection,
     number: u8,
     waiting: Outbox,
+    frame: Frame,
 }
 
 /// By hand, so that letting one go is one call for whoever owns it (docs/ARCHITECTURE.md, Habits).
@@ -163,6 +165,7 @@ impl Drop for End {
             connection: _,
             number: _,
             waiting: _,
+            frame: _,
         } = self;
     }
 }
@@ -191,12 +194,12 @@ impl End {
 
     /// What came next.
     fn heard(&mut self) -> Came {
-        match self.connection.next() {
+        match self.connection.next(&mut self.frame) {
             None => Came::Nothing,
             Some(Err(_)) => Came::Fault,
-            Some(Ok(Heard::Frame(_))) => Came::Frame,
-            Some(Ok(Heard::Beat(_))) => Came::Beat,
-            Some(Ok(Heard::Hello(_) | Heard::Proved(_))) => Came::Words,
+            Some(Ok(Arrived::Frame)) => Came::Frame,
+            Some(Ok(Arrived::Beat(_))) => Came::Beat,
+            Some(Ok(Arrived::Hello(_) | Arrived::Proved(_))) => Came::Words,
         }
     }
 
@@ -258,9 +261,9 @@ fn hears(
 }
 
 /// So many frames are to be said.
-fn put_asks(rt: &impl Abort, end: &mut End, count: u64) {
+fn put_asks(end: &mut End, count: u64) {
     for _ in 0..count {
-        let _ = end.waiting.put(frame(rt, &ASK), 4);
+        let _ = end.waiting.put(&ASK, 4);
     }
 }
 
@@ -273,9 +276,9 @@ fn drops_the_oldest(
 ) -> Result<(), AllocError> {
     hears(rt, alloc, high, low, 114, 0)?;
     hears(rt, alloc, low, high, 151, 0)?;
-    put_asks(rt, high, 1);
+    put_asks(high, 1);
     hears(rt, alloc, high, low, 60, 0)?;
-    put_asks(rt, high, 9);
+    put_asks(high, 9);
     hears(rt, alloc, high, low, 400, 5)
 }
 
@@ -288,11 +291,13 @@ fn a_drop_breaks_no_code(rt: HostRuntime) -> Result<(), Fail> {
         connection: Connection::Coded(call),
         number: 1,
         waiting: Outbox::new(alloc),
+        frame: frame(&rt, &ASK),
     };
     let mut low = End {
         connection: Connection::listen(alloc, Some(key(7))),
         number: 0,
         waiting: Outbox::new(alloc),
+        frame: frame(&rt, &ASK),
     };
     Ok(drops_the_oldest(&rt, alloc, &mut high, &mut low)?)
 }

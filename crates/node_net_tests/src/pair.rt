@@ -42,6 +42,10 @@ pub(crate) struct Seen {
     pub(crate) refused: u8,
     /// How many callers were told to be refused.
     pub(crate) strangers: u32,
+    /// How often it was told that dials of a peer come to nothing.
+    pub(crate) unreached: u32,
+    /// In how many of these its address refused the last.
+    pub(crate) refuses: u32,
     /// The sum of all frames' last bytes.
     pub(crate) sum: u64,
 }
@@ -54,6 +58,8 @@ pub(crate) const NOTHING: Seen = Seen {
     fault: 0,
     refused: 0,
     strangers: 0,
+    unreached: 0,
+    refuses: 0,
     sum: 0,
 };
 
@@ -92,6 +98,15 @@ fn and_strangers(seen: Seen, count: u32, fault: u8) -> Seen {
     }
 }
 
+/// What was told so far, and that dials come to nothing.
+fn and_unreached(seen: Seen, refuses: bool) -> Seen {
+    Seen {
+        unreached: seen.unreached.saturating_add(1),
+        refuses: seen.refuses.saturating_add(refuses as u32),
+        ..seen
+    }
+}
+
 /// What was told so far, and a frame.
 fn and_frame(seen: Seen, bytes: &[u8]) -> Seen {
     let last = bytes.last().copied().unwrap_or(0);
@@ -113,7 +128,8 @@ fn and_notice(seen: Seen, notice: &Notice) -> Seen {
             source: _,
         } => and_refused(seen, fault.code()),
         Notice::Strangers { count, fault } => and_strangers(seen, *count, fault.code()),
-        Notice::Frame { from: _, frame } => and_frame(seen, frame.bytes.as_slice()),
+        Notice::Unreached { peer: _, refuses } => and_unreached(seen, *refuses),
+        Notice::Frame { from: _, frame } => and_frame(seen, frame.as_slice()),
     }
 }
 

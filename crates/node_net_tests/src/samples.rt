@@ -4,7 +4,7 @@ ghost use Rattle.std.specs.Prelude.{◌≡◌, true};
 ghost use Rattle.peer_codes.specs.Steps.{is_coded};
 
 use node_links::{Own, OwnReport};
-use peer_codes::{Ends, Frame, Hello, Key, Life, Link, MatchDigest, Nonce};
+use peer_codes::{Ends, Frame, Hello, Key, Life, Link, MatchDigest, Nonce, Version};
 use std::process::Abort;
 
 /// The frame of an Ask from slot 1.
@@ -77,6 +77,7 @@ pub(crate) fn life(byte: u8) -> Life {
 /// What a node says first to another, of which it keeps no life.
 pub(crate) fn hello(from: u8, to: u8) -> Hello {
     Hello {
+        version: Version::First,
         ends: Ends { from, to, nodes: 3 },
         digest: MatchDigest { bytes: [9; 32] },
         life: life(from.wrapping_add(1)),

@@ -52,16 +52,19 @@ fn open_seats(alloc: Global) -> Result<Table, AllocError> {
 }
 
 impl Table {
-    /// The number that stands for what comes of seats next: 1 a bot at seat 0 and 2 one at seat 1, 3 the end of one, 4 a
-    /// refusal, the length of a piece, 0 nothing.
+    /// The number that stands for what comes of seats next, asked in turn: 1 a bot at seat 0 and 2 one at seat 1, 3 the end of
+    /// one, 4 a refusal, the length of a piece, 0 nothing.
     fn hears(&mut self, now: u64) -> u64 {
-        match self.seats.next(&mut self.wire, now) {
-            Some(SeatNotice::Came { seat }) => seat as u64 + 1,
-            Some(SeatNotice::Gone { seat: _ }) => 3,
-            Some(SeatNotice::Refused { seat: _ }) => 4,
-            Some(SeatNotice::Piece { seat: _, bytes }) => bytes.len() as u64,
-            None => 0,
+        for at in 0..self.seats.looks() {
+            match self.seats.next(&mut self.wire, at, now) {
+                Some(SeatNotice::Came { seat }) => return seat as u64 + 1,
+                Some(SeatNotice::Gone { seat: _ }) => return 3,
+                Some(SeatNotice::Refused { seat: _ }) => return 4,
+                Some(SeatNotice::Piece { seat: _, bytes }) => return bytes.len() as u64,
+                None => (),
+            }
         }
+        0
     }
 
     /// What comes next is this.
@@ -104,6 +107,19 @@ fn a_bot_comes_is_told_and_goes(rt: HostRuntime) -> Result<(), Fail> {
     table.wire.end(Line::Seat(1));
     table.assert_hears(&rt, 0, 3);
     assert_number(&rt, table.seats.bits() as u64, 0);
+    Ok(())
+}
+
+/// What a bot sends at once comes in pieces of 512 bytes, one at a time.
+#[test]
+fn much_comes_in_pieces(rt: HostRuntime) -> Result<(), Fail> {
+    let mut table = open_seats(rt.alloc())?;
+    table.wire.come_to_seat(1);
+    table.assert_hears(&rt, 0, 2);
+    table.wire.come(Line::Seat(1), &[b'#'; 1100])?;
+    for expected in [512, 512, 76, 0] {
+        table.assert_hears(&rt, 0, expected);
+    }
     Ok(())
 }
 

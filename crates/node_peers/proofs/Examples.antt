@@ -1,17 +1,21 @@
 -- What came over the lines of node 0 of three, and what is told of it, on values.
-use Rattle.std.proofs.Common.{◌≡◌, ℕ, List, [], ◌∷◌, ◌++◌, replicate, Some, None, refl, lit<, lit≤}
+use Rattle.std.proofs.Common.{◌≡◌, inl, inr, ℕ, List, [], ◌∷◌, ◌++◌, replicate, Some, None, refl, ap, arith, lit<, lit≤}
 use Rattle.peer_codes.specs.declared.frame.Frame.{Frame}
+use Rattle.peer_codes.specs.declared.version.Version.TheVariants.{First}
 use Rattle.peer_codes.specs.declared.hello.Hello.{Hello}
-use Rattle.peer_codes.specs.declared.hello.Link.TheVariants.{Plain}
+use Rattle.peer_codes.specs.declared.hello.Link.TheVariants.{Plain, Coded}
 use Rattle.peer_codes.specs.declared.records.Record.TheVariants as record_of
 use Rattle.peer_codes.specs.Fits.{IsHello}
 use Rattle.peer_codes.specs.Spelling.{record_text}
 use Rattle.node_links.specs.declared.own.Own.{Own}
-use Rattle.node_wires.specs.declared.line.Line.TheVariants.{Peer, Caller}
-use Rattle.node_wires.specs.Passages.{Passage, Began, Came, Wrote}
+use Rattle.node_wires.specs.declared.line.Line.{Line}
+use Rattle.node_wires.specs.declared.line.Line.TheVariants.{Peer, Caller, Seat, Guest, Asker}
+use Rattle.node_wires.specs.Passages.{Passage, Began, Came, Wrote, Gave, Logged}
 use Rattle.node_peers.specs.declared.notice.Notice.TheVariants as notices
 use Rattle.node_peers.specs.Lines.{line_at, dialled_over}
 use Rattle.node_peers.specs.Hearing.{IsTold, talk_over}
+use Rattle.node_peers.specs.Greeting.{IsOurs, coded_by, first_of}
+use Rattle.node_peers.specs.Handing.{Is}
 
 peer_first : line_at 6 ≡ Peer 6
 peer_first = refl
@@ -31,6 +35,7 @@ own = record { number = 0; nodes = 3; digest = record { bytes = replicate 32 9 }
 -- node 1 says so to node 0
 abbrev hello : Hello
 hello = record {
+  version = First;
   ends = record { from = 1; to = 0; nodes = 3 };
   digest = record { bytes = replicate 32 9 };
   life = record { bytes = replicate 16 2 };
@@ -88,3 +93,46 @@ began_anew = refl
 -- and what is written to another line is none either
 written_there : talk_over (passed ++ Wrote (Caller 0) (7 ∷ []) ∷ Wrote (Caller 1) (8 ∷ []) ∷ []) (Caller 0) ≡ record { dialled = None; came = both; wrote = 7 ∷ [] }
 written_there = refl
+
+-- ---- what is said first, and what was handed to peers
+
+-- node 1 says it, not node 0
+another_says_it : IsOurs own hello → ⊥
+another_says_it is = omega (arith, is.from)
+
+nonce_is_drawn : coded_by (Some (7 ∷ [])) ≡ Some (Coded (record { bytes = 7 ∷ [] }))
+nonce_is_drawn = refl
+
+none_drawn : coded_by None ≡ None
+none_drawn = refl
+
+first_is_kept : first_of None hello.life ≡ Some hello.life
+first_is_kept = refl
+
+no_second_is_told : first_of (Some own.life) hello.life ≡ None
+no_second_is_told = refl
+
+abbrev vote : List ℕ
+vote = 65 ∷ []
+
+handed_second : Is (Wrote (Peer 1) vote) (Wrote (Peer 2) vote ∷ Wrote (Peer 1) vote ∷ [])
+handed_second = inr (inl refl)
+
+abbrev number_of : Line → ℕ
+number_of (Peer number) = number
+number_of (Caller place) = 0
+number_of (Seat number) = 0
+number_of (Guest place) = 0
+number_of (Asker place) = 0
+
+abbrev to_whom : Passage → ℕ
+to_whom (Wrote line bytes) = number_of line
+to_whom (Began line) = 0
+to_whom (Came line bytes) = 0
+to_whom (Gave place seat) = 0
+to_whom (Logged text) = 0
+
+-- what was handed to node 2 wasn't to node 1
+handed_to_another : Is (Wrote (Peer 1) vote) (Wrote (Peer 2) vote ∷ []) → ⊥
+handed_to_another (inl same) = omega (arith, ap to_whom same)
+handed_to_another (inr never) = absurd never

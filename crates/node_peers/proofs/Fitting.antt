@@ -13,6 +13,9 @@ use Rattle.peer_codes.specs.declared.frame.Frame.{Frame}
 use Rattle.peer_codes.specs.declared.hello.Hello.{Hello}
 use Rattle.peer_codes.specs.declared.hello.Life.{Life}
 use Rattle.node_links.specs.declared.connection.Connection.{Connection}
+use Rattle.node_links.specs.declared.arrived.Arrived.{Arrived}
+use Rattle.node_links.specs.declared.arrived.Arrived.TheVariants as arrivals
+use Rattle.node_links.specs.Arriving.{told}
 use Rattle.node_links.specs.declared.heard.Heard.{Heard}
 use Rattle.node_links.specs.declared.heard.Heard.TheVariants as heards
 use Rattle.node_links.specs.declared.peer_fault.PeerFault.{PeerFault}
@@ -155,6 +158,7 @@ told_on own passed more (notices.Joined peer life) told =
     ∥∥₁_map told (λ t. record { hello = t.hello; from_is = t.from_is; life_is = t.life_is; opened = opened_on own passed more t.hello t.opened })
 told_on own passed more (notices.Gone peer) told = tt
 told_on own passed more (notices.Refused peer fault source) told = tt
+told_on own passed more (notices.Unreached peer refuses) told = tt
 told_on own passed more (notices.Strangers count fault) told = tt
 
 pub are_told_on : (own : Own) (passed more : List Passage) (told : List Notice) → AreTold own passed told → AreTold own (passed ++ more) told
@@ -211,15 +215,15 @@ says_next old new (Some (Ok (heards.Proved hello))) lost tells = tt
 says_next old new (Some (Ok (heards.Beat beat))) lost tells = tt
 says_next old new (Some (Ok (heards.Frame frame))) lost tells = λ own talk from is at. tells own talk from (goes_in old.is_lost own talk old.connection lost is) at
 
-pub said_of : (heard : Option (Result Heard PeerFault)) (from : Option ℕ) (old new : Link) → SaysFrame heard old new → from ≡ peer_of new.connection → SaidBy (saying_of heard from) (Some old)
-said_of None from old new says is = tt
-said_of (Some (Err fault)) from old new says is = tt
-said_of (Some (Ok (heards.Hello hello))) from old new says is = tt
-said_of (Some (Ok (heards.Proved hello))) from old new says is = tt
-said_of (Some (Ok (heards.Beat beat))) None old new says is = tt
-said_of (Some (Ok (heards.Beat beat))) (Some from) old new says is = tt
-said_of (Some (Ok (heards.Frame frame))) None old new says is = tt
-said_of (Some (Ok (heards.Frame frame))) (Some from) old new says is = λ own talk kept. says own talk from kept (sym is)
+pub said_of : (arrived : Option (Result Arrived PeerFault)) (frame : Frame) (from : Option ℕ) (old new : Link) → SaysFrame (told arrived frame) old new → from ≡ peer_of new.connection → SaidBy (saying_of arrived from) frame (Some old)
+said_of None frame from old new says is = tt
+said_of (Some (Err fault)) frame from old new says is = tt
+said_of (Some (Ok (arrivals.Hello hello))) frame from old new says is = tt
+said_of (Some (Ok (arrivals.Proved hello))) frame from old new says is = tt
+said_of (Some (Ok (arrivals.Beat beat))) frame None old new says is = tt
+said_of (Some (Ok (arrivals.Beat beat))) frame (Some from) old new says is = tt
+said_of (Some (Ok arrivals.Frame)) frame None old new says is = tt
+said_of (Some (Ok arrivals.Frame)) frame (Some from) old new says is = λ own talk kept. says own talk from kept (sym is)
 
 pub moves_same : (place : ℕ) (old new : Option Link) (passed_old passed_new : List Passage) → new ≡ old → passed_new ≡ passed_old → Moves place old new passed_old passed_new
 moves_same place old new passed_old passed_new e f = record {
@@ -343,17 +347,17 @@ fits_beside own links place passed_old passed_new without same fits q = beside_a
 pub no_links_fit : (own : Own) (talks : ℕ → Talk) (links : List (Option Link)) → ((place : ℕ) → get_or links place None ≡ None) → FitsBy own talks links
 no_links_fit own talks links none place = subst (λ (l : Option Link). IsOf own (talks place) l) (sym (none place)) tt
 
-said_in : (saying : Saying) (links : List (Option Link)) (place : ℕ) (old : Option Link) → old ≡ get_or links place None → SaidBy saying old → SaidAt saying place links
-said_in (sayings.Frame from frame) links place old at said = λ own talks fits. said own (talks place) (at_place own talks links place old at fits)
-said_in sayings.Waits links place old at said = tt
-said_in sayings.Nothing links place old at said = tt
-said_in (sayings.Hello hello) links place old at said = tt
-said_in (sayings.Beat from beat) links place old at said = tt
-said_in (sayings.Proved hello) links place old at said = tt
-said_in (sayings.Fault fault) links place old at said = tt
+said_in : (saying : Saying) (frame : Frame) (links : List (Option Link)) (place : ℕ) (old : Option Link) → old ≡ get_or links place None → SaidBy saying frame old → SaidAt saying frame place links
+said_in (sayings.Frame from) frame links place old at said = λ own talks fits. said own (talks place) (at_place own talks links place old at fits)
+said_in sayings.Waits frame links place old at said = tt
+said_in sayings.Nothing frame links place old at said = tt
+said_in (sayings.Hello hello) frame links place old at said = tt
+said_in (sayings.Beat from beat) frame links place old at said = tt
+said_in (sayings.Proved hello) frame links place old at said = tt
+said_in (sayings.Fault fault) frame links place old at said = tt
 
-pub said_at : (saying : Saying) (links : List (Option Link)) (place : ℕ) (old : Option Link) → old ≡ get_or links place None → SaidBy saying old → SaidAt saying place links
-said_at saying links place old at said = said_in saying links place old at said
+pub said_at : (saying : Saying) (frame : Frame) (links : List (Option Link)) (place : ℕ) (old : Option Link) → old ≡ get_or links place None → SaidBy saying frame old → SaidAt saying frame place links
+said_at saying frame links place old at said = said_in saying frame links place old at said
 
 -- ---- over lines
 

@@ -2,4 +2,7 @@ pub mod Adding
 pub mod Growing
 pub mod Fitting
 pub mod Sending
+pub mod Handing
+pub mod Keyed
+pub mod Meeting
 mod Examples

@@ -74,6 +74,7 @@ IsTold own passed (notices.Frame from frame) = ∥ Told own passed from frame �
 IsTold own passed (notices.Joined peer life) = ∥ Joins own passed peer life ∥₁
 IsTold own passed (notices.Gone peer) = Unit {0}
 IsTold own passed (notices.Refused peer fault source) = Unit {0}
+IsTold own passed (notices.Unreached peer refuses) = Unit {0}
 IsTold own passed (notices.Strangers count fault) = Unit {0}
 
 abbrev pub AreTold : Own → List Passage → List Notice → Type 0
@@ -98,6 +99,7 @@ told_prop own passed (notices.Frame from frame) = λ x y. squash₁ x y
 told_prop own passed (notices.Joined peer life) = λ x y. squash₁ x y
 told_prop own passed (notices.Gone peer) = Unit-prop
 told_prop own passed (notices.Refused peer fault source) = Unit-prop
+told_prop own passed (notices.Unreached peer refuses) = Unit-prop
 told_prop own passed (notices.Strangers count fault) = Unit-prop
 
 pub are_told_prop : (own : Own) (passed : List Passage) (told : List Notice) → IsProp (AreTold own passed told)

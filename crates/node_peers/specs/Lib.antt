@@ -5,5 +5,8 @@ pub mod Saying
 pub mod Growing
 pub mod Noticing
 pub mod Sending
+pub mod Handing
 pub mod Peering
 pub mod Viewing
+pub mod Greeting
+pub mod Meeting

@@ -12,6 +12,7 @@ heard_of (notices.Joined peer (Some life)) = Began (Peer peer) ∷ []
 heard_of (notices.Joined peer None) = []
 heard_of (notices.Gone peer) = []
 heard_of (notices.Refused peer fault source) = []
+heard_of (notices.Unreached peer refuses) = []
 heard_of (notices.Strangers count fault) = []
 
 abbrev pub heard_by : Option Notice → List Passage

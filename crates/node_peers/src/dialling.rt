@@ -1,28 +1,54 @@
 //! Which peers are dialled, and when.
 
+ghost use Rattle.node_peers.specs.Handing.{GoBack};
+
 use crate::greeting::drawn;
 use crate::peer::Peer;
 use crate::peers::Peers;
+use node_links::DialDue;
 use node_links::limits::LOOK;
-use node_links::{Dial, DialDue};
 use node_wires::Wire;
 
 /// The dial of a peer ended at this moment, where nothing came of it perhaps but its Hello.
-pub(crate) fn end_dial(peers: &mut Vec<Peer>, number: u8, now: u64, is_fruitless: bool) {
+#[tactic(auto, using(crate::proofs::Handing::back_at, crate::proofs::Handing::back_same))]
+pub(crate) fn end_dial(peers: &mut Vec<Peer>, number: u8, now: u64, is_fruitless: bool)
+    ensures { GoBack peers.old.items peers.new.items }
+{
     if let Some(peer) = peers.get_mut(number as usize) {
         peer.end_dial(now, is_fruitless);
     }
 }
 
+/// Whether it is told now of a peer that its dials come to nothing; then whether the last ended by itself.
+#[tactic(auto, using(crate::proofs::Handing::back_at, crate::proofs::Handing::back_same))]
+fn tell_missed(peers: &mut Vec<Peer>, number: u8, now: u64) -> Option<bool>
+    ensures { GoBack peers.old.items peers.new.items }
+{
+    match peers.get_mut(number as usize) {
+        Some(peer) => peer.tell_missed(now),
+        None => None,
+    }
+}
+
+/// A peer is dialled at this moment.
+#[tactic(auto, using(crate::proofs::Handing::back_at, crate::proofs::Handing::back_same))]
+fn begin_dial(peers: &mut Vec<Peer>, number: u8, now: u64)
+    ensures { GoBack peers.old.items peers.new.items }
+{
+    if let Some(peer) = peers.get_mut(number as usize) {
+        peer.begin_dial(now);
+    }
+}
+
 impl Peers {
-    ghost use Rattle.node_peers.specs.Peering.{Grew};
+    ghost use Rattle.node_peers.specs.Peering.{Grew, Stays};
 
     /// Calls a peer. False where that failed, or no nonce was drawn.
-    #[tactic(auto, using(crate::proofs::Growing::grew_on, crate::proofs::Growing::stayed, crate::proofs::Growing::stays_on))]
+    #[tactic(auto, using(crate::proofs::Growing::grew_on, crate::proofs::Growing::stayed, crate::proofs::Growing::stays_on, crate::proofs::Handing::handed_on, crate::proofs::Handing::handed_stays, crate::proofs::Handing::handed_grew, crate::proofs::Keyed::of_key))]
     pub(crate) fn call<W: Wire>(&mut self, wire: &mut W, number: u8, now: u64) -> bool
         ensures { Grew self.old self.new (W.passed wire.old) (W.passed wire.new) }
     {
-        let Some(link) = drawn(self.lines.own.key, wire) else {
+        let Some(link) = drawn(self.lines.own.key.is_some(), wire) else {
             return false;
         };
         let own = self.hello_to(number, link);
@@ -30,14 +56,12 @@ impl Peers {
     }
 
     /// Dials a peer.
-    #[tactic(auto, using(crate::proofs::Growing::grew_on, crate::proofs::Growing::stayed, crate::proofs::Growing::stays_on))]
+    #[tactic(auto, using(crate::proofs::Growing::grew_on, crate::proofs::Growing::stayed, crate::proofs::Growing::stays_on, crate::proofs::Handing::handed_on, crate::proofs::Handing::handed_stays, crate::proofs::Handing::handed_grew, crate::proofs::Handing::back_at, crate::proofs::Handing::back_on))]
     pub(crate) fn dial<W: Wire>(&mut self, wire: &mut W, number: u8, now: u64)
         ensures { Grew self.old self.new (W.passed wire.old) (W.passed wire.new) }
     {
         let has_begun = self.call(wire, number, now);
-        if let Some(peer) = self.peers.get_mut(number as usize) {
-            peer.dial = Dial::Dialled { since: now };
-        }
+        begin_dial(&mut self.peers, number, now);
         if !has_begun {
             end_dial(&mut self.peers, number, now, false);
         }
@@ -51,6 +75,17 @@ impl Peers {
         }
     }
 
+    /// Gives up what was dialled.
+    #[tactic(auto, using(crate::proofs::Growing::grew_on, crate::proofs::Growing::stayed, crate::proofs::Growing::stays_on, crate::proofs::Handing::handed_on, crate::proofs::Handing::handed_stays, crate::proofs::Handing::handed_grew, crate::proofs::Handing::back_at))]
+    fn give_up<W: Wire>(&mut self, wire: &mut W, number: u8, now: u64)
+        ensures { Grew self.old self.new (W.passed wire.old) (W.passed wire.new) }
+    {
+        if let Some(peer) = self.peers.get_mut(number as usize) {
+            peer.give_up_dial();
+        }
+        self.end(wire, number as usize, now);
+    }
+
     /// Dials a peer that is to be dialled, or gives up what isn't answered.
     #[tactic(auto, using(crate::proofs::Growing::grew_on, crate::proofs::Growing::stayed, crate::proofs::Growing::stays_on))]
     pub(crate) fn dial_if_due<W: Wire>(&mut self, wire: &mut W, number: u8, now: u64)
@@ -58,18 +93,29 @@ impl Peers {
     {
         match self.due(number, now) {
             DialDue::Dial => self.dial(wire, number, now),
-            DialDue::GiveUp => self.end(wire, number as usize, now),
+            DialDue::GiveUp => self.give_up(wire, number, now),
             DialDue::Nothing { wait: _ } => (),
         }
     }
 
-    /// The same of all peers of lesser numbers.
+    /// Tells that dials of a peer come to nothing, where that is to be told.
+    #[tactic(auto, using(crate::proofs::Handing::handed_on, crate::proofs::Handing::handed_stays, crate::proofs::Handing::handed_grew))]
+    fn note_missed(&mut self, number: u8, now: u64)
+        ensures { Stays self.old self.new }
+    {
+        if let Some(refuses) = tell_missed(&mut self.peers, number, now) {
+            self.lines.note_unreached(number, refuses);
+        }
+    }
+
+    /// Dials all peers of lesser numbers that are to be dialled, gives up what isn't answered, and tells what comes to nothing.
     #[tactic(auto, using(crate::proofs::Growing::grew_on, crate::proofs::Growing::stayed, crate::proofs::Growing::stays_on))]
     pub(crate) fn dial_all<W: Wire>(&mut self, wire: &mut W, now: u64)
         ensures { Grew self.old self.new (W.passed wire.old) (W.passed wire.new) }
     {
         for number in 0..self.lines.own.number {
             self.dial_if_due(wire, number, now);
+            self.note_missed(number, now);
         }
     }
 }

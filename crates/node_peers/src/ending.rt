@@ -1,26 +1,42 @@
 //! How connections end: by the wire, by a fault, or because they are stale.
 
+ghost use Rattle.node_peers.specs.Handing.{GoBack};
+
 use crate::dialling::end_dial;
 use crate::limits::{LINKS, STRANGER};
 use crate::link::dialled_at;
 use crate::peer::Peer;
 use crate::peers::Peers;
-use clockwork::is_heard;
-use clockwork::silence::SILENCES;
 use node_links::PeerFault;
 use node_links::limits::NODES;
 use node_wires::Wire;
 use std::net::IpAddr;
 
 /// The dial of a peer is closed by this fault.
-pub(crate) fn refuse_dial(peers: &mut Vec<Peer>, number: u8, fault: PeerFault, now: u64) {
+#[tactic(auto, using(crate::proofs::Handing::back_at, crate::proofs::Handing::back_same))]
+pub(crate) fn refuse_dial(peers: &mut Vec<Peer>, number: u8, fault: PeerFault, now: u64)
+    ensures { GoBack peers.old.items peers.new.items }
+{
     if let Some(peer) = peers.get_mut(number as usize) {
         peer.refuse_dial(fault, now);
     }
 }
 
+/// The connection to a peer ended at this moment.
+#[tactic(auto, using(crate::proofs::Handing::back_at, crate::proofs::Handing::back_same))]
+fn part(peers: &mut Vec<Peer>, number: u8, now: u64)
+    ensures { GoBack peers.old.items peers.new.items }
+{
+    if let Some(peer) = peers.get_mut(number as usize) {
+        peer.part(now);
+    }
+}
+
 /// Whether this fault of a peer is told now.
-pub(crate) fn tells(peers: &mut Vec<Peer>, number: u8, fault: PeerFault, now: u64) -> bool {
+#[tactic(auto, using(crate::proofs::Handing::back_at, crate::proofs::Handing::back_same))]
+pub(crate) fn tells(peers: &mut Vec<Peer>, number: u8, fault: PeerFault, now: u64) -> bool
+    ensures { GoBack peers.old.items peers.new.items }
+{
     match peers.get_mut(number as usize) {
         Some(peer) => peer.tells(fault, now),
         None => false,
@@ -59,20 +75,19 @@ impl Peers {
     }
 
     /// The peer that is there by the connection at a place is gone.
+    #[tactic(auto, using(crate::proofs::Handing::handed_on, crate::proofs::Handing::handed_stays, crate::proofs::Handing::handed_grew, crate::proofs::Handing::back_at))]
     pub(crate) fn leave(&mut self, place: usize, now: u64)
         ensures { Stays self.old self.new }
     {
         let Some(number) = self.joined_at(place) else {
             return;
         };
-        if let Some(peer) = self.peers.get_mut(number as usize) {
-            peer.part(now);
-        }
+        part(&mut self.peers, number, now);
         self.lines.note_gone(number);
     }
 
     /// Ends the connection at a place, if one is there.
-    #[tactic(auto, using(crate::proofs::Growing::grew_on, crate::proofs::Growing::stayed, crate::proofs::Growing::stays_on))]
+    #[tactic(auto, using(crate::proofs::Growing::grew_on, crate::proofs::Growing::stayed, crate::proofs::Growing::stays_on, crate::proofs::Handing::handed_on, crate::proofs::Handing::handed_stays, crate::proofs::Handing::handed_grew))]
     pub(crate) fn end<W: Wire>(&mut self, wire: &mut W, place: usize, now: u64)
         ensures { Grew self.old self.new (W.passed wire.old) (W.passed wire.new) }
     {
@@ -81,10 +96,18 @@ impl Peers {
         }
         let is_fruitless = self.is_fruitless(place);
         self.leave(place, now);
+        self.end_dialled(place, now, is_fruitless);
+        self.lines.close(wire, place);
+    }
+
+    /// The connection at a place ends: where that is a dial, it ended.
+    #[tactic(auto, using(crate::proofs::Handing::handed_on, crate::proofs::Handing::handed_stays, crate::proofs::Handing::handed_grew))]
+    fn end_dialled(&mut self, place: usize, now: u64, is_fruitless: bool)
+        ensures { Stays self.old self.new }
+    {
         if let Some(number) = self.dialled_at(place) {
             end_dial(&mut self.peers, number, now, is_fruitless);
         }
-        self.lines.close(wire, place);
     }
 
     /// The place by which a peer is there.
@@ -93,6 +116,7 @@ impl Peers {
     }
 
     /// This fault of a peer, at whose connection's other end this address is, is told, where it is time for that.
+    #[tactic(auto, using(crate::proofs::Handing::handed_on, crate::proofs::Handing::handed_stays, crate::proofs::Handing::handed_grew))]
     pub(crate) fn note_refused(
         &mut self,
         peer: u8,
@@ -109,6 +133,7 @@ impl Peers {
 
     /// The connection at a place, at whose other end this address is, is closed by a fault, which is told once: of the peer
     /// that is known, or counted among the callers who aren't.
+    #[tactic(auto, using(crate::proofs::Handing::handed_on, crate::proofs::Handing::handed_stays, crate::proofs::Handing::handed_grew))]
     pub(crate) fn refuse(
         &mut self,
         place: usize,
@@ -127,12 +152,20 @@ impl Peers {
         if !self.lines.refuse(place) {
             return;
         }
-        if let Some(number) = dialled {
-            refuse_dial(&mut self.peers, number, fault, now);
-        }
+        self.refuse_dialled(dialled, fault, now);
         match known {
             Some(peer) => self.note_refused(peer, fault, source, now),
             None => self.refusals.refuse(fault),
+        }
+    }
+
+    /// The peer that was dialled, if one was, is refused by a fault.
+    #[tactic(auto, using(crate::proofs::Handing::handed_on, crate::proofs::Handing::handed_stays, crate::proofs::Handing::handed_grew))]
+    fn refuse_dialled(&mut self, dialled: Option<u8>, fault: PeerFault, now: u64)
+        ensures { Stays self.old self.new }
+    {
+        if let Some(number) = dialled {
+            refuse_dial(&mut self.peers, number, fault, now);
         }
     }
 
@@ -144,16 +177,34 @@ impl Peers {
         }
     }
 
+    /// Whether a peer that is there has been silent for so long that its connection is closed.
+    fn is_lost(&self, number: u8, now: u64) -> bool {
+        match self.peers.get(number as usize) {
+            Some(peer) => peer.is_lost(now, self.silence),
+            None => true,
+        }
+    }
+
+    /// The connection at a place is closed because the peer that is there by it, if one is, was silent for too long.
+    #[tactic(auto, using(crate::proofs::Handing::handed_on, crate::proofs::Handing::handed_stays, crate::proofs::Handing::handed_grew, crate::proofs::Handing::back_at))]
+    fn note_silence(&mut self, place: usize, now: u64)
+        ensures { Stays self.old self.new }
+    {
+        let Some(number) = self.joined_at(place) else {
+            return;
+        };
+        if let Some(peer) = self.peers.get_mut(number as usize) {
+            peer.close(now);
+        }
+    }
+
     /// Whether the connection at a place has been silent for too long, or isn't open for too long.
     pub(crate) fn is_stale(&self, place: usize, now: u64) -> bool {
         let Some(link) = self.lines.at(place) else {
             return false;
         };
         match self.joined_at(place) {
-            Some(number) => match self.peers.get(number as usize) {
-                Some(peer) => { !is_heard(peer.heard, now, self.silence.saturating_mul(SILENCES)) }
-                None => true,
-            },
+            Some(number) => self.is_lost(number, now),
             None => dialled_at(place).is_none() && now.saturating_sub(link.began) >= STRANGER,
         }
     }
@@ -163,7 +214,10 @@ impl Peers {
     fn end_if_stale<W: Wire>(&mut self, wire: &mut W, place: usize, now: u64)
         ensures { Grew self.old self.new (W.passed wire.old) (W.passed wire.new) }
     {
-        if self.has_ended(place) || self.is_stale(place, now) {
+        if self.has_ended(place) {
+            self.end(wire, place, now);
+        } else if self.is_stale(place, now) {
+            self.note_silence(place, now);
             self.end(wire, place, now);
         }
     }
@@ -179,6 +233,7 @@ impl Peers {
     }
 
     /// Tells how many callers were refused, where that is to be told.
+    #[tactic(auto, using(crate::proofs::Handing::handed_on, crate::proofs::Handing::handed_stays, crate::proofs::Handing::handed_grew))]
     pub(crate) fn note_refusals(&mut self, now: u64)
         ensures { Stays self.old self.new }
     {

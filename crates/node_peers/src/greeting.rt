@@ -1,7 +1,11 @@
 //! Hellos of a process and of its peers: what it says, how it answers, and which peer is there by what it said.
 
 ghost use Rattle.std.specs.Prelude.{◌≡◌, IfSome};
-ghost use Rattle.node_links.specs.Going.{IsOfKey};
+ghost use Rattle.node_links.specs.Judging.{is_coded};
+ghost use Rattle.node_peers.specs.Greeting.{IsOurs, coded_by, first_of};
+ghost use Rattle.node_links.specs.declared.limits.TheConstants.{NODES as MOST};
+ghost use Rattle.node_peers.specs.Handing.{GoBack};
+ghost use Rattle.node_peers.specs.Meeting.{AreMet};
 ghost use Rattle.node_peers.specs.Hearing.{IsOpened};
 
 use crate::peer::Peer;
@@ -10,7 +14,7 @@ use node_links::limits::NODES;
 use node_links::{Met, Own, PeerFault};
 use node_wires::Wire;
 use paxos_wire::Ballot;
-use peer_codes::{Ends, Hello, Key, Life, Link as Kind, Nonce, RecordFault};
+use peer_codes::{Ends, Hello, Life, Link as Kind, Nonce, RecordFault, Version};
 
 /// To whom a node that was dialled answers: to who says that he speaks, or where no other node has that number, to the
 /// first that is another.
@@ -42,6 +46,7 @@ pub(crate) fn hello(
     ensures link { result.link ≡ link }
 {
     Hello {
+        version: Version::First,
         ends: Ends {
             from: own.number,
             to,
@@ -55,33 +60,51 @@ pub(crate) fn hello(
     }
 }
 
-/// The kind of connections of a node that has this key, if it has one: with it a nonce is drawn for each. None where none
-/// was drawn.
-pub(crate) fn drawn<W: Wire>(key: Option<Key>, wire: &mut W) -> Option<Kind>
-    ensures kind { IfSome result (λ link. IsOfKey key link) }
-    ensures passed { W.passed wire.new ≡ W.passed wire.old }
+/// A connection with codes for which these bytes were drawn, if any were.
+fn coded(drawn: Option<[u8; 32]>) -> Option<Kind>
+    ensures { result ≡ coded_by drawn }
 {
-    match key {
-        None => Some(Kind::Plain),
-        Some(_) => match wire.draw() {
-            Some(bytes) => Some(Kind::Coded(Nonce { bytes })),
-            None => None,
-        },
+    match drawn {
+        Some(bytes) => Some(Kind::Coded(Nonce { bytes })),
+        None => None,
     }
 }
 
-/// What is known of each node when a Hello is judged that came over the line at a place.
-pub(crate) fn met(peers: &[Peer], place: usize, now: u64, silence: u64) -> [Met; NODES] {
+/// The kind of connections of a node that has a key, or of one that has none: with it a nonce is drawn for each. None where
+/// none was drawn. The key isn't known here, so no nonce tells anything of it.
+pub(crate) fn drawn<W: Wire>(has_key: bool, wire: &mut W) -> Option<Kind>
+    ensures kind { IfSome result (λ link. is_coded link ≡ has_key) }
+    ensures passed { W.passed wire.new ≡ W.passed wire.old }
+{
+    if has_key {
+        coded(wire.draw())
+    } else {
+        Some(Kind::Plain)
+    }
+}
+
+/// What is known of a node when a Hello is judged that came over the line at a place.
+fn met_of(peer: &Peer, place: usize, now: u64, silence: u64) -> Met
+    ensures { result.kept ≡ peer.now.kept }
+{
+    Met {
+        kept: peer.kept,
+        is_here: peer.open != Some(place) && peer.is_here(now, silence),
+    }
+}
+
+/// The same of each node: the life that is kept of it, and whether it is there.
+#[tactic(auto, using(crate::proofs::Meeting::met_more, crate::proofs::Meeting::met_nobody))]
+pub(crate) fn met(peers: &[Peer], place: usize, now: u64, silence: u64) -> [Met; NODES]
+    ensures { AreMet MOST result peers.now }
+{
     let mut met = [Met {
         kept: None,
         is_here: false,
     }; NODES];
     for number in 0..NODES {
         if let Some(peer) = peers.get(number) {
-            met[number] = Met {
-                kept: peer.kept,
-                is_here: peer.open != Some(place) && peer.is_here(now, silence),
-            };
+            met[number] = met_of(peer, place, now, silence);
         }
     }
     met
@@ -89,11 +112,22 @@ pub(crate) fn met(peers: &[Peer], place: usize, now: u64, silence: u64) -> [Met;
 
 /// This life, where none is kept yet.
 pub(crate) fn first_life(kept: Option<Life>, life: Life) -> Option<Life>
-    ensures { IfSome result (λ first. first ≡ life) }
+    ensures first { result ≡ first_of kept life }
+    ensures life { IfSome result (λ first. first ≡ life) }
 {
     match kept {
         Some(_) => None,
         None => Some(life),
+    }
+}
+
+/// A peer is there from now on by the connection at a place. This life of its store is kept, if it is the first.
+#[tactic(auto, using(crate::proofs::Handing::back_at, crate::proofs::Handing::back_same))]
+fn join(peers: &mut Vec<Peer>, number: u8, life: Life, place: usize, now: u64)
+    ensures { GoBack peers.old.items peers.new.items }
+{
+    if let Some(peer) = peers.get_mut(number as usize) {
+        peer.meet(life, place, now);
     }
 }
 
@@ -102,7 +136,10 @@ impl Peers {
 
     /// What this node says first to another, over a connection of this kind.
     pub(crate) fn hello_to(&self, to: u8, link: Kind) -> Hello
-        ensures { result.link ≡ link }
+        ensures ours { IsOurs (own_of self.now) result }
+        ensures to { result.ends.to ≡ to }
+        ensures promised { result.promised ≡ self.now.promised }
+        ensures link { result.link ≡ link }
     {
         let kept = match self.peers.get(to as usize) {
             Some(peer) => peer.kept,
@@ -113,14 +150,14 @@ impl Peers {
 
     /// Answers the one who says this of himself and dialled at a place; another isn't answered. False where no nonce was
     /// drawn for that.
-    #[tactic(auto, using(crate::proofs::Growing::grew_on, crate::proofs::Growing::stayed, crate::proofs::Growing::stays_on))]
+    #[tactic(auto, using(crate::proofs::Growing::grew_on, crate::proofs::Growing::stayed, crate::proofs::Growing::stays_on, crate::proofs::Handing::handed_on, crate::proofs::Handing::handed_stays, crate::proofs::Handing::handed_grew))]
     pub(crate) fn answer<W: Wire>(&mut self, wire: &mut W, place: usize, ends: Ends) -> bool
         ensures { Grew self.old self.new (W.passed wire.old) (W.passed wire.new) }
     {
         if self.dialled_at(place).is_some() {
             return true;
         }
-        let Some(link) = drawn(self.lines.own.key, wire) else {
+        let Some(link) = drawn(self.lines.own.key.is_some(), wire) else {
             return false;
         };
         let own = self.hello_to(answered(&self.lines.own, ends), link);
@@ -142,7 +179,7 @@ impl Peers {
 
     /// The Hello that came over the line at a place is judged, as far as it can be now: where the connection is open then, its
     /// node is there.
-    #[tactic(auto, using(crate::proofs::Growing::grew_on, crate::proofs::Growing::stayed, crate::proofs::Growing::stays_on))]
+    #[tactic(auto, using(crate::proofs::Growing::grew_on, crate::proofs::Growing::stayed, crate::proofs::Growing::stays_on, crate::proofs::Handing::handed_on, crate::proofs::Handing::handed_stays, crate::proofs::Handing::handed_grew))]
     pub(crate) fn judge<W: Wire>(&mut self, wire: &mut W, place: usize, hello: &Hello, now: u64)
         ensures { Grew self.old self.new (W.passed wire.old) (W.passed wire.new) }
     {
@@ -200,20 +237,17 @@ impl Peers {
 
     /// A peer whose Hello opened the connection at a place is there by it; not where there is no memory to tell so: then that
     /// connection is let go of as one that doesn't open.
+    #[tactic(auto, using(crate::proofs::Handing::handed_on, crate::proofs::Handing::handed_stays, crate::proofs::Handing::handed_grew, crate::proofs::Handing::back_at, crate::proofs::Handing::goes_same, crate::proofs::Handing::goes_on))]
     pub(crate) fn meet(&mut self, place: usize, hello: &Hello, now: u64)
         requires { IsOpened (own_of self.old) (passed_of self.old) hello.now }
         ensures { Stays self.old self.new }
     {
-        let Some(peer) = self.peers.get_mut(hello.ends.from as usize) else {
-            return;
+        let life = match self.peers.get(hello.ends.from as usize) {
+            Some(peer) => first_life(peer.kept, hello.life),
+            None => return,
         };
-        let life = first_life(peer.kept, hello.life);
-        if !self.lines.note_joined(hello, life) {
-            return;
+        if self.lines.note_joined(hello, life) {
+            join(&mut self.peers, hello.ends.from, hello.life, place, now);
         }
-        if life.is_some() {
-            peer.kept = life;
-        }
-        peer.join(place, now);
     }
 }

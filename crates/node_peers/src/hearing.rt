@@ -1,6 +1,7 @@
 //! What came over the lines: who dialled, and what peers said.
 
 ghost use Rattle.std.specs.Prelude.{◌≡◌, ◌<◌};
+ghost use Rattle.node_peers.specs.Handing.{GoBack};
 
 use crate::limits::LINKS;
 use crate::lines::Came;
@@ -13,13 +14,16 @@ use node_wires::limits::STRANGERS;
 use peer_codes::{Beat, Hello};
 
 /// A frame of a peer came by the connection at a place, which answers this.
+#[tactic(auto, using(crate::proofs::Handing::back_at, crate::proofs::Handing::back_same))]
 pub(crate) fn take_frame(
     peers: &mut Vec<Peer>,
     from: u8,
     place: usize,
     answered: Option<Question>,
     now: u64,
-) {
+)
+    ensures { GoBack peers.old.items peers.new.items }
+{
     if let Some(peer) = peers.get_mut(from as usize) {
         if peer.open == Some(place) {
             peer.take_frame(answered, now);
@@ -28,7 +32,10 @@ pub(crate) fn take_frame(
 }
 
 /// A beat of a peer came by the connection at a place.
-pub(crate) fn take_beat(peers: &mut Vec<Peer>, from: u8, place: usize, beat: Beat, now: u64) {
+#[tactic(auto, using(crate::proofs::Handing::back_at, crate::proofs::Handing::back_same))]
+pub(crate) fn take_beat(peers: &mut Vec<Peer>, from: u8, place: usize, beat: Beat, now: u64)
+    ensures { GoBack peers.old.items peers.new.items }
+{
     if let Some(peer) = peers.get_mut(from as usize) {
         if peer.open == Some(place) {
             peer.take_beat(beat, now);
@@ -40,7 +47,7 @@ impl Peers {
     ghost use Rattle.node_peers.specs.Peering.{Grew};
 
     /// Takes in those who dialled, so many at most that none of them has to make room before he was heard.
-    #[tactic(auto, using(crate::proofs::Growing::grew_on, crate::proofs::Growing::stayed, crate::proofs::Growing::stays_on))]
+    #[tactic(auto, using(crate::proofs::Growing::grew_on, crate::proofs::Growing::stayed, crate::proofs::Growing::stays_on, crate::proofs::Handing::handed_on, crate::proofs::Handing::handed_stays, crate::proofs::Handing::handed_grew))]
     pub(crate) fn accept_all<W: Wire>(&mut self, wire: &mut W, now: u64)
         ensures { Grew self.old self.new (W.passed wire.old) (W.passed wire.new) }
     {
@@ -52,7 +59,7 @@ impl Peers {
     }
 
     /// Hears what the connection at a place says next. It says whether there may be more.
-    #[tactic(auto, using(crate::proofs::Growing::grew_on, crate::proofs::Growing::stayed, crate::proofs::Growing::stays_on))]
+    #[tactic(auto, using(crate::proofs::Growing::grew_on, crate::proofs::Growing::stayed, crate::proofs::Growing::stays_on, crate::proofs::Handing::handed_on, crate::proofs::Handing::handed_stays, crate::proofs::Handing::handed_grew))]
     pub(crate) fn hear_next<W: Wire>(&mut self, wire: &mut W, place: usize, now: u64) -> bool
         requires { place < LINKS }
         ensures { Grew self.old self.new (W.passed wire.old) (W.passed wire.new) }
@@ -122,7 +129,7 @@ impl Peers {
     }
 
     /// Reads what came over all lines.
-    #[tactic(auto, using(crate::proofs::Growing::grew_on, crate::proofs::Growing::stayed, crate::proofs::Growing::stays_on))]
+    #[tactic(auto, using(crate::proofs::Growing::grew_on, crate::proofs::Growing::stayed, crate::proofs::Growing::stays_on, crate::proofs::Handing::handed_on, crate::proofs::Handing::handed_stays, crate::proofs::Handing::handed_grew))]
     pub(crate) fn read_all<W: Wire>(&mut self, wire: &mut W)
         ensures { Grew self.old self.new (W.passed wire.old) (W.passed wire.new) }
     {

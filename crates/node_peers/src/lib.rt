@@ -7,7 +7,7 @@
 //! A frame may be lost here, and none is made up: each that is told of a peer came over one of its lines behind that node's
 //! Hello (`Peers::next`). Whatever wires give, what is promised of nodes holds.
 //!
-//! `peers` has the public calls, `greeting`, `dialling`, `hearing`, `ending` and `writing` the rules; `peer` what is known of one; `lines` the connections by their lines and what waits to be told,
+//! `peers` has the public calls, `greeting`, `dialling`, `hearing`, `ending` and `writing` the rules; `peer` what is known of one, with `measures`, what is measured of it; `lines` the connections by their lines and what waits to be told,
 //! over `links`, the connections of all places, and `link`, one of them; `saying` what one says.
 #![tactic(auto)]
 
@@ -19,6 +19,7 @@ pub mod limits;
 mod lines;
 mod link;
 mod links;
+mod measures;
 mod notice;
 mod peer;
 mod peers;

@@ -16,3 +16,6 @@ pub const BACKLOG: usize = 1024;
 
 /// One who dialled and isn't open after so long is let go.
 pub const STRANGER: u64 = 2_000_000;
+
+/// Once dials of a peer have come to nothing for so long that is told, and again each time that so long has passed.
+pub const UNREACHED: u64 = 60_000_000;

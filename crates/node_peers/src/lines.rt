@@ -1,24 +1,31 @@
 //! The connections over which nodes speak, by the places of their lines, and what is told of them.
 
-ghost use Rattle.std.specs.Prelude.{◌≡◌, ◌<◌, ◌++◌, ◌∷◌, [], IfOk, IfSome, Some};
+ghost use Rattle.std.specs.Prelude.{◌≡◌, ◌<◌, ◌++◌, ◌∷◌, [], true, IfOk, IfSome, Some};
+ghost use Rattle.node_peers.specs.declared.notice.Notice.TheVariants as notices;
 ghost use Rattle.node_wires.specs.Passages.{Began, Wrote};
-ghost use Rattle.node_wires.specs.declared.line.Line.TheVariants.{Peer};
+ghost use Rattle.node_wires.specs.declared.line.Line.TheVariants.{Peer, Caller};
 ghost use Rattle.node_links.specs.Going.{IsOfKey};
+ghost use Rattle.node_links.specs.Waiting.{IsBegun};
+ghost use Rattle.node_peers.specs.Greeting.{IsOurs};
+ghost use Rattle.node_peers.specs.Handing.{AreFor, peer_at};
 ghost use Rattle.node_peers.specs.Lines.{line_at};
+ghost use Rattle.node_peers.specs.Meeting.{IsKnownBy};
 ghost use Rattle.node_peers.specs.Noticing.{heard_of, heard_by};
 ghost use Rattle.node_peers.specs.Hearing.{Fits, fits_prop, IsTold, AreTold, are_told_prop, IsFresh, IsOpened};
 
-use crate::limits::{BACKLOG, LINKS};
+use crate::limits::{BACKLOG, LINKS, PIECE};
 use crate::link::{Link, Written, line_at};
 use crate::links::{
-    answer_at, begin_at, clear, next_at, no_links, put, read_at, refuse_at, settle_at, write_at,
+    answer_at, begin_at, clear, next_at, no_links, peer_in, put, read_at, refuse_at, settle_at,
+    write_at,
 };
 use crate::notice::Notice;
 use crate::saying::Saying;
-use node_links::{Connection, Met, Outbox, Own, PeerFault, Question, answered_in};
+use arrayvec::ArrayVec;
+use node_links::{Connection, KeptFrame, Met, Outbox, Own, PeerFault, Question, answered_in};
 use node_wires::limits::NODES;
 use node_wires::{Line, Passages, Wire};
-use peer_codes::{Beat, Hello, Life};
+use peer_codes::{Beat, Frame, Hello, Life};
 use std::alloc::{AllocError, Global};
 use std::collections::VecDeque;
 use std::net::IpAddr;
@@ -29,6 +36,9 @@ pub(crate) struct Lines {
     alloc: Global,
     pub(crate) own: Own,
     links: Vec<Option<Link>>,
+    /// The piece that was read last, and the frame that came last: each is taken in before the next.
+    piece: Vec<u8>,
+    frame: Frame,
     notices: VecDeque<Notice>,
     /// What passed over these lines, which frames were handed to the peers, and what was told of them, for clauses alone.
     passed: Passages,
@@ -64,12 +74,15 @@ fn note_told(notice: &Notice, heard: &mut Passages)
     ensures { heard.new.items ≡ heard.old.items ++ heard_of notice.now }
 {
     match notice {
-        Notice::Frame { from, frame } => heard.came(Line::Peer(*from), frame.bytes.as_slice()),
+        Notice::Frame { from, frame } => heard.came(Line::Peer(*from), frame.as_slice()),
         Notice::Joined { peer, life } => match life {
             Some(_) => heard.began(Line::Peer(*peer)),
             None => (),
         },
-        Notice::Gone { .. } | Notice::Refused { .. } | Notice::Strangers { .. } => (),
+        Notice::Gone { .. }
+        | Notice::Refused { .. }
+        | Notice::Unreached { .. }
+        | Notice::Strangers { .. } => (),
     }
 }
 
@@ -94,12 +107,17 @@ impl Lines {
         ensures heard { IfOk result (λ lines. lines.heard.items ≡ []) }
     {
         let links = no_links(alloc)?;
+        let piece = vec![in alloc; 0; PIECE]?;
         let notices = VecDeque::new(alloc);
         let passed = Passages::new();
         Ok(Lines {
             alloc,
             own,
             links,
+            piece,
+            frame: Frame {
+                bytes: ArrayVec::new(),
+            },
             notices,
             passed,
             sent: Passages::new(),
@@ -152,7 +170,8 @@ impl Lines {
     #[tactic(auto, using(crate::proofs::Fitting::one_told))]
     fn note(&mut self, notice: Notice) -> bool
         requires { IsTold self.old.own self.old.passed.items notice }
-        ensures { Stays self.old self.new }
+        ensures stays { Stays self.old self.new }
+        ensures waits { result ≡ true → self.new.notices.items ≡ self.old.notices.items ++ notice ∷ [] }
     {
         self.notices.push_back(notice).is_ok()
     }
@@ -163,7 +182,8 @@ impl Lines {
     pub(crate) fn note_joined(&mut self, hello: &Hello, life: Option<Life>) -> bool
         requires opened { IsOpened self.old.own self.old.passed.items hello.now }
         requires life { IfSome life (λ l. l ≡ hello.now.life) }
-        ensures { Stays self.old self.new }
+        ensures stays { Stays self.old self.new }
+        ensures waits { result ≡ true → self.new.notices.items ≡ self.old.notices.items ++ notices.Joined hello.now.ends.from life ∷ [] }
     {
         self.note(Notice::Joined {
             peer: hello.ends.from,
@@ -189,6 +209,13 @@ impl Lines {
         });
     }
 
+    /// Tells that dials of a peer come to nothing.
+    pub(crate) fn note_unreached(&mut self, peer: u8, refuses: bool)
+        ensures { Stays self.old self.new }
+    {
+        let _ = self.note(Notice::Unreached { peer, refuses });
+    }
+
     /// Tells how many callers were refused.
     pub(crate) fn note_strangers(&mut self, count: u32, fault: PeerFault)
         ensures { Stays self.old self.new }
@@ -209,24 +236,35 @@ impl Lines {
         put(&mut self.links, place, link);
     }
 
+    /// The connection of one who dialled begins. Apart from `accept`, since it makes room for a connection at its entry.
+    #[tactic(auto, using(crate::proofs::Fitting::caller_line, crate::proofs::Fitting::fresh_link))]
+    fn listen(&mut self, number: u8, now: u64)
+        ensures own { self.new.own ≡ self.old.own }
+        ensures silent { IsSilent self.old self.new }
+        ensures passed { self.new.passed.items ≡ self.old.passed.items ++ Began (Caller number) ∷ [] }
+    {
+        let place = NODES + number as usize;
+        let link = Link::new(Connection::listen(self.alloc, self.own.key), now);
+        self.begin(place, Line::Caller(number), link);
+    }
+
     /// Takes in the next one who dialled, if there is one.
-    #[tactic(auto, using(crate::proofs::Adding::one_added, crate::proofs::Growing::stayed, crate::proofs::Fitting::caller_line, crate::proofs::Fitting::fresh_link))]
+    #[tactic(auto, using(crate::proofs::Adding::one_added, crate::proofs::Growing::stayed))]
     pub(crate) fn accept<W: Wire>(&mut self, wire: &mut W, now: u64) -> bool
         ensures { Grew self.old self.new (W.passed wire.old) (W.passed wire.new) }
     {
         let Some(number) = wire.accept() else {
             return false;
         };
-        let place = NODES + number as usize;
-        let link = Link::new(Connection::listen(self.alloc, self.own.key), now);
-        self.begin(place, Line::Caller(number), link);
+        self.listen(number, now);
         true
     }
 
     /// Dials a peer, to which this is said first. False where that failed.
     #[tactic(auto, using(crate::proofs::Adding::one_added, crate::proofs::Growing::stayed, crate::proofs::Fitting::peer_line, crate::proofs::Fitting::fresh_link))]
     pub(crate) fn dial<W: Wire>(&mut self, wire: &mut W, number: u8, own: Hello, now: u64) -> bool
-        requires { IsOfKey self.old.own.key own.link }
+        requires key { IsOfKey self.old.own.key own.link }
+        requires ours { IsOurs self.old.own own }
         ensures { Grew self.old self.new (W.passed wire.old) (W.passed wire.new) }
     {
         let place = number as usize;
@@ -244,7 +282,13 @@ impl Lines {
         requires { place < LINKS }
         ensures { Grew self.old self.new (W.passed wire.old) (W.passed wire.new) }
     {
-        read_at(&mut self.links, &mut self.passed, wire, place);
+        read_at(
+            &mut self.links,
+            &mut self.passed,
+            wire,
+            place,
+            &mut self.piece,
+        );
     }
 
     /// Writes what was begun at a place.
@@ -256,20 +300,30 @@ impl Lines {
         write_at(&mut self.links, &mut self.passed, wire, place)
     }
 
+    /// The frame that came last, of this node, waits to be told. Without memory it is lost.
+    fn note_frame(&mut self, from: u8)
+        requires { IsTold self.old.own self.old.passed.items (notices.Frame from self.old.frame) }
+        ensures { Stays self.old self.new }
+    {
+        if let Ok(frame) = KeptFrame::new(self.alloc, self.frame.bytes.as_slice()) {
+            let _ = self.note(Notice::Frame { from, frame });
+        }
+    }
+
     /// What the connection at a place says next, or the fault that closed it. A frame waits to be told from then on; without
     /// memory it is lost, as one on the way may be.
     #[tactic(auto, using(crate::proofs::Fitting::told_now))]
     pub(crate) fn next(&mut self, place: usize) -> Option<Result<Came, PeerFault>>
         ensures { Stays self.old self.new }
     {
-        match next_at(&mut self.links, place) {
+        match next_at(&mut self.links, place, &mut self.frame) {
             Saying::Waits => None,
             Saying::Fault(fault) => Some(Err(fault)),
             Saying::Hello(hello) => Some(Ok(Came::Hello(hello))),
             Saying::Proved(hello) => Some(Ok(Came::Proved(hello))),
-            Saying::Frame { from, frame } => {
-                let answered = answered_in(frame.bytes.as_slice());
-                let _ = self.note(Notice::Frame { from, frame });
+            Saying::Frame { from } => {
+                let answered = answered_in(self.frame.bytes.as_slice());
+                self.note_frame(from);
                 Some(Ok(Came::Frame { from, answered }))
             }
             Saying::Beat { from, beat } => Some(Ok(Came::Beat { from, beat })),
@@ -283,6 +337,7 @@ impl Lines {
     pub(crate) fn settle(&mut self, place: usize, met: &[Met], from: u8) -> Option<Hello>
         ensures stays { Stays self.old self.new }
         ensures opened { IfSome result (λ hello. IsOpened self.new.own self.new.passed.items hello) }
+        ensures known { IsKnownBy self.old.own met.now result }
     {
         let own = self.own;
         settle_at(&mut self.links, place, &own, met, from)
@@ -290,6 +345,7 @@ impl Lines {
 
     /// Answers the one who dialled at a place with this node's own Hello.
     pub(crate) fn answer(&mut self, place: usize, own: Hello)
+        requires { IsOurs self.old.own own }
         ensures { Stays self.old self.new }
     {
         answer_at(&mut self.links, place, own);
@@ -297,9 +353,40 @@ impl Lines {
 
     /// Begins the next record at a place, of what waits for the peer that is there, if one is.
     pub(crate) fn say(&mut self, place: usize, waiting: &mut Outbox)
-        ensures { Stays self.old self.new }
+        requires { AreFor (peer_at self.old.links.items place) self.old.sent.items waiting.old.frames }
+        ensures stays { Stays self.old self.new }
+        ensures waiting { IsBegun waiting.old waiting.new }
     {
         begin_at(&mut self.links, place, waiting);
+    }
+
+    /// Begins at a place what is said before a peer is there.
+    #[tactic(auto, using(crate::proofs::Handing::none_for))]
+    pub(crate) fn say_first(&mut self, place: usize)
+        ensures { Stays self.old self.new }
+    {
+        let mut nothing = Outbox::new(self.alloc);
+        self.say(place, &mut nothing);
+    }
+
+    /// The node at the other end of the connection at a place, once it is open.
+    fn peer_at(&self, place: usize) -> Option<u8>
+        ensures { result ≡ peer_at self.now.links.items place }
+    {
+        match self.links.get(place) {
+            Some(slot) => peer_in(slot),
+            None => None,
+        }
+    }
+
+    /// Whether the connection at a place is open and this node is at its other end.
+    pub(crate) fn is_at(&self, place: usize, number: u8) -> bool
+        ensures { result ≡ true → peer_at self.now.links.items place ≡ Some number }
+    {
+        match self.peer_at(place) {
+            Some(there) => there == number,
+            None => false,
+        }
     }
 
     /// Closes the connection at a place.

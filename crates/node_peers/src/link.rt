@@ -1,17 +1,20 @@
 //! The connection of a line.
 
 ghost use Rattle.std.specs.Prelude.{◌≡◌, ◌<◌, IfSome, Some};
+ghost use Rattle.node_links.specs.Arriving.{told};
 ghost use Rattle.node_links.specs.Going.{peer_of};
 ghost use Rattle.node_links.specs.Talks.{Talk};
+ghost use Rattle.node_links.specs.Waiting.{IsBegun};
 ghost use Rattle.node_peers.specs.Lines.{line_at, dialled_over};
 ghost use Rattle.node_peers.specs.Adding.{Grows};
+ghost use Rattle.node_peers.specs.Meeting.{IsKnownBy};
 ghost use Rattle.node_peers.specs.Hearing.{IsOf, KeepsOn, Moves, OpensIn, TakesIn, SaysFrame};
 
-use crate::limits::{LINKS, PIECE, PIECES};
-use node_links::{Connection, Heard, Met, Outbox, Own, PeerFault};
+use crate::limits::{LINKS, PIECES};
+use node_links::{Arrived, Connection, Met, Outbox, Own, PeerFault};
 use node_wires::limits::NODES;
 use node_wires::{Halt, Line, Passages, Wire};
-use peer_codes::Hello;
+use peer_codes::{Frame, Hello};
 
 /// The connection of a line.
 #[derive(Drop)]
@@ -144,9 +147,16 @@ fn read_piece<W: Wire>(
     }
 }
 
-/// Reads what came over the line at a place, so many pieces at most. Nothing is read of one that a fault closed.
+/// Reads what came over the line at a place, so many pieces at most, each into this buffer. Nothing is read of one that a
+/// fault closed.
 #[tactic(auto, using(crate::proofs::Adding::nothing_added, crate::proofs::Adding::added_on, crate::proofs::Fitting::moves_still, crate::proofs::Fitting::moves_on))]
-pub(crate) fn read<W: Wire>(link: &mut Link, passed: &mut Passages, wire: &mut W, place: usize)
+pub(crate) fn read<W: Wire>(
+    link: &mut Link,
+    passed: &mut Passages,
+    wire: &mut W,
+    place: usize,
+    piece: &mut [u8],
+)
     requires { place < LINKS }
     ensures grows { Grows passed.old passed.new (W.passed wire.old) (W.passed wire.new) }
     ensures moves { Moves place (Some link.old) (Some link.new) passed.old.items passed.new.items }
@@ -155,9 +165,8 @@ pub(crate) fn read<W: Wire>(link: &mut Link, passed: &mut Passages, wire: &mut W
     if link.has_ended || link.connection.fault().is_some() {
         return;
     }
-    let mut piece = [0; PIECE];
     for _ in 0..PIECES {
-        if !read_piece(link, passed, wire, place, &mut piece) {
+        if !read_piece(link, passed, wire, place, piece) {
             return;
         }
     }
@@ -200,21 +209,22 @@ pub(crate) fn write<W: Wire>(
     }
 }
 
-/// What a connection says next, or the fault that closed it; nothing of one of which a piece was lost.
+/// What a connection says next, or the fault that closed it; nothing of one of which a piece was lost. A frame goes into the
+/// buffer.
 #[tactic(auto, using(crate::proofs::Fitting::keeps_still, crate::proofs::Fitting::keeps_on, crate::proofs::Fitting::says_next))]
-pub(crate) fn next_of(link: &mut Link) -> Option<Result<Heard, PeerFault>>
+pub(crate) fn next_of(link: &mut Link, frame: &mut Frame) -> Option<Result<Arrived, PeerFault>>
     ensures keeps { KeepsOn (Some link.old) (Some link.new) }
-    ensures says { SaysFrame result link.old link.new }
+    ensures says { SaysFrame (told result frame.new) link.old link.new }
 {
     if link.is_lost {
         return None;
     }
-    link.connection.next()
+    link.connection.next(frame)
 }
 
-/// Judges what this node said first, as far as it can be judged now. It answers that Hello where the connection is open; not
-/// where it has ended.
-#[tactic(auto, using(crate::proofs::Fitting::keeps_settled, crate::proofs::Fitting::opens_in))]
+/// Judges what this node said first, as far as it can be judged now. It answers that Hello where the connection is open by
+/// that; not where it has ended.
+#[tactic(auto, using(crate::proofs::Fitting::keeps_settled, crate::proofs::Fitting::opens_in, crate::proofs::Meeting::known_by))]
 pub(crate) fn settle(
     link: &mut Link,
     own: &Own,
@@ -224,10 +234,12 @@ pub(crate) fn settle(
 ) -> Option<Hello>
     ensures fits { (talk : Talk) → talk.dialled ≡ dialled → IsOf own.now talk (Some link.old) → IsOf own.now talk (Some link.new) }
     ensures opens { OpensIn own.now result (Some link.new) }
+    ensures known { IsKnownBy own.now met.now result }
 {
     link.said = Some(from);
+    let was_open = link.connection.taken().is_some();
     link.connection.settle(own, dialled, met);
-    if link.has_ended || link.is_lost {
+    if was_open || link.has_ended || link.is_lost {
         return None;
     }
     link.connection.taken()
@@ -251,7 +263,8 @@ pub(crate) fn peer_of(link: &Link) -> Option<u8>
 /// Begins on a connection what waits next.
 #[tactic(auto, using(crate::proofs::Fitting::keeps_on))]
 pub(crate) fn begin(link: &mut Link, waiting: &mut Outbox)
-    ensures { KeepsOn (Some link.old) (Some link.new) }
+    ensures keeps { KeepsOn (Some link.old) (Some link.new) }
+    ensures waiting { IsBegun waiting.old waiting.new }
 {
     link.connection.begin(waiting);
 }

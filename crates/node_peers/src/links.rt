@@ -4,8 +4,11 @@ ghost use Rattle.std.specs.Prelude.{◌≡◌, ◌<◌, ◌≤◌, ℕ, List, �
 ghost use Rattle.node_wires.specs.Passages.{Passage, Began};
 ghost use Rattle.node_links.specs.declared.own.Own.{Own};
 ghost use Rattle.node_links.specs.Talks.{Talk};
+ghost use Rattle.node_links.specs.Waiting.{IsBegun};
+ghost use Rattle.node_peers.specs.Handing.{peer_in};
 ghost use Rattle.node_peers.specs.Lines.{line_at, dialled_over};
 ghost use Rattle.node_peers.specs.Adding.{Grows};
+ghost use Rattle.node_peers.specs.Meeting.{IsKnownBy};
 ghost use Rattle.node_peers.specs.Hearing.{IsOf, FitsBy, Fits, IsFresh, KeepsOn, FitsOn, Moves, OpensAt, OpensIn, FitsThrough};
 ghost use Rattle.node_peers.specs.Saying.{SaidBy, SaidAt};
 
@@ -16,7 +19,7 @@ use crate::link::{
 use crate::saying::{Saying, saying_of};
 use node_links::{Met, Outbox, Own};
 use node_wires::{Passages, Wire};
-use peer_codes::Hello;
+use peer_codes::{Frame, Hello};
 use std::alloc::{AllocError, Global};
 
 /// Of each line none.
@@ -52,31 +55,38 @@ pub(crate) fn clear(links: &mut Vec<Option<Link>>, place: usize)
 
 /// Reads what came over the line at a place, where a connection is there.
 #[tactic(auto, using(crate::proofs::Adding::nothing_added, crate::proofs::Fitting::moves_same))]
-fn read_in<W: Wire>(slot: &mut Option<Link>, passed: &mut Passages, wire: &mut W, place: usize)
+fn read_in<W: Wire>(
+    slot: &mut Option<Link>,
+    passed: &mut Passages,
+    wire: &mut W,
+    place: usize,
+    piece: &mut [u8],
+)
     requires { place < LINKS }
     ensures grows { Grows passed.old passed.new (W.passed wire.old) (W.passed wire.new) }
     ensures moves { Moves place slot.old slot.new passed.old.items passed.new.items }
 {
     match slot {
-        Some(link) => read(link, passed, wire, place),
+        Some(link) => read(link, passed, wire, place, piece),
         None => (),
     }
 }
 
-/// Reads what came over the line at a place.
+/// Reads what came over the line at a place, by pieces that go into this buffer.
 #[tactic(auto, using(crate::proofs::Adding::nothing_added, crate::proofs::Fitting::fits_moved))]
 pub(crate) fn read_at<W: Wire>(
     links: &mut Vec<Option<Link>>,
     passed: &mut Passages,
     wire: &mut W,
     place: usize,
+    piece: &mut [u8],
 )
     requires { place < LINKS }
     ensures grows { Grows passed.old passed.new (W.passed wire.old) (W.passed wire.new) }
     ensures fits { FitsThrough passed.old.items passed.new.items links.old.items links.new.items }
 {
     match links.get_mut(place) {
-        Some(slot) => read_in(slot, passed, wire, place),
+        Some(slot) => read_in(slot, passed, wire, place, piece),
         None => (),
     }
 }
@@ -117,30 +127,30 @@ pub(crate) fn write_at<W: Wire>(
     }
 }
 
-/// What the connection of a line says next.
+/// What the connection of a line says next. A frame goes into the buffer.
 #[tactic(auto, using(crate::proofs::Fitting::said_of))]
-fn next_in(slot: &mut Option<Link>) -> Saying
+fn next_in(slot: &mut Option<Link>, frame: &mut Frame) -> Saying
     ensures keeps { KeepsOn slot.old slot.new }
-    ensures says { SaidBy result slot.old }
+    ensures says { SaidBy result frame.new slot.old }
 {
     match slot {
         Some(link) => {
-            let heard = next_of(link);
+            let arrived = next_of(link, frame);
             let from = peer_of(link);
-            saying_of(heard, from)
+            saying_of(arrived, from)
         }
         None => Saying::Waits,
     }
 }
 
-/// What the connection at a place says next.
+/// What the connection at a place says next. A frame goes into the buffer.
 #[tactic(auto, using(crate::proofs::Fitting::fits_kept, crate::proofs::Fitting::said_at))]
-pub(crate) fn next_at(links: &mut Vec<Option<Link>>, place: usize) -> Saying
+pub(crate) fn next_at(links: &mut Vec<Option<Link>>, place: usize, frame: &mut Frame) -> Saying
     ensures fits { FitsOn links.old.items links.new.items }
-    ensures says { SaidAt result place links.old.items }
+    ensures says { SaidAt result frame.new place links.old.items }
 {
     match links.get_mut(place) {
-        Some(slot) => next_in(slot),
+        Some(slot) => next_in(slot, frame),
         None => Saying::Waits,
     }
 }
@@ -155,6 +165,7 @@ fn settle_in(
 ) -> Option<Hello>
     ensures fits { (talk : Talk) → talk.dialled ≡ dialled → IsOf own.now talk slot.old → IsOf own.now talk slot.new }
     ensures opens { OpensIn own.now result slot.new }
+    ensures known { IsKnownBy own.now met.now result }
 {
     match slot {
         Some(link) => settle(link, own, dialled, met, from),
@@ -173,6 +184,7 @@ pub(crate) fn settle_at(
 ) -> Option<Hello>
     ensures fits { (talks : ℕ → Talk) → (talks place).dialled ≡ dialled_over (line_at place) → FitsBy own.now talks links.old.items → FitsBy own.now talks links.new.items }
     ensures opens { OpensAt own.now result place links.new.items }
+    ensures known { IsKnownBy own.now met.now result }
 {
     match links.get_mut(place) {
         Some(slot) => settle_in(slot, own, dialled_at(place), met, from),
@@ -202,10 +214,21 @@ pub(crate) fn answer_at(links: &mut Vec<Option<Link>>, place: usize, own: Hello)
     }
 }
 
+/// The node at the other end of the connection of a line, once it is open.
+pub(crate) fn peer_in(slot: &Option<Link>) -> Option<u8>
+    ensures { result ≡ peer_in slot.now }
+{
+    match slot {
+        Some(link) => peer_of(link),
+        None => None,
+    }
+}
+
 /// Begins the next record of a line.
-#[tactic(auto, using(crate::proofs::Fitting::keeps_same))]
+#[tactic(auto, using(crate::proofs::Fitting::keeps_same, crate::proofs::Handing::not_begun))]
 fn begin_in(slot: &mut Option<Link>, waiting: &mut Outbox)
-    ensures { KeepsOn slot.old slot.new }
+    ensures keeps { KeepsOn slot.old slot.new }
+    ensures waiting { IsBegun waiting.old waiting.new }
 {
     match slot {
         Some(link) => begin(link, waiting),
@@ -214,9 +237,10 @@ fn begin_in(slot: &mut Option<Link>, waiting: &mut Outbox)
 }
 
 /// Begins the next record at a place.
-#[tactic(auto, using(crate::proofs::Fitting::fits_kept))]
+#[tactic(auto, using(crate::proofs::Fitting::fits_kept, crate::proofs::Handing::not_begun))]
 pub(crate) fn begin_at(links: &mut Vec<Option<Link>>, place: usize, waiting: &mut Outbox)
-    ensures { FitsOn links.old.items links.new.items }
+    ensures fits { FitsOn links.old.items links.new.items }
+    ensures waiting { IsBegun waiting.old waiting.new }
 {
     match links.get_mut(place) {
         Some(slot) => begin_in(slot, waiting),

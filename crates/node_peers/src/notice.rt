@@ -1,5 +1,5 @@
-use node_links::PeerFault;
-use peer_codes::{Frame, Life};
+use node_links::{KeptFrame, PeerFault};
+use peer_codes::Life;
 use std::net::IpAddr;
 
 /// What a process is told of its peers.
@@ -8,7 +8,7 @@ pub enum Notice {
     /// A frame came of a peer.
     Frame {
         from: u8,
-        frame: Frame,
+        frame: KeptFrame,
     },
     /// A connection to a peer is open. Its store has this life, where none was kept of it: it is to be kept.
     Joined {
@@ -26,6 +26,12 @@ pub enum Notice {
         peer: u8,
         fault: PeerFault,
         source: Option<IpAddr>,
+    },
+    /// Dials of a peer have come to nothing for a minute; the last ended by itself, or wasn't answered. It is told once a
+    /// minute.
+    Unreached {
+        peer: u8,
+        refuses: bool,
     },
     /// So many callers who aren't known were refused since the last such notice, the last of them by this fault; there is
     /// one a second at most.

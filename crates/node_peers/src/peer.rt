@@ -1,22 +1,39 @@
-ghost use Rattle.std.specs.Prelude.{◌≡◌};
+ghost use Rattle.std.specs.Prelude.{◌≡◌, [], true, is_some};
 ghost use Rattle.node_peers.specs.Growing.{Stays};
+ghost use Rattle.node_peers.specs.Handing.{frames_for, GoesBack, GoesWith, AreFor, peer_at};
 ghost use Rattle.node_peers.specs.Sending.{IsSent};
 
+use crate::limits::UNREACHED;
 use crate::lines::Lines;
+use crate::measures::Measures;
 use crate::view::View;
 use clockwork::is_heard;
-use node_links::limits::{KEPT, WAITING};
+use node_links::limits::{DIALS, KEPT, WAITING};
 use node_links::{
-    Accepted, Asked, Dial, Forwarded, Notes, Outbox, Owed, OwnReport, PeerFault, Pulse, Question,
-    ends_block, longer, pause_after,
+    Accepted, Asked, Dial, DialDue, Forwarded, Notes, Outbox, Owed, OwnReport, PeerFault, Pulse,
+    Question, connect_wait, ends_block, longer, pause_after,
 };
-use peer_codes::{Beat, Frame, Life};
+use peer_codes::limits::{LEAST_FRAME, MOST_FRAME};
+use peer_codes::{Beat, Life};
 use std::alloc::Global;
+
+/// Dials of a peer that came to nothing.
+#[derive(Clone, Copy)]
+struct Missed {
+    /// When the first of them ended, or when it was told last.
+    since: u64,
+    /// The last ended by itself before it was given up.
+    refuses: bool,
+}
 
 /// What a process knows of a peer, and what waits for it.
 #[derive(Drop)]
 pub(crate) struct Peer {
     pub(crate) dial: Dial,
+    /// How many dials of it weren't answered, up to all of which one waits for long.
+    unanswered_dials: u8,
+    /// The dials that came to nothing since it was there last, if any did.
+    missed: Option<Missed>,
     /// How long it wasn't dialled behind the last refusal; 0 where a beat came since.
     pause: u64,
     /// Which faults of it were told, and when.
@@ -27,6 +44,8 @@ pub(crate) struct Peer {
     pub(crate) since: u64,
     /// When something last came over it.
     pub(crate) heard: u64,
+    /// What was measured of it lately, over all connections.
+    pub(crate) measures: Measures,
     /// The last beat that came over it.
     pub(crate) beat: Option<Beat>,
     /// The first life of its store that was seen.
@@ -47,14 +66,19 @@ impl Peer {
     ghost use Rattle.node_peers.specs.Viewing.{seen_as};
 
     /// Nothing is known but the life that is kept of its store.
-    pub(crate) fn new(alloc: Global, kept: Option<Life>) -> Peer {
+    pub(crate) fn new(alloc: Global, kept: Option<Life>) -> Peer
+        ensures { frames_for result ≡ [] }
+    {
         Peer {
             dial: Dial::new(),
+            unanswered_dials: 0,
+            missed: None,
             pause: 0,
             notes: Notes::new(),
             open: None,
             since: 0,
             heard: 0,
+            measures: Measures::new(),
             beat: None,
             kept,
             pulse: Pulse::new(),
@@ -68,8 +92,33 @@ impl Peer {
         }
     }
 
+    /// The peer is dialled.
+    #[tactic(auto, using(crate::proofs::Handing::goes_same, crate::proofs::Handing::goes_on))]
+    pub(crate) fn begin_dial(&mut self, now: u64)
+        ensures { GoesBack self.old self.new }
+    {
+        self.dial = Dial::Dialled {
+            since: now,
+            most: connect_wait(self.unanswered_dials),
+        };
+    }
+
+    /// What was dialled is given up: the next dial may wait longer, where this one wasn't answered.
+    #[tactic(auto, using(crate::proofs::Handing::goes_same, crate::proofs::Handing::goes_on))]
+    pub(crate) fn give_up_dial(&mut self)
+        ensures { GoesBack self.old self.new }
+    {
+        if matches!(self.dial, Dial::Dialled { .. }) {
+            self.unanswered_dials = (self.unanswered_dials % DIALS + 1) % DIALS;
+        }
+    }
+
     /// The connection that was dialled ended; where nothing came of it but its Hello that may have been a refusal.
-    pub(crate) fn end_dial(&mut self, now: u64, is_fruitless: bool) {
+    #[tactic(auto, using(crate::proofs::Handing::goes_same, crate::proofs::Handing::goes_on))]
+    pub(crate) fn end_dial(&mut self, now: u64, is_fruitless: bool)
+        ensures { GoesBack self.old self.new }
+    {
+        self.note_missed(now);
         if is_fruitless {
             self.pause = longer(self.pause);
             self.dial = self.dial.ended(now, Some(self.pause));
@@ -78,31 +127,100 @@ impl Peer {
         }
     }
 
+    /// A dial ends: it came to nothing where it is given up, or wasn't answered.
+    #[tactic(auto, using(crate::proofs::Handing::goes_same))]
+    fn note_missed(&mut self, now: u64)
+        ensures { GoesBack self.old self.new }
+    {
+        let is_given_up = self.dial.due(now) == DialDue::GiveUp;
+        if is_given_up || matches!(self.dial, Dial::Dialled { .. }) {
+            let since = match self.missed {
+                Some(missed) => missed.since,
+                None => now,
+            };
+            self.missed = Some(Missed {
+                since,
+                refuses: !is_given_up,
+            });
+        }
+    }
+
+    /// Whether it is told now that dials come to nothing; then whether the last ended by itself.
+    #[tactic(auto, using(crate::proofs::Handing::goes_same))]
+    pub(crate) fn tell_missed(&mut self, now: u64) -> Option<bool>
+        ensures { GoesBack self.old self.new }
+    {
+        let missed = self.missed?;
+        if now.saturating_sub(missed.since) < UNREACHED {
+            return None;
+        }
+        self.missed = Some(Missed {
+            since: now,
+            refuses: missed.refuses,
+        });
+        Some(missed.refuses)
+    }
+
     /// The connection that was dialled is closed by this fault.
-    pub(crate) fn refuse_dial(&mut self, fault: PeerFault, now: u64) {
+    #[tactic(auto, using(crate::proofs::Handing::goes_same, crate::proofs::Handing::goes_on))]
+    pub(crate) fn refuse_dial(&mut self, fault: PeerFault, now: u64)
+        ensures { GoesBack self.old self.new }
+    {
         self.pause = pause_after(fault, self.pause);
         self.dial = self.dial.ended(now, Some(self.pause));
     }
 
     /// Whether this fault of the peer is told now.
-    pub(crate) fn tells(&mut self, fault: PeerFault, now: u64) -> bool {
+    #[tactic(auto, using(crate::proofs::Handing::goes_same, crate::proofs::Handing::goes_on))]
+    pub(crate) fn tells(&mut self, fault: PeerFault, now: u64) -> bool
+        ensures { GoesBack self.old self.new }
+    {
         self.notes.tell(fault, now)
     }
 
+    /// The connection at this place is open, by a Hello with this life, which is kept if it is the first.
+    #[tactic(auto, using(crate::proofs::Handing::goes_same, crate::proofs::Handing::goes_on))]
+    pub(crate) fn meet(&mut self, life: Life, place: usize, now: u64)
+        ensures { GoesBack self.old self.new }
+    {
+        self.keep(life);
+        self.join(place, now);
+    }
+
+    /// This life of the peer's store is kept, if it is the first.
+    #[tactic(auto, using(crate::proofs::Handing::goes_same, crate::proofs::Handing::goes_kept))]
+    fn keep(&mut self, life: Life)
+        ensures goes { GoesBack self.old self.new }
+        ensures kept { is_some self.new.kept ≡ true }
+    {
+        match self.kept {
+            Some(_) => (),
+            None => self.kept = Some(life),
+        }
+    }
+
     /// The connection at this place is open: what waits goes over it, and the last Accepted again.
-    pub(crate) fn join(&mut self, place: usize, now: u64) {
+    #[tactic(auto, using(crate::proofs::Handing::goes_same, crate::proofs::Handing::goes_on))]
+    fn join(&mut self, place: usize, now: u64)
+        ensures { GoesBack self.old self.new }
+    {
         self.open = Some(place);
         self.since = now;
         self.heard = now;
         self.beat = None;
         self.pulse = Pulse::new();
         self.dial = self.dial.opened();
+        self.missed = None;
         self.owed.opened();
         self.repeat(now);
     }
 
     /// The connection ended: of what waits the newest stays.
-    pub(crate) fn part(&mut self, now: u64) {
+    #[tactic(auto, using(crate::proofs::Handing::goes_newest))]
+    pub(crate) fn part(&mut self, now: u64)
+        ensures { GoesBack self.old self.new }
+    {
+        self.measures.settle(self.pulse.got, self.heard, now);
         self.open = None;
         self.since = now;
         self.beat = None;
@@ -118,24 +236,25 @@ impl Peer {
 
     /// A frame goes to the peer, or is dropped: an Ask that comes too soon behind another, and what is too old where too
     /// many wait.
-    #[tactic(auto, using(crate::proofs::Sending::put_sent))]
+    #[tactic(auto, using(crate::proofs::Sending::put_sent, crate::proofs::Handing::goes_same, crate::proofs::Handing::goes_unsent))]
     pub(crate) fn send(&mut self, bytes: &[u8], now: u64)
-        ensures { IsSent bytes.now self.old.outbox.frames self.new.outbox.frames }
+        ensures sent { IsSent bytes.now self.old.outbox.frames self.new.outbox.frames }
+        ensures goes { GoesWith bytes.now self.old self.new }
     {
-        let Some(frame) = Frame::new(bytes) else {
+        if bytes.len() < LEAST_FRAME || bytes.len() > MOST_FRAME {
             return;
-        };
+        }
         let round_trip = self.round_trip();
         if !self.asked.lets(bytes, now, round_trip) {
             return;
         }
-        self.accepted.keep(&frame, now);
+        self.accepted.keep(bytes, now);
         self.has_told = self.has_told || ends_block(bytes);
-        self.forwarded.keep(&frame, now);
+        self.forwarded.keep(bytes, now);
         self.owed.asked(bytes);
         let most = if self.open.is_some() { WAITING } else { KEPT };
         // A frame for which there is no memory is lost, as one on the way may be.
-        let _ = self.outbox.put(frame, most);
+        let _ = self.outbox.put(bytes, most);
     }
 
     /// How long the way to the peer and back last took; 0 where that isn't measured yet.
@@ -154,7 +273,7 @@ impl Peer {
             is_open: self.open.is_some(),
             since: self.since,
             heard: self.heard,
-            round_trip: self.pulse.round_trip,
+            measured: self.measures.counted,
             beat: self.beat,
             accepted: self.accepted.slot(),
             unanswered: self.owed.unanswered,
@@ -162,50 +281,86 @@ impl Peer {
     }
 
     /// So much of the time that went by until now isn't counted as the peer's silence.
-    pub(crate) fn forgive(&mut self, lost: u64, now: u64) {
+    #[tactic(auto, using(crate::proofs::Handing::goes_same, crate::proofs::Handing::goes_on))]
+    pub(crate) fn forgive(&mut self, lost: u64, now: u64)
+        ensures { GoesBack self.old self.new }
+    {
         self.heard = self.heard.saturating_add(lost).min(now);
     }
 
     /// The last Accepted that went to the peer goes again.
-    fn repeat(&mut self, now: u64) {
-        if let Some(frame) = self.accepted.again(now) {
-            let _ = self.outbox.put(frame, WAITING);
+    #[tactic(auto, using(crate::proofs::Handing::goes_same, crate::proofs::Handing::goes_repeated))]
+    fn repeat(&mut self, now: u64)
+        ensures { GoesBack self.old self.new }
+    {
+        self.accepted.go_again(now);
+        if let Some(frame) = self.accepted.frame() {
+            let _ = self.outbox.put_again(frame, WAITING);
         }
     }
 
     /// The last act that went on to the peer goes again, where that is due.
-    fn forward_again(&mut self, now: u64) {
+    #[tactic(auto, using(crate::proofs::Handing::goes_same, crate::proofs::Handing::goes_forwarded))]
+    fn forward_again(&mut self, now: u64)
+        ensures { GoesBack self.old self.new }
+    {
         if self.forwarded.wait(now) > 0 {
             return;
         }
-        if let Some(frame) = self.forwarded.again(now) {
-            let _ = self.outbox.put(frame, WAITING);
+        self.forwarded.go_again(now);
+        if let Some(frame) = self.forwarded.frame() {
+            let _ = self.outbox.put_again(frame, WAITING);
         }
     }
 
     /// What goes again goes, where no frame waits already: the last Accepted where the peer is behind this front, and the
     /// last act that went on to it.
-    fn say_again(&mut self, front: u32, now: u64) {
+    #[tactic(auto, using(crate::proofs::Handing::goes_same, crate::proofs::Handing::goes_on))]
+    fn say_again(&mut self, front: u32, now: u64)
+        ensures { GoesBack self.old self.new }
+    {
         if self.outbox.count() > 0 {
             return;
         }
+        self.accept_again(front, now);
+        self.forward_again(now);
+    }
+
+    /// The last Accepted goes again, where that is due and the peer is behind this front.
+    #[tactic(auto, using(crate::proofs::Handing::goes_same, crate::proofs::Handing::goes_on))]
+    fn accept_again(&mut self, front: u32, now: u64)
+        ensures { GoesBack self.old self.new }
+    {
         if self.is_behind(front) && self.accepted.is_due(now) {
             self.repeat(now);
         }
-        self.forward_again(now);
     }
 
     /// Behind a block of slots the last Accepted goes again, so that a peer which is behind asks for the next one: the node
     /// that it asked before may be lost.
-    fn lead_on(&mut self, front: u32, now: u64) {
-        if self.has_told && self.is_behind(front) {
-            self.repeat(now);
-        }
+    #[tactic(auto, using(crate::proofs::Handing::goes_same, crate::proofs::Handing::goes_on))]
+    fn lead_on(&mut self, front: u32, now: u64)
+        ensures { GoesBack self.old self.new }
+    {
+        self.lead_on_behind(front, now);
         self.has_told = false;
     }
 
+    /// The same, where a block was told to its end and the peer is behind this front.
+    #[tactic(auto, using(crate::proofs::Handing::goes_same, crate::proofs::Handing::goes_on))]
+    fn lead_on_behind(&mut self, front: u32, now: u64)
+        ensures { GoesBack self.old self.new }
+    {
+        if self.has_told && self.is_behind(front) {
+            self.repeat(now);
+        }
+    }
+
     /// This node's front is told: once it has moved, an act that went on needn't go again.
-    fn note_front(&mut self, front: u32) {
+    #[tactic(auto, using(crate::proofs::Handing::goes_same, crate::proofs::Handing::goes_forgotten))]
+    fn note_front(&mut self, front: u32)
+        ensures { GoesBack self.old self.new }
+    {
         if self.front != front {
             self.forwarded.forget();
         }
@@ -218,17 +373,28 @@ impl Peer {
     }
 
     /// Tells the peer how this node is, where a beat is due over an open connection, and says again what is to go again.
-    pub(crate) fn tell(&mut self, told: OwnReport, now: u64) {
+    #[tactic(auto, using(crate::proofs::Handing::goes_same, crate::proofs::Handing::goes_on))]
+    pub(crate) fn tell(&mut self, told: OwnReport, now: u64)
+        ensures { GoesBack self.old self.new }
+    {
         self.note_front(told.front);
         if self.open.is_none() {
             return;
         }
+        self.tell_beat(told, now);
+        self.lead_on(told.front, now);
+        self.say_again(told.front, now);
+    }
+
+    /// A beat waits for the peer, where one is due.
+    #[tactic(auto, using(crate::proofs::Handing::goes_same, crate::proofs::Handing::goes_on))]
+    fn tell_beat(&mut self, told: OwnReport, now: u64)
+        ensures { GoesBack self.old self.new }
+    {
         if self.pulse.wait(now) == 0 {
             let beat = self.pulse.beat(told, now);
             self.outbox.tell(beat);
         }
-        self.lead_on(told.front, now);
-        self.say_again(told.front, now);
     }
 
     /// Whether the peer's last beat tells a front below this.
@@ -240,22 +406,61 @@ impl Peer {
     }
 
     /// Begins at a place what waits next for the peer.
+    #[tactic(auto, using(crate::proofs::Handing::goes_begun))]
     pub(crate) fn begin(&mut self, lines: &mut Lines, place: usize)
-        ensures { Stays lines.old lines.new }
+        requires { AreFor (peer_at lines.old.links.items place) lines.old.sent.items self.old.outbox.frames }
+        ensures stays { Stays lines.old lines.new }
+        ensures goes { GoesBack self.old self.new }
     {
         lines.say(place, &mut self.outbox);
     }
 
-    /// A frame came, which answers this.
-    pub(crate) fn take_frame(&mut self, answered: Option<Question>, now: u64) {
+    /// The connection is closed because the peer has been silent for too long.
+    #[tactic(auto, using(crate::proofs::Handing::goes_same, crate::proofs::Handing::goes_on))]
+    pub(crate) fn close(&mut self, now: u64)
+        ensures { GoesBack self.old self.new }
+    {
+        self.measures.close(now.saturating_sub(self.heard), now);
+    }
+
+    /// Whether the peer has been silent for so long that its connection is closed, where one that is present is silent for
+    /// `silence` at most.
+    pub(crate) fn is_lost(&self, now: u64, silence: u64) -> bool {
+        !is_heard(self.heard, now, self.measures.closing(silence, now))
+    }
+
+    /// Something came over the connection. No way is measured over a long silence, which is measured itself.
+    #[tactic(auto, using(crate::proofs::Handing::goes_same, crate::proofs::Handing::goes_on))]
+    fn hear(&mut self, now: u64)
+        ensures { GoesBack self.old self.new }
+    {
+        if self.measures.hear(self.heard, self.pulse.got, now) {
+            self.pulse.probe = None;
+        }
         self.heard = now;
+    }
+
+    /// A frame came, which answers this.
+    #[tactic(auto, using(crate::proofs::Handing::goes_same, crate::proofs::Handing::goes_on))]
+    pub(crate) fn take_frame(&mut self, answered: Option<Question>, now: u64)
+        ensures { GoesBack self.old self.new }
+    {
+        self.hear(now);
         self.owed.heard(answered);
     }
 
-    /// A beat came.
-    pub(crate) fn take_beat(&mut self, beat: Beat, now: u64) {
-        self.heard = now;
+    /// A beat came, by which the way may have been measured.
+    #[tactic(auto, using(crate::proofs::Handing::goes_same, crate::proofs::Handing::goes_on))]
+    pub(crate) fn take_beat(&mut self, beat: Beat, now: u64)
+        ensures { GoesBack self.old self.new }
+    {
+        self.hear(now);
+        let is_awaited = self.pulse.probe.is_some();
         self.pulse.heard(&beat, now);
+        if is_awaited && self.pulse.probe.is_none() {
+            let passed = self.round_trip();
+            self.measures.go_there_and_back(passed, now);
+        }
         self.beat = Some(beat);
         self.pause = 0;
     }

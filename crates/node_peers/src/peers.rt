@@ -1,7 +1,8 @@
 //! A process's connections to its peers.
 
-ghost use Rattle.std.specs.Prelude.{◌≡◌, ℕ, [], ◌∷◌, ◌++◌, IfOk, IfSome};
+ghost use Rattle.std.specs.Prelude.{◌≡◌, ◌<◌, ℕ, [], ◌∷◌, ◌++◌, length, get_or, IfOk, IfSome};
 ghost use Rattle.node_peers.specs.Hearing.{IsTold};
+ghost use Rattle.node_peers.specs.Handing.{frames_for, GoBack, AreHanded, are_handed_prop};
 ghost use Rattle.node_wires.specs.Passages.{Wrote, seats_in, wrote_over, logged_in};
 ghost use Rattle.node_wires.specs.declared.line.Line.TheVariants.{Seat, Peer as ToPeer};
 
@@ -10,7 +11,7 @@ use crate::notice::Notice;
 use crate::peer::Peer;
 use crate::view::View;
 use node_links::limits::{LOOK, NODES};
-use node_links::{Dial, DialDue, Outbox, Own, OwnReport, Refusals};
+use node_links::{Dial, DialDue, Own, OwnReport, Refusals};
 use node_wires::Wire;
 use paxos_wire::Ballot;
 use peer_codes::Life;
@@ -31,8 +32,7 @@ pub struct Peers {
     pub(crate) refusals: Refusals,
     /// When what came was last taken, or was to be.
     pub(crate) looked: u64,
-    /// What waits for those who aren't known yet: nothing.
-    pub(crate) nothing: Outbox,
+    ghost handed: { AreHanded lines.sent.items peers.items } by { are_handed_prop lines.sent.items peers.items },
 }
 
 /// By hand, so that letting one go is one call for whoever owns it (docs/ARCHITECTURE.md, Habits).
@@ -45,13 +45,15 @@ impl Drop for Peers {
             peers: _,
             refusals: _,
             looked: _,
-            nothing: _,
         } = self;
     }
 }
 
 /// Of each node what is known before anything came.
-fn unmet(alloc: Global, nodes: u8, kept: &[Option<Life>]) -> Result<Vec<Peer>, AllocError> {
+#[tactic(auto, using(crate::proofs::Handing::none_for_one))]
+fn unmet(alloc: Global, nodes: u8, kept: &[Option<Life>]) -> Result<Vec<Peer>, AllocError>
+    ensures { IfOk result (λ peers. (number : ℕ) (nobody : Peer) → number < length peers.items → frames_for (get_or peers.items number nobody) ≡ []) }
+{
     let mut peers = Vec::with_capacity(alloc, nodes as usize)?;
     for number in 0..nodes as usize {
         let life = match kept.get(number) {
@@ -70,6 +72,7 @@ impl Peers {
     ghost use Rattle.node_peers.specs.Viewing.{view_of};
 
     /// No connection is there. Of each node `kept` has the life that is kept of its store, if one is.
+    #[tactic(auto, using(crate::proofs::Handing::none_handed))]
     pub fn new(
         alloc: Global,
         own: Own,
@@ -88,7 +91,6 @@ impl Peers {
             peers: unmet(alloc, own.nodes, kept)?,
             refusals: Refusals::new(),
             looked: 0,
-            nothing: Outbox::new(alloc),
         })
     }
 
@@ -119,6 +121,7 @@ impl Peers {
     /// which was taken; with a key as the next record coded on that node's way of the connection, behind that Hello and its
     /// proof under the key, over it and this node's own, which is the first that was written to the line. A node is told to be
     /// there, and its life to be kept, only by a Hello that opened a connection: with a key behind its proof.
+    #[tactic(auto, using(crate::proofs::Handing::handed_on, crate::proofs::Handing::handed_stays, crate::proofs::Handing::handed_grew))]
     pub fn next(&mut self) -> Option<Notice>
         ensures keeps { Keeps self.old self.new }
         ensures frames { frames_of self.new ≡ frames_of self.old }
@@ -149,7 +152,7 @@ impl Peers {
     }
 
     /// Takes what came, but not while too much waits to be told: what isn't read then is no silence.
-    #[tactic(auto, using(crate::proofs::Growing::grew_on, crate::proofs::Growing::stayed, crate::proofs::Growing::stays_on))]
+    #[tactic(auto, using(crate::proofs::Growing::grew_on, crate::proofs::Growing::stayed, crate::proofs::Growing::stays_on, crate::proofs::Handing::handed_on, crate::proofs::Handing::handed_stays, crate::proofs::Handing::handed_grew))]
     fn take_unless_full<W: Wire>(&mut self, wire: &mut W, now: u64)
         ensures { Grew self.old self.new (W.passed wire.old) (W.passed wire.new) }
     {
@@ -202,7 +205,7 @@ impl Peers {
     ///
     /// Of the frames that wait for that node the oldest are dropped where too many do, and the frame itself where it is an
     /// Ask that comes too soon behind another, where it is none by its length, and where there is no memory.
-    #[tactic(auto, using(crate::proofs::Sending::sent_at, crate::proofs::Sending::nobody_sent))]
+    #[tactic(auto, using(crate::proofs::Sending::sent_at, crate::proofs::Sending::nobody_sent, crate::proofs::Handing::handed_sent, crate::proofs::Handing::handed_to_nobody))]
     pub fn send(&mut self, to: u8, frame: &[u8], now: u64)
         ensures keeps { Keeps self.old self.new }
         ensures frames { frames_of self.new ≡ frames_of self.old ++ Wrote (ToPeer to) frame.now ∷ [] }
@@ -216,6 +219,7 @@ impl Peers {
     }
 
     /// Tells each peer how this node is, where that is due.
+    #[tactic(auto, using(crate::proofs::Handing::handed_on, crate::proofs::Handing::handed_stays, crate::proofs::Handing::handed_grew))]
     pub fn tell(&mut self, told: OwnReport, now: u64)
         ensures { Stays self.old self.new }
     {
@@ -243,6 +247,7 @@ impl Peers {
     }
 
     /// So much of the time that went by until now isn't counted as silence: the process was stopped, or in a long call.
+    #[tactic(auto, using(crate::proofs::Handing::handed_on, crate::proofs::Handing::handed_stays, crate::proofs::Handing::handed_grew))]
     pub fn forgive(&mut self, lost: u64, now: u64)
         ensures { Stays self.old self.new }
     {
@@ -281,7 +286,10 @@ impl Peers {
 }
 
 /// Tells each peer how this node is, where that is due.
-fn tell_all(peers: &mut Vec<Peer>, told: OwnReport, now: u64) {
+#[tactic(auto, using(crate::proofs::Handing::back_at, crate::proofs::Handing::back_same, crate::proofs::Handing::back_on))]
+fn tell_all(peers: &mut Vec<Peer>, told: OwnReport, now: u64)
+    ensures { GoBack peers.old.items peers.new.items }
+{
     for number in 0..NODES {
         if let Some(peer) = peers.get_mut(number) {
             peer.tell(told, now);
@@ -290,7 +298,10 @@ fn tell_all(peers: &mut Vec<Peer>, told: OwnReport, now: u64) {
 }
 
 /// So much of the time that went by isn't counted as any peer's silence.
-fn forgive_all(peers: &mut Vec<Peer>, lost: u64, now: u64) {
+#[tactic(auto, using(crate::proofs::Handing::back_at, crate::proofs::Handing::back_same, crate::proofs::Handing::back_on))]
+fn forgive_all(peers: &mut Vec<Peer>, lost: u64, now: u64)
+    ensures { GoBack peers.old.items peers.new.items }
+{
     for number in 0..NODES {
         if let Some(peer) = peers.get_mut(number) {
             peer.forgive(lost, now);

@@ -3,11 +3,11 @@
 ghost use Rattle.std.specs.Prelude.{◌≡◌};
 ghost use Rattle.node_peers.specs.Saying.{saying_of};
 
-use node_links::{Heard, PeerFault};
-use peer_codes::{Beat, Frame, Hello};
+use node_links::{Arrived, PeerFault};
+use peer_codes::{Beat, Hello};
 
-/// What is said by a connection, and by which node, where it is open.
-#[derive(Drop)]
+/// What is said by a connection, and by which node, where it is open. The buffer has the frame.
+#[derive(Clone, Copy)]
 pub(crate) enum Saying {
     /// Nothing yet.
     Waits,
@@ -15,7 +15,7 @@ pub(crate) enum Saying {
     Hello(Hello),
     /// That this Hello is proved.
     Proved(Hello),
-    Frame { from: u8, frame: Frame },
+    Frame { from: u8 },
     Beat { from: u8, beat: Beat },
     /// A frame or a beat of nobody.
     Nothing,
@@ -23,20 +23,20 @@ pub(crate) enum Saying {
     Fault(PeerFault),
 }
 
-/// What was heard of a connection at whose other end this node is.
-pub(crate) fn saying_of(heard: Option<Result<Heard, PeerFault>>, from: Option<u8>) -> Saying
-    ensures { result ≡ saying_of heard from }
+/// What arrived over a connection at whose other end this node is.
+pub(crate) fn saying_of(arrived: Option<Result<Arrived, PeerFault>>, from: Option<u8>) -> Saying
+    ensures { result ≡ saying_of arrived from }
 {
-    match heard {
+    match arrived {
         None => Saying::Waits,
         Some(Err(fault)) => Saying::Fault(fault),
-        Some(Ok(Heard::Hello(hello))) => Saying::Hello(hello),
-        Some(Ok(Heard::Proved(hello))) => Saying::Proved(hello),
-        Some(Ok(Heard::Frame(frame))) => match from {
-            Some(from) => Saying::Frame { from, frame },
+        Some(Ok(Arrived::Hello(hello))) => Saying::Hello(hello),
+        Some(Ok(Arrived::Proved(hello))) => Saying::Proved(hello),
+        Some(Ok(Arrived::Frame)) => match from {
+            Some(from) => Saying::Frame { from },
             None => Saying::Nothing,
         },
-        Some(Ok(Heard::Beat(beat))) => match from {
+        Some(Ok(Arrived::Beat(beat))) => match from {
             Some(from) => Saying::Beat { from, beat },
             None => Saying::Nothing,
         },

@@ -1,3 +1,4 @@
+use clockwork::Longest;
 use node_links::Question;
 use peer_codes::Beat;
 
@@ -10,8 +11,9 @@ pub struct View {
     pub since: u64,
     /// When something last came over it.
     pub heard: u64,
-    /// How long the way there and back last took, once that was measured over it.
-    pub round_trip: Option<u64>,
+    /// What was measured of it lately, over all connections of this process: of two ways there and back in a row the shorter one, and its
+    /// silences above `A_SILENCE` that ended with something heard, and in which it stood (it told few beats).
+    pub measured: Longest,
     /// The last beat that came over it.
     pub beat: Option<Beat>,
     /// The slot of the last Accepted that was sent to it, of several the first.

@@ -11,13 +11,17 @@ impl Peers {
     ghost use Rattle.node_peers.specs.Peering.{Grew, Stays};
 
     /// Begins the next record at a place: of what waits for the peer that is there, or what is said before one is.
+    #[tactic(auto, using(crate::proofs::Handing::handed_on, crate::proofs::Handing::handed_stays, crate::proofs::Handing::handed_grew, crate::proofs::Handing::back_at))]
     pub(crate) fn begin(&mut self, place: usize)
         ensures { Stays self.old self.new }
     {
         let Some(number) = self.joined_at(place) else {
-            self.lines.say(place, &mut self.nothing);
+            self.lines.say_first(place);
             return;
         };
+        if !self.lines.is_at(place, number) {
+            return;
+        }
         if let Some(peer) = self.peers.get_mut(number as usize) {
             peer.begin(&mut self.lines, place);
         }
@@ -32,6 +36,7 @@ impl Peers {
     }
 
     /// Something could be written at a place: where that is a dial, it was answered.
+    #[tactic(auto, using(crate::proofs::Handing::handed_on, crate::proofs::Handing::handed_stays, crate::proofs::Handing::handed_grew, crate::proofs::Handing::back_at, crate::proofs::Handing::goes_same))]
     pub(crate) fn note_written(&mut self, place: usize, now: u64)
         ensures { Stays self.old self.new }
     {
@@ -43,7 +48,7 @@ impl Peers {
     }
 
     /// Begins what waits next at a place, and writes of it what there is room for.
-    #[tactic(auto, using(crate::proofs::Growing::grew_on, crate::proofs::Growing::stayed))]
+    #[tactic(auto, using(crate::proofs::Growing::grew_on, crate::proofs::Growing::stayed, crate::proofs::Handing::handed_on, crate::proofs::Handing::handed_stays, crate::proofs::Handing::handed_grew))]
     fn write_next<W: Wire>(&mut self, wire: &mut W, place: usize) -> Written
         requires { place < LINKS }
         ensures { Grew self.old self.new (W.passed wire.old) (W.passed wire.new) }

@@ -6,5 +6,5 @@ use Rattle.node_peers.proofs.lines.Lines.next.Goals as goal
 pub invariant_of-self : goal.invariant_of-self
 invariant_of-self c = record { fits = c.next_at.ensures.fits c.args.self.now.own (λ place. talk_over c.args.self.now.passed.items (line_at place)) c.args.self.now.fits; told = c.args.self.now.told }
 
-pub note-requires : goal.note-requires
-note-requires c = told_now c.args.self.now.own c.args.self.now.passed.items c.args.place c.in-Frame.from _ (c.in-Frame.ensures.says c.args.self.now.own (λ place. talk_over c.args.self.now.passed.items (line_at place)) c.args.self.now.fits)
+pub note_frame-requires : goal.note_frame-requires
+note_frame-requires c = told_now c.args.self.now.own c.args.self.now.passed.items c.args.place c.in-Frame.from _ (c.in-Frame.ensures.says c.args.self.now.own (λ place. talk_over c.args.self.now.passed.items (line_at place)) c.args.self.now.fits)
