@@ -9,20 +9,23 @@ use crate::key_file::key_at;
 use crate::life_files::LifeFiles;
 use crate::log_files::{begin_log, open_log};
 use crate::notes::Notes;
+use crate::open_files::tell_open_file;
 use crate::own_logs::OwnLogs;
 use crate::serve::{configure, read};
 use crate::store_files::{cause, open_own_store};
+use crate::token_files::tell_tokens;
 use clockwork::limits::SHORTEST;
 use dealer_kind::Config;
 use dealer_node::NodeFault;
-use match_file::{Key as Entry, MatchFault, MatchFile, NodeEntries};
-use match_runs::{Cause, Unserved, kept_log_path, log_path, store_path};
+use match_file::{Addresses, Key as Entry, MatchFault, MatchFile, NodeEntries};
+use match_runs::{Cause, Unserved, is_short, kept_log_path, log_path, store_path};
 use node_links::Own;
 use node_peers::Peers;
 use node_runs::{ComparedWire, KeptLog, NodeEnd, NodeNote, node_run};
 use node_seats::{Seats, TokenDigest};
 use node_service::{LocalNode, NodeServer, Terms};
 use node_status::Askers;
+use node_wires::limits::NODES;
 use node_wires::{BindFault, Failed, TcpWire};
 use peer_codes::{Key, Life};
 use promise_store::FileDisk;
@@ -30,7 +33,7 @@ use serving::ServeFault;
 use stations::Station;
 use std::alloc::AllocError;
 use std::fs::File;
-use std::net::SocketAddr;
+use std::net::{IpAddr, SocketAddr};
 
 /// The process of a node over files and sockets.
 type TcpNode<'k, 'a> = NodeServer<FileDisk, ComparedWire<'k, TcpWire<'a>>>;
@@ -45,6 +48,7 @@ type TcpNode<'k, 'a> = NodeServer<FileDisk, ComparedWire<'k, TcpWire<'a>>>;
 pub(crate) fn node(rt: &HostRuntime, arguments: NodeArguments<'_>) -> Result<(), NodeEnd> {
     let mut notes = Notes::new(rt, arguments.has_times);
     let text = read(rt, arguments.path, &mut notes)?;
+    tell_open_file(rt, arguments.path, &mut notes);
     let file = MatchFile::read(rt.alloc(), &text).map_err(Unserved::from)?;
     run_file(rt, &file, arguments.node, &mut notes)
 }
@@ -74,7 +78,11 @@ fn entries_of<'a>(
     ensures { IfOk result (λ _. node < length config.now.sources) }
 {
     if node as usize >= config.nodes() {
+        notes.tell_no_such_node(node, config.nodes() as u8);
         return Err(Unserved::Match(MatchFault::BadEntry(Entry::Node)));
+    }
+    if is_short(config.source(node as usize)) {
+        notes.tell_short_seeds(&[node]);
     }
     config.limits();
     let entries = file.node_entries(rt.alloc(), config.game().players())?;
@@ -126,6 +134,8 @@ fn run_entries(
 struct Access {
     /// Where each node awaits the others.
     peers: Vec<SocketAddr>,
+    /// From which addresses each dials besides.
+    from: Vec<Vec<IpAddr>>,
     /// Where seat 0 is awaited; seat s is at the port that is s higher.
     seats: SocketAddr,
     /// Where it is told how the node is.
@@ -172,8 +182,31 @@ struct Place<'a> {
     node: u8,
 }
 
+/// Has places kept for each node at these addresses too, from which it dials.
+fn add_sources(wire: &mut TcpWire<'_>, from: &[Vec<IpAddr>]) -> Result<(), AllocError> {
+    for node in 0..NODES as u8 {
+        if let Some(addresses) = from.get(node as usize) {
+            add_sources_of(wire, node, addresses)?;
+        }
+    }
+    Ok(())
+}
+
+/// The same of one node.
+fn add_sources_of(
+    wire: &mut TcpWire<'_>,
+    node: u8,
+    addresses: &[IpAddr],
+) -> Result<(), AllocError> {
+    for address in addresses {
+        wire.add_source(node, *address)?;
+    }
+    Ok(())
+}
+
 impl<'a> Place<'a> {
-    /// What the entries say of it, with the key read from its file. A note tells that none is named.
+    /// What the entries say of it, with the key read from its file. Notes tell that none is named, and that there are no tokens,
+    /// or which are known.
     fn access(&self, entries: NodeEntries<'_>, notes: &mut Notes<'_>) -> Result<Access, Unserved> {
         let NodeEntries {
             addresses,
@@ -191,9 +224,11 @@ impl<'a> Place<'a> {
         };
         let key = self.key(key, notes)?;
         let tokens = self.digests(tokens)?;
-        let peers = addresses.peers;
+        tell_tokens(&tokens, notes);
+        let Addresses { peers, from, .. } = addresses;
         Ok(Access {
             peers,
+            from,
             seats,
             status,
             key,
@@ -251,6 +286,7 @@ impl<'a> Place<'a> {
         let first = own_logs.first(notes)?;
         let Access {
             peers,
+            from,
             seats,
             status,
             key,
@@ -258,6 +294,7 @@ impl<'a> Place<'a> {
             patience,
         } = access;
         let mut wire = self.bind(peers, seats, players, status, notes)?;
+        add_sources(&mut wire, &from)?;
         wire.add_log(self.begin_log(old_logs, notes)?);
         let kept = kept_log(&own_logs, first, notes)?;
         let seats = Seats::new(self.rt.alloc(), players, tokens)?;

@@ -9,7 +9,7 @@ use Rattle.toml.specs.Data.{Data, string, integer, array, table, Members, no_mem
 use Rattle.toml.specs.View.{items_of}
 use Rattle.match_file.specs.declared.absent.Absent.TheVariants.{Wait, Play}
 use Rattle.match_file.specs.declared.key.Key.{Key}
-use Rattle.match_file.specs.declared.key.Key.TheVariants.{Node, Stores, Away, KeyFile, Peers, From, Tokens, Patience, Start}
+use Rattle.match_file.specs.declared.key.Key.TheVariants.{Node, Stores, Away, KeyFile, Peers, Tokens, Patience, Start}
 use Rattle.match_file.specs.declared.match_fault.MatchFault.TheVariants.{BadEntry}
 use Rattle.match_file.specs.Keys.{key_text}
 use Rattle.match_file.specs.Said.{IsAbsent}
@@ -235,12 +235,9 @@ key_is_used = refl
 start_is_not : unused_by_node (member (codes "start") (integer (pos 9)) no_members) ≡ Start ∷ []
 start_is_not = refl
 
--- of `from` it is where it stands in one of the tables, and not at the top
+-- a node goes by `from` in its table
 abbrev from_there : Data
 from_there = table (member (codes "from") (string (codes "::1")) no_members)
 
-nor_from : unused_by_node (only Node (array (items_of (table no_members ∷ from_there ∷ [])))) ≡ From ∷ []
-nor_from = refl
-
-no_from_at_the_top : unused_by_node (member (codes "from") (string (codes "::1")) (only Node (array (items_of (table no_members ∷ []))))) ≡ []
-no_from_at_the_top = refl
+from_is_used : unused_by_node (only Node (array (items_of (table no_members ∷ from_there ∷ [])))) ≡ []
+from_is_used = refl

@@ -15,7 +15,7 @@ use Rattle.match_file.specs.declared.key.Key.TheVariants.{Logs, Port, Away, Peer
 use Rattle.match_file.specs.declared.match_fault.MatchFault.TheVariants.{BadEntry}
 use Rattle.match_file.specs.Identities.{identified_text, node_kept_text, life_text, logs_kept_text}
 use Rattle.match_file.specs.SourceTexts.{deal_line, source_text}
-use Rattle.match_file.specs.Unused.{unused_keys, unused_by_node}
+use Rattle.match_file.specs.Unused.{unused_keys, unused_by_node, unused_in_node}
 use Rattle.match_file.specs.NodeEntries.{IsUnrun}
 
 -- ---- kept texts
@@ -95,12 +95,26 @@ abbrev of_both : Members
 of_both =
     member (codes "away") (string (codes "never")) (member (codes "name") (string (codes "m1")) (member (codes "node") (array (items_of (reached ∷ reached ∷ []))) (member (codes "port") (integer (pos 1)) no_members)))
 
--- no command reads `peers` at the top of a file, and what stands in a node's table is told by nobody
+-- no command reads `peers` at the top of a file, nor `port` and `peer` in a node's table
 nothing_unused : unused_keys of_both ≡ []
 nothing_unused = refl
 
 peers_at_the_top : unused_keys (member (codes "peers") (string (codes "10.0.0.7:21000")) no_members) ≡ codes "peers" ∷ []
 peers_at_the_top = refl
+
+abbrev misspelt : Members
+misspelt =
+    member (codes "node")
+    (array (items_of (reached ∷ table (member (codes "peer") (string (codes "10.0.0.7:21000")) (member (codes "port") (integer (pos 1)) (member (codes "seed") (integer (pos 7)) no_members))) ∷ []))) no_members
+
+nothing_unused_in_node_0 : unused_in_node 0 misspelt ≡ []
+nothing_unused_in_node_0 = refl
+
+two_unused_in_node_1 : unused_in_node 1 misspelt ≡ codes "peer" ∷ codes "port" ∷ []
+two_unused_in_node_1 = refl
+
+no_node_2 : unused_in_node 2 misspelt ≡ []
+no_node_2 = refl
 
 -- by these a node doesn't go, right or wrong
 two_unused_by_node : unused_by_node of_both ≡ Port ∷ Away ∷ []

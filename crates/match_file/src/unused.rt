@@ -1,17 +1,13 @@
-ghost use Rattle.std.specs.Prelude.{◌≡◌, IfOk, is_some, map};
-ghost use Rattle.std.specs.List.{list_any};
-ghost use Rattle.toml.specs.Data.{get};
-ghost use Rattle.toml.specs.View.{view};
-ghost use Rattle.match_file.specs.Keys.{key_text};
-ghost use Rattle.match_file.specs.Matches.{entry_at};
-ghost use Rattle.match_file.specs.Unused.{is_used};
-ghost use Rattle.match_file.specs.declared.key.Key.TheVariants.{Node, From};
+ghost use Rattle.std.specs.Prelude.{◌≡◌, IfOk, map};
+ghost use Rattle.std.specs.Option.{option_map};
+ghost use Rattle.toml.specs.View.{view, items_of, table_view};
+ghost use Rattle.match_file.specs.Unused.{is_used, is_used_in_node, node_at, unused_in};
 
 use crate::entries::{array_at, at};
 use crate::key::Key;
 use crate::match_file::MatchFile;
 use std::alloc::{AllocError, Global};
-use toml::Value;
+use toml::{Table, Value};
 
 /// The keys that commands read.
 const KEYS: [Key; 14] = [
@@ -31,12 +27,12 @@ const KEYS: [Key; 14] = [
     Key::Start,
 ];
 
-/// The keys by which a node in a process of its own doesn't go: two of `serve` alone, and three that it only reads.
-const UNUSED: [Key; 5] = [Key::Port, Key::Outage, Key::Away, Key::From, Key::Start];
+/// The keys by which a node in a process of its own doesn't go: two of `serve` alone, and two that it only reads.
+const UNUSED: [Key; 4] = [Key::Port, Key::Outage, Key::Away, Key::Start];
 
 impl MatchFile {
     ghost use Rattle.match_file.specs.MatchFile.{members};
-    ghost use Rattle.match_file.specs.Unused.{unused_keys, unused_by_node, is_there, has_from};
+    ghost use Rattle.match_file.specs.Unused.{unused_keys, unused_by_node, is_there, node_table, unused_in_node};
 
     /// The keys that no command reads, in the table's order.
     pub fn unused(&self, alloc: Global) -> Result<Vec<&str>, AllocError>
@@ -51,8 +47,29 @@ impl MatchFile {
         Ok(unused)
     }
 
+    /// The keys in the table of a node, counted from 0, that no command reads, in the table's order; none where there is no
+    /// such table.
+    pub fn unused_in_node(&self, alloc: Global, node: usize) -> Result<Vec<&str>, AllocError>
+        ensures { IfOk result (λ keys. map (λ key. key.now) keys.items ≡ unused_in_node node (members self.now)) }
+    {
+        match self.node_table(node) {
+            Some(table) => unused_in(alloc, table),
+            None => Ok(Vec::new(alloc)),
+        }
+    }
+
+    /// The table of a node.
+    fn node_table(&self, node: usize) -> Option<&Table>
+        ensures { option_map (λ table. table_view table.now) result ≡ node_table node (members self.now) }
+    {
+        match array_at(&self.table, Key::Node) {
+            Some(values) => table_at(values, node),
+            None => None,
+        }
+    }
+
     /// The keys that stand in the file and by which a node in a process of its own doesn't go: those of `port`, `outage`,
-    /// `away`, `from` (in a node's table) and `start`, in this order.
+    /// `away` and `start`, in this order.
     pub fn unused_by_node(&self, alloc: Global) -> Result<Vec<Key>, AllocError>
         ensures { IfOk result (λ keys. keys.items ≡ unused_by_node (members self.now)) }
     {
@@ -65,34 +82,47 @@ impl MatchFile {
         Ok(unused)
     }
 
-    /// Whether something stands at a key: `from` in a node's table, any other at the top.
+    /// Whether something stands at a key at the top.
     fn is_there(&self, key: Key) -> bool
         ensures { result ≡ is_there key (members self.now) }
     {
-        match key {
-            Key::From => self.has_from(),
-            _ => at(&self.table, key).is_some(),
-        }
-    }
-
-    /// Whether a node's table has `from`.
-    fn has_from(&self) -> bool
-        ensures { result ≡ has_from (entry_at Node (members self.now)) }
-    {
-        match array_at(&self.table, Key::Node) {
-            Some(values) => is_from_among(values),
-            None => false,
-        }
+        at(&self.table, key).is_some()
     }
 }
 
-/// Whether one of these tables has `from`.
-fn is_from_among(values: &[Value]) -> bool
-    ensures { result ≡ list_any (λ value. is_some (get (key_text From) (view value))) values.now }
+/// The table at this place.
+fn table_at(values: &[Value], place: usize) -> Option<&Table>
+    ensures { option_map (λ table. table_view table.now) result ≡ node_at place (items_of (map view values.now)) }
 {
-    values
-        .iter()
-        .any(|value| value.get(Key::From.text()).is_some())
+    match values.get(place) {
+        Some(value) => value.as_table(),
+        None => None,
+    }
+}
+
+/// The keys of a node's table that no command reads.
+fn unused_in(alloc: Global, table: &Table) -> Result<Vec<&str>, AllocError>
+    ensures { IfOk result (λ keys. map (λ key. key.now) keys.items ≡ unused_in (table_view table.now)) }
+{
+    let mut unused = Vec::new(alloc);
+    for key in table.keys() {
+        if !is_used_in_node(key.as_str()) {
+            unused.push(key.as_str())?;
+        }
+    }
+    Ok(unused)
+}
+
+/// Whether some command reads what stands at a key of a node's table.
+fn is_used_in_node(key: &str) -> bool
+    ensures { result ≡ is_used_in_node key.now }
+{
+    key == "seed"
+        || key == "deals"
+        || key == Key::Peers.text()
+        || key == Key::Seats.text()
+        || key == Key::Status.text()
+        || key == Key::From.text()
 }
 
 /// Whether some command reads what stands at a key.

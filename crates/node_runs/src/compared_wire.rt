@@ -105,6 +105,10 @@ impl<W: Wire + Drop> Wire for ComparedWire<'_, W> {
         self.wire.accept()
     }
 
+    fn turned_away(&self) -> u64 {
+        self.wire.turned_away()
+    }
+
     fn accept_seat(&mut self, seat: u8) -> bool {
         self.wire.accept_seat(seat)
     }

@@ -1,3 +1,5 @@
 pub mod Walks
 pub mod Logged
+pub mod Choosing
 mod Examples
+mod PlaceExamples

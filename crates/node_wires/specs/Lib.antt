@@ -2,3 +2,5 @@ pub mod Passages
 pub mod Passing
 pub mod Logs
 pub mod MemoryPassed
+pub mod Nodes
+pub mod Places

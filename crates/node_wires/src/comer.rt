@@ -1,4 +1,7 @@
-use crate::limits::{ASKERS, CALLERS, GUESTS};
+ghost use Rattle.std.specs.Prelude.{◌≡◌};
+ghost use Rattle.node_wires.specs.Places.{places_of, first_of};
+
+use crate::limits::{ASKERS, CALLERS, GUESTS, NODES, SEATS};
 use crate::line::Line;
 
 /// Those who come by themselves, by the kind of port that they come to. Each kind has places of its own.
@@ -22,12 +25,33 @@ impl Comer {
         }
     }
 
+    /// Whether it is a bot, or one who may become one.
+    pub(crate) fn is_of_bot(self) -> bool {
+        match self {
+            Comer::Guest => true,
+            Comer::Caller | Comer::Asker => false,
+        }
+    }
+
     /// How many places there are.
-    pub(crate) fn places(self) -> u8 {
+    pub(crate) fn places(self) -> u8
+        ensures { result ≡ places_of self }
+    {
         match self {
             Comer::Caller => CALLERS as u8,
             Comer::Guest => GUESTS as u8,
             Comer::Asker => ASKERS as u8,
+        }
+    }
+
+    /// Where the first of these places is among those of all lines.
+    pub(crate) fn first(self) -> usize
+        ensures { result ≡ first_of self }
+    {
+        match self {
+            Comer::Caller => NODES,
+            Comer::Guest => NODES + CALLERS + SEATS,
+            Comer::Asker => NODES + CALLERS + SEATS + GUESTS,
         }
     }
 }

@@ -1,11 +1,14 @@
 //! The connections of lines over TCP, and who makes room for whom.
 
-ghost use Rattle.std.specs.Prelude.{◌≤◌, length, IfOk};
+ghost use Rattle.std.specs.Prelude.{◌≡◌, ◌≤◌, length, slice_set, Some, IfOk, OnErr, IfSome, IsNone};
+ghost use Rattle.node_wires.specs.declared.wired.Wired.{Wired};
 
 use crate::comer::Comer;
+use crate::coming::Stander;
 use crate::keep_alive::keep_alive;
-use crate::limits::{LINES, STRANGERS};
+use crate::limits::LINES;
 use crate::line::Line;
+use crate::nodes::Nodes;
 use crate::wire::Halt;
 use crate::wired::Wired;
 use mio::Poll;
@@ -19,7 +22,9 @@ use std::net::{IpAddr, SocketAddr};
 #[derive(Drop)]
 pub(crate) struct Connections {
     /// Of each line, by its place.
-    lines: Vec<Option<Wired>>,
+    pub(crate) lines: Vec<Option<Wired>>,
+    /// Who dials and is dialled.
+    pub(crate) nodes: Nodes,
     /// How many who came by themselves were taken in so far.
     count: u64,
     /// Whether the system ends connections to peers whose machine is lost. Nodes see to that by what they send each other.
@@ -35,63 +40,90 @@ fn watch_as(connection: &mut Option<Wired>, poll: &Poll, place: usize) -> bool {
 }
 
 impl Connections {
+    ghost use Rattle.node_wires.specs.Places.{IsTakenIn};
+
     /// A line without a connection for each.
-    pub(crate) fn new(alloc: Global, ends_lost_peers: bool) -> Result<Connections, AllocError> {
+    pub(crate) fn new(
+        alloc: Global,
+        nodes: Nodes,
+        ends_lost_peers: bool,
+    ) -> Result<Connections, AllocError>
+        ensures { IfOk result (λ connections. connections.nodes ≡ nodes) }
+    {
         let mut lines = Vec::with_capacity(alloc, LINES)?;
         for _ in 0..LINES {
             lines.push(None)?;
         }
         Ok(Connections {
             lines,
+            nodes,
             count: 0,
             ends_lost_peers,
         })
     }
 
-    /// A stream is the connection of a line from now on, in place of the one that it has.
+    /// A stream is the connection of a line from now on, in place of the one that it has. Where that fails all is as it was.
     pub(crate) fn begin(
         &mut self,
         poll: &Poll,
         line: Line,
         stream: TcpStream,
-        address: IpAddr,
-        turn: Option<u64>,
+        who: Stander,
     ) -> io::Result<()> {
-        let Some(place) = line.place() else {
-            return Err(io::Error::from(ErrorKind::Other));
-        };
-        // The one before is closed before the next is watched under its token.
-        self.close(line);
-        if self.ends_lost_peers || line.is_of_bot() {
-            keep_alive(&stream)?;
-        }
-        let wired = Wired::watch(poll, stream, place, address, turn)?;
-        self.put(place, wired)
-    }
-
-    /// The line at this place has this connection from now on.
-    fn put(&mut self, place: usize, wired: Wired) -> io::Result<()> {
-        match self.lines.get_mut(place) {
-            Some(connection) => {
-                *connection = Some(wired);
-                Ok(())
-            }
+        match line.place() {
+            Some(place) => self.begin_at(poll, place, (stream, line.is_of_bot()), who),
             None => Err(io::Error::from(ErrorKind::Other)),
         }
     }
 
-    /// Takes in one who came, and answers his place. A stranger who has stood here for longer makes room, where there is
-    /// none or too many are of his address.
+    /// A stream is the connection of the line at a place from now on. It is said whether that of a bot. Where that fails all
+    /// is as it was.
+    fn begin_at(
+        &mut self,
+        poll: &Poll,
+        place: usize,
+        came: (TcpStream, bool),
+        who: Stander,
+    ) -> io::Result<()>
+        ensures begun { IfOk result (λ _. (wired : Wired) × (wired.who ≡ who) × (self.new.lines.items ≡ slice_set self.old.lines.items place (Some wired))) }
+        ensures failed { OnErr result (self.new.lines.items ≡ self.old.lines.items) }
+        ensures nodes { self.new.nodes ≡ self.old.nodes }
+    {
+        let (stream, is_of_bot) = came;
+        if place >= self.lines.len() {
+            return Err(io::Error::from(ErrorKind::Other));
+        }
+        if self.ends_lost_peers || is_of_bot {
+            keep_alive(&stream)?;
+        }
+        self.lines[place] = Some(Wired::watch(poll, stream, place, who)?);
+        Ok(())
+    }
+
+    /// Takes in one who came at this moment, where there is a place for him, and answers it. A stranger who has stood there
+    /// makes room, where there is none or too many are of his address. Where no place is for him he is let go of, and all others
+    /// stay.
     pub(crate) fn take_in(
         &mut self,
         poll: &Poll,
         comer: Comer,
         came: (TcpStream, SocketAddr),
-    ) -> Option<u8> {
+        now: u64,
+    ) -> Option<u8>
+        ensures taken { IfSome result (IsTakenIn comer self.old.nodes self.old.lines.items self.new.lines.items) }
+        ensures none { IsNone result → self.new.lines.items ≡ self.old.lines.items }
+        ensures nodes { self.new.nodes ≡ self.old.nodes }
+    {
         let (stream, from) = came;
-        let place = self.place_for(comer, from.ip())?;
+        let place = self.place_for(comer, from.ip(), now)?;
         self.count = self.count.saturating_add(1);
-        match self.begin(poll, comer.line(place), stream, from.ip(), Some(self.count)) {
+        let who = Stander {
+            address: from.ip(),
+            turn: Some(self.count),
+            since: now,
+        };
+        let at = comer.first() + place as usize;
+        match self.begin_at(poll, at, (stream, comer.is_of_bot()), who) {
             Ok(()) => Some(place),
             Err(_) => None,
         }
@@ -131,65 +163,13 @@ impl Connections {
 
     /// The address at the other end of a line's connection.
     pub(crate) fn source(&self, line: Line) -> Option<IpAddr> {
-        Some(self.at(line)?.address())
+        Some(self.at(line)?.who().address)
     }
 
-    /// The system told of the line at this place.
-    pub(crate) fn wake(&mut self, place: usize) {
+    /// The system told of the line at this place, perhaps that nothing comes behind what is there.
+    pub(crate) fn wake(&mut self, place: usize, has_closed: bool) {
         if let Some(wired) = self.wired(place) {
-            wired.wake();
-        }
-    }
-
-    /// How many strangers of an address stand here.
-    fn strangers(&self, comer: Comer, address: IpAddr) -> usize {
-        let mut count = 0usize;
-        for place in 0..comer.places() {
-            if let Some(wired) = self.at(comer.line(place)) {
-                if wired.is_stranger_of(address) {
-                    count = count.saturating_add(1);
-                }
-            }
-        }
-        count
-    }
-
-    /// The first place that has no connection.
-    fn free_place(&self, comer: Comer) -> Option<u8> {
-        for place in 0..comer.places() {
-            if self.at(comer.line(place)).is_none() {
-                return Some(place);
-            }
-        }
-        None
-    }
-
-    /// The place of the stranger who came first, of this address or, where none is given, of any.
-    fn oldest_stranger(&self, comer: Comer, address: Option<IpAddr>) -> Option<u8> {
-        let mut oldest = None;
-        let mut least = u64::MAX;
-        for place in 0..comer.places() {
-            if let Some(wired) = self.at(comer.line(place)) {
-                if let Some(turn) = wired.turn_of_stranger(address) {
-                    if turn < least {
-                        least = turn;
-                        oldest = Some(place);
-                    }
-                }
-            }
-        }
-        oldest
-    }
-
-    /// The place for one who came from an address: where too many strangers of it stand here that of the first of them, else
-    /// a free one, and where none is free that of the stranger who came first.
-    fn place_for(&self, comer: Comer, address: IpAddr) -> Option<u8> {
-        if self.strangers(comer, address) >= STRANGERS {
-            return self.oldest_stranger(comer, Some(address));
-        }
-        match self.free_place(comer) {
-            Some(place) => Some(place),
-            None => self.oldest_stranger(comer, None),
+            wired.wake(has_closed);
         }
     }
 

@@ -11,19 +11,25 @@
 //! which connections began, the pieces that came and that were written, and what the log got. It takes no memory
 //! (`Passages`).
 //!
+//! Of those who dial some have places that are kept for them: the nodes, known by their addresses (`nodes`, `places`). Whoever
+//! else dials and finds no place is turned away at once, so that strangers keep no node out.
+//!
 //! `BindFault` says which port can't be had; `TcpWire::failed` tells which peer or log failed last, and of what kind the
 //! system's error was.
 #![tactic(auto)]
 
 mod bind_fault;
 mod comer;
+mod coming;
 mod connections;
 mod keep_alive;
 pub mod limits;
 mod line;
 mod memory_wire;
+mod nodes;
 mod passages;
 mod pipe;
+mod places;
 mod ports;
 mod tcp_wire;
 mod wire;

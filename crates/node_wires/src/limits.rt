@@ -1,10 +1,16 @@
-//! The counts of wires, each in this one place.
+//! The counts and times of wires, each in this one place. Times are whole microseconds.
 
 /// Nodes are numbered from 0 to one below this.
 pub const NODES: usize = 7;
 
-/// The places of those who dialled, numbered from 0 to one below this: the other nodes, and as many besides.
-pub const CALLERS: usize = 16;
+/// The places of those who dialled from an address from which no node dials, numbered from 0 to one below this.
+pub const OTHERS: usize = 16;
+
+/// How many places are kept for each node among those who dialled, behind the places of others: those of node 0 first.
+pub const KEPT: usize = 2;
+
+/// The places of those who dialled, numbered from 0 to one below this.
+pub const CALLERS: usize = OTHERS + KEPT * NODES;
 
 /// Seats are numbered from 0 to one below this.
 pub const SEATS: usize = 10;
@@ -20,3 +26,9 @@ pub const LINES: usize = NODES + CALLERS + SEATS + GUESTS + ASKERS;
 
 /// Of those who came to one kind of port from one address only so many stand here at once that aren't known yet.
 pub const STRANGERS: usize = 8;
+
+/// Who dialled and stands at a place that isn't kept for a node makes room for nobody before he has stood for so long.
+pub const STANDS: u64 = 300_000;
+
+/// So many of those who dialled are taken off the system's queue in a turn, at most.
+pub const TAKEN_AT_ONCE: u16 = 512;

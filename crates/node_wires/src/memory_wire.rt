@@ -1,6 +1,6 @@
 //! Wires in memory, of whose calls one may fail.
 
-ghost use Rattle.std.specs.Prelude.{◌≡◌, ◌≤◌, ◌++◌, length, take, IfOk, OnErr};
+ghost use Rattle.std.specs.Prelude.{◌≡◌, ◌≤◌, ◌++◌, [], length, take, IfOk, OnErr};
 ghost use Rattle.node_wires.specs.Passages.{logged_in};
 ghost use Rattle.node_wires.specs.Logs.{IsLogged, logged_prop};
 
@@ -181,7 +181,9 @@ impl MemoryWire {
     ghost use Rattle.node_wires.specs.MemoryPassed.{passed_of};
 
     /// Wires without connections, at moment 0. The call of this number fails, counted from 1; with 0 none does.
-    pub fn new(alloc: Global, call: u64) -> Result<MemoryWire, AllocError> {
+    pub fn new(alloc: Global, call: u64) -> Result<MemoryWire, AllocError>
+        ensures { IfOk result (λ wire. passed_of wire ≡ []) }
+    {
         Ok(MemoryWire {
             moment: 0,
             pipes: no_pipes(alloc)?,

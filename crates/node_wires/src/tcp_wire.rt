@@ -1,16 +1,23 @@
 //! Wires over TCP, and a log in a file.
 
-ghost use Rattle.std.specs.Prelude.{◌≡◌};
+ghost use Rattle.std.specs.Prelude.{◌≡◌, ◌++◌, ◌∷◌, [], IfOk, OnOk, OnErr, IfSome, IsNone};
+ghost use Rattle.node_wires.specs.Passages.{Began};
+ghost use Rattle.node_wires.specs.declared.line.Line.TheVariants.{Caller};
+ghost use Rattle.node_wires.specs.declared.comer.Comer.TheVariants.{Caller as Calling};
 
 use crate::bind_fault::{BindFault, Failed};
 use crate::comer::Comer;
+use crate::coming::Stander;
 use crate::connections::Connections;
+use crate::limits::TAKEN_AT_ONCE;
 use crate::line::Line;
+use crate::nodes::Nodes;
 use crate::passages::Passages;
 use crate::ports::{DOOR, Ports, Reached};
 use crate::wire::{Halt, Wire, WireFault};
 use mio::net::TcpStream;
 use mio::{Events, Poll, Token};
+use std::alloc::AllocError;
 use std::fs::File;
 use std::io;
 use std::io::{ErrorKind, Write};
@@ -30,10 +37,14 @@ pub struct TcpWire<'a> {
     poll: Poll,
     events: Events,
     begun: Instant,
-    /// Where each node is dialled, by its number.
-    addresses: Vec<SocketAddr>,
     ports: Ports,
     connections: Connections,
+    /// How many more of those who dialled are taken off the system's queue in this turn, at most.
+    left: u16,
+    /// Somebody who came was taken off a queue in this turn, so more may stand there.
+    has_more: bool,
+    /// How many who dialled were turned away so far.
+    turned_away: u64,
     /// The log's file, once there is one.
     log: Option<File>,
     /// What failed last of dials and the log.
@@ -50,9 +61,11 @@ impl Drop for TcpWire<'_> {
             poll: _,
             events: _,
             begun: _,
-            addresses: _,
             ports: _,
             connections: _,
+            left: _,
+            has_more: _,
+            turned_away: _,
             log: _,
             failed: _,
             passed: _,
@@ -77,11 +90,15 @@ fn fault_of(kind: ErrorKind) -> WireFault {
 }
 
 impl<'a> TcpWire<'a> {
+    ghost use Rattle.node_wires.specs.Nodes.{source_of, AreDialledAt};
+    ghost use Rattle.node_wires.specs.Places.{IsTakenIn};
+
     /// Opens the port where other nodes dial this one, the ports of its seats, and where there is to be one that of its
-    /// status. Nobody is dialled yet, and there is no log.
+    /// status. Nobody is dialled yet, nothing has passed, and there is no log.
     ///
     /// `peers` says where each node awaits the others, by number, and `number` which of them this one is; its seat 0 is
-    /// awaited at `seats`, and seat s at the port that is s higher. Refused is the first port that can't be had.
+    /// awaited at `seats`, and seat s at the port that is s higher. Refused is the first port that can't be had. Of those who
+    /// dial two places are kept for each node of a greater number, by the address at which it is dialled.
     pub fn bind(
         rt: &'a HostRuntime,
         peers: Vec<SocketAddr>,
@@ -89,7 +106,10 @@ impl<'a> TcpWire<'a> {
         seats: SocketAddr,
         players: u8,
         status: Option<SocketAddr>,
-    ) -> Result<TcpWire<'a>, BindFault> {
+    ) -> Result<TcpWire<'a>, BindFault>
+        ensures passed { IfOk result (λ wire. wire.passed.items ≡ []) }
+        ensures nodes { IfOk result (λ wire. AreDialledAt number peers.items wire.connections.nodes) }
+    {
         let Some(own) = peers.get(number as usize) else {
             return Err(BindFault::Failed {
                 kind: ErrorKind::InvalidInput,
@@ -101,7 +121,8 @@ impl<'a> TcpWire<'a> {
             players,
             status,
         };
-        TcpWire::open(rt, peers, reached, false)
+        let nodes = Nodes::new(number, peers, Vec::new(rt.alloc()));
+        TcpWire::open(rt, nodes, reached, false)
     }
 
     /// Opens one port, at which one bot is awaited as that of seat 0: the wires of who stands between a bot and the nodes.
@@ -111,36 +132,44 @@ impl<'a> TcpWire<'a> {
         rt: &'a HostRuntime,
         nodes: Vec<SocketAddr>,
         bot: SocketAddr,
-    ) -> Result<TcpWire<'a>, BindFault> {
+    ) -> Result<TcpWire<'a>, BindFault>
+        ensures { IfOk result (λ wire. wire.passed.items ≡ []) }
+    {
         let reached = Reached {
             peers: None,
             seats: bot,
             players: 1,
             status: None,
         };
+        let nodes = Nodes::new(u8::MAX, nodes, Vec::new(rt.alloc()));
         TcpWire::open(rt, nodes, reached, true)
     }
 
     /// Opens the ports at which it is reached.
     fn open(
         rt: &'a HostRuntime,
-        addresses: Vec<SocketAddr>,
+        nodes: Nodes,
         reached: Reached,
         ends_lost_peers: bool,
-    ) -> Result<TcpWire<'a>, BindFault> {
+    ) -> Result<TcpWire<'a>, BindFault>
+        ensures passed { IfOk result (λ wire. wire.passed.items ≡ []) }
+        ensures nodes { IfOk result (λ wire. wire.connections.nodes ≡ nodes) }
+    {
         let poll = Poll::new(rt)?;
         let events = Events::with_capacity(rt.alloc(), TOLD_AT_ONCE)?;
         let begun = Instant::now(rt)?;
         let ports = Ports::open(rt, &poll, reached)?;
-        let connections = Connections::new(rt.alloc(), ends_lost_peers)?;
+        let connections = Connections::new(rt.alloc(), nodes, ends_lost_peers)?;
         Ok(TcpWire {
             rt,
             poll,
             events,
             begun,
-            addresses,
             ports,
             connections,
+            left: TAKEN_AT_ONCE,
+            has_more: false,
+            turned_away: 0,
             log: None,
             failed: None,
             passed: Passages::new(),
@@ -151,6 +180,18 @@ impl<'a> TcpWire<'a> {
     /// asked for, it is the free one that the system gave.
     pub fn seat_address(&self, seat: u8) -> Option<SocketAddr> {
         self.ports.seat_address(seat)
+    }
+
+    /// A node dials from this address besides: places are kept for it there too. Where memory is refused all is as it was.
+    pub fn add_source(&mut self, node: u8, address: IpAddr) -> Result<(), AllocError>
+        ensures passed { self.new.passed ≡ self.old.passed }
+        ensures added { OnOk result (self.new.connections.nodes.sources.items ≡ self.old.connections.nodes.sources.items ++ source_of node address ∷ []) }
+        ensures refused { OnErr result (self.new.connections.nodes.sources.items ≡ self.old.connections.nodes.sources.items) }
+        ensures addresses { self.new.connections.nodes.addresses ≡ self.old.connections.nodes.addresses }
+        ensures own { self.new.connections.nodes.own ≡ self.old.connections.nodes.own }
+        ensures lines { self.new.connections.lines ≡ self.old.connections.lines }
+    {
+        self.connections.nodes.add_source(node, address)
     }
 
     /// The log from now on: a file that is open for appending.
@@ -173,7 +214,8 @@ impl<'a> TcpWire<'a> {
         for event in &self.events {
             let Token(token) = event.token();
             if token < DOOR {
-                self.connections.wake(token);
+                let has_closed = event.is_read_closed() || event.is_error();
+                self.connections.wake(token, has_closed);
             } else {
                 self.ports.note(token);
             }
@@ -184,51 +226,26 @@ impl<'a> TcpWire<'a> {
     fn begin_dial(&mut self, peer: u8) -> io::Result<()>
         ensures { self.new.passed ≡ self.old.passed }
     {
-        let Some(address) = self.addresses.get(peer as usize) else {
+        let Some(address) = self.connections.nodes.address(peer) else {
             return Err(io::Error::from(ErrorKind::Other));
         };
-        let stream = TcpStream::connect(self.rt, *address)?;
+        let stream = TcpStream::connect(self.rt, address)?;
+        let who = self.known(address);
         self.connections
-            .begin(&self.poll, Line::Peer(peer), stream, address.ip(), None)
+            .begin(&self.poll, Line::Peer(peer), stream, who)
     }
 
     /// Notes that a peer couldn't be dialled.
     fn fail_peer(&mut self, peer: u8, kind: ErrorKind)
         ensures { self.new.passed ≡ self.old.passed }
     {
-        if let Some(address) = self.addresses.get(peer as usize) {
-            self.failed = Some(Failed::Peer {
-                address: *address,
-                kind,
-            });
+        if let Some(address) = self.connections.nodes.address(peer) {
+            self.failed = Some(Failed::Peer { address, kind });
         }
     }
 
-    /// Takes in one who came, if one did, and answers his place.
-    fn take_in(&mut self, comer: Comer, came: Option<(TcpStream, SocketAddr)>) -> Option<u8>
-        ensures { self.new.passed ≡ self.old.passed }
-    {
-        self.connections.take_in(&self.poll, comer, came?)
-    }
-
-    /// Takes in the bot that came next to a seat's port, if one did.
-    fn take_in_bot(&mut self, seat: u8) -> bool
-        ensures { self.new.passed ≡ self.old.passed }
-    {
-        let Some((stream, from)) = self.ports.next_at_seat(seat) else {
-            return false;
-        };
-        self.connections
-            .begin(&self.poll, Line::Seat(seat), stream, from.ip(), None)
-            .is_ok()
-    }
-}
-
-impl Wire for TcpWire<'_> {
-    ghost passed = { λ wire. wire.passed.items };
-
-    /// Where the clock can't be read, it is moment 0.
-    fn now(&mut self) -> u64 {
+    /// The present moment, in microseconds since these wires were opened. Where the clock can't be read, it is moment 0.
+    fn moment(&self) -> u64 {
         match self.begun.elapsed(self.rt) {
             Ok(spent) => spent
                 .as_secs()
@@ -238,7 +255,77 @@ impl Wire for TcpWire<'_> {
         }
     }
 
+    /// Who is at this address, of whom it is known who he is.
+    fn known(&self, address: SocketAddr) -> Stander {
+        Stander {
+            address: address.ip(),
+            turn: None,
+            since: self.moment(),
+        }
+    }
+
+    /// Takes in one who came, if one did, and answers his place.
+    fn take_in(&mut self, comer: Comer, came: Option<(TcpStream, SocketAddr)>) -> Option<u8>
+        ensures passed { self.new.passed ≡ self.old.passed }
+        ensures taken { IfSome result (IsTakenIn comer self.old.connections.nodes self.old.connections.lines.items self.new.connections.lines.items) }
+        ensures stay { IsNone result → self.new.connections.lines.items ≡ self.old.connections.lines.items }
+        ensures nodes { self.new.connections.nodes ≡ self.old.connections.nodes }
+    {
+        let came = came?;
+        self.has_more = true;
+        let now = self.moment();
+        self.connections.take_in(&self.poll, comer, came, now)
+    }
+
+    /// Takes in the next one who dialled and for whom there is a place, and answers it. Those before him are turned away.
+    fn take_caller(&mut self) -> Option<u8>
+        ensures passed { self.new.passed ≡ self.old.passed }
+        ensures taken { IfSome result (IsTakenIn Calling self.old.connections.nodes self.old.connections.lines.items self.new.connections.lines.items) }
+        ensures stay { IsNone result → self.new.connections.lines.items ≡ self.old.connections.lines.items }
+        ensures nodes { self.new.connections.nodes ≡ self.old.connections.nodes }
+    {
+        for _ in 0..self.left {
+            let came = self.ports.next_caller()?;
+            self.left = self.left.saturating_sub(1);
+            if let Some(place) = self.take_in(Comer::Caller, Some(came)) {
+                return Some(place);
+            }
+            self.turned_away = self.turned_away.saturating_add(1);
+        }
+        None
+    }
+
+    /// Takes in the bot that came next to a seat's port, if one did.
+    fn take_in_bot(&mut self, seat: u8) -> bool
+        ensures { self.new.passed ≡ self.old.passed }
+    {
+        let Some((stream, from)) = self.ports.next_at_seat(seat) else {
+            return false;
+        };
+        self.has_more = true;
+        let who = self.known(from);
+        self.connections
+            .begin(&self.poll, Line::Seat(seat), stream, who)
+            .is_ok()
+    }
+}
+
+impl Wire for TcpWire<'_> {
+    ghost use Rattle.node_wires.specs.Places.{IsTakenIn};
+
+    ghost passed = { λ wire. wire.passed.items };
+
+    /// Where the clock can't be read, it is moment 0.
+    fn now(&mut self) -> u64 {
+        self.moment()
+    }
+
+    /// Where somebody was taken off a queue since the last wait, more may stand there, of whom the system doesn't tell again:
+    /// then it isn't waited.
     fn wait(&mut self, most: u64) {
+        let most = if self.has_more { 0 } else { most };
+        self.has_more = false;
+        self.left = TAKEN_AT_ONCE;
         if self
             .poll
             .poll(&mut self.events, Some(Duration::from_micros(most)))
@@ -273,11 +360,25 @@ impl Wire for TcpWire<'_> {
         }
     }
 
-    fn accept(&mut self) -> Option<u8> {
-        let came = self.ports.next_caller();
-        let number = self.take_in(Comer::Caller, came)?;
-        self.passed.began(Line::Caller(number));
-        Some(number)
+    /// Those for whom there is no place are turned away, up to 512 of them in a turn, until one comes for whom there is one.
+    /// Places are kept for nodes: one that is kept for a node is taken by nobody but who comes from an address from which that
+    /// node dials, and he takes no other. Nobody makes room for a stranger before he has stood 0.3 seconds at a place that
+    /// isn't kept. All other connections stay as they are.
+    fn accept(&mut self) -> Option<u8>
+        ensures began { IfSome result (λ place. self.new.passed.items ≡ self.old.passed.items ++ Began (Caller place) ∷ []) }
+        ensures none { IsNone result → self.new.passed.items ≡ self.old.passed.items }
+        ensures taken { IfSome result (IsTakenIn Calling self.old.connections.nodes self.old.connections.lines.items self.new.connections.lines.items) }
+        ensures stay { IsNone result → self.new.connections.lines.items ≡ self.old.connections.lines.items }
+    {
+        let place = self.take_caller()?;
+        self.passed.began(Line::Caller(place));
+        Some(place)
+    }
+
+    fn turned_away(&self) -> u64
+        ensures { result ≡ self.now.turned_away }
+    {
+        self.turned_away
     }
 
     fn accept_seat(&mut self, seat: u8) -> bool {

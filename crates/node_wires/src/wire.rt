@@ -58,11 +58,17 @@ pub trait Wire {
         ensures began { OnOk result (passed self.new ≡ passed self.old ++ Began (Peer peer) ∷ []) }
         ensures failed { OnErr result (passed self.new ≡ passed self.old) };
 
-    /// Takes in the next one who dialled this node, if there is one and a place for him, and answers his place. One who
-    /// stands there and isn't known (`know`) may be let go of for him.
+    /// Takes in the next one who dialled this node and for whom there is a place, if there is one, and answers his place.
+    /// Those for whom there is none are turned away. One who stands there and isn't known (`know`) may be let go of for him.
     fn accept(&mut self) -> Option<u8>
         ensures began { IfSome result (λ place. passed self.new ≡ passed self.old ++ Began (Caller place) ∷ []) }
         ensures none { IsNone result → passed self.new ≡ passed self.old };
+
+    /// How many who dialled were turned away so far: closed at once, since there was no place for them. Wires that turn nobody
+    /// away say 0.
+    fn turned_away(&self) -> u64 {
+        0
+    }
 
     /// Takes in the next one who came to a seat's port, in place of the one that its line has; false where there is none.
     fn accept_seat(&mut self, seat: u8) -> bool

@@ -1,24 +1,29 @@
-ghost use Rattle.std.specs.Prelude.{◌≤◌, length, IfOk};
+ghost use Rattle.std.specs.Prelude.{◌≡◌, ◌≤◌, length, IfOk};
 
+use crate::coming::Stander;
 use crate::wire::Halt;
 use mio::event::Source;
 use mio::net::TcpStream;
 use mio::{Interest, Poll, Token};
 use std::io;
 use std::io::{Read, Write};
-use std::net::IpAddr;
 
 /// A connection over TCP, and whether there may be something to read of it, and room to write into. What isn't asked of
 /// the system until it has told of it costs no call.
+///
+/// The system tells by edges: once of what came since it told last. A read that brings less than was asked for has emptied
+/// what the system keeps for the connection, so what comes later is told anew, and nothing is to be read before. The same
+/// holds of a write and of room. One thing may come without an edge of its own: the end, where the system told of it together
+/// with the bytes before it. So once an end was told, reads go on until one finds it.
 #[derive(Drop)]
 pub(crate) struct Wired {
     stream: TcpStream,
     may_read: bool,
     may_write: bool,
-    /// The address at the other end.
-    address: IpAddr,
-    /// He came as the one of this number, as long as it isn't known who he is; none of one who is known.
-    turn: Option<u64>,
+    /// The system told that the other end sends no more, or that the connection failed.
+    has_closed: bool,
+    /// Who is at the other end.
+    who: Stander,
 }
 
 /// What a failed read or write leaves: one that a signal broke off, or for which nothing is there, may be made later.
@@ -37,9 +42,10 @@ impl Wired {
         poll: &Poll,
         mut stream: TcpStream,
         token: usize,
-        address: IpAddr,
-        turn: Option<u64>,
-    ) -> io::Result<Wired> {
+        who: Stander,
+    ) -> io::Result<Wired>
+        ensures { IfOk result (λ wired. wired.who ≡ who) }
+    {
         stream.set_nodelay(true)?;
         poll.registry().register(
             &mut stream,
@@ -50,8 +56,8 @@ impl Wired {
             stream,
             may_read: true,
             may_write: true,
-            address,
-            turn,
+            has_closed: false,
+            who,
         })
     }
 
@@ -66,44 +72,28 @@ impl Wired {
         {
             return false;
         }
-        self.wake();
+        self.wake(false);
         self.know();
         true
     }
 
-    /// The address at the other end.
-    pub(crate) fn address(&self) -> IpAddr {
-        self.address
+    /// Who is at the other end.
+    pub(crate) fn who(&self) -> Stander
+        ensures { result ≡ self.now.who }
+    {
+        self.who
     }
 
-    /// It is known who he is.
+    /// It is known who is at the other end.
     pub(crate) fn know(&mut self) {
-        self.turn = None;
+        self.who.turn = None;
     }
 
-    /// Whether he is a stranger of this address.
-    pub(crate) fn is_stranger_of(&self, address: IpAddr) -> bool {
-        self.turn.is_some() && self.address == address
-    }
-
-    /// His number among those who came, where he is a stranger: of this address, or of any where none is given.
-    pub(crate) fn turn_of_stranger(&self, address: Option<IpAddr>) -> Option<u64> {
-        match address {
-            Some(wanted) => {
-                if self.address == wanted {
-                    self.turn
-                } else {
-                    None
-                }
-            }
-            None => self.turn,
-        }
-    }
-
-    /// The system told of it.
-    pub(crate) fn wake(&mut self) {
+    /// The system told of it, perhaps that nothing comes behind what is there.
+    pub(crate) fn wake(&mut self, has_closed: bool) {
         self.may_read = true;
         self.may_write = true;
+        self.has_closed = self.has_closed || has_closed;
     }
 
     /// Reads what came, no more than the buffer holds.
@@ -115,7 +105,10 @@ impl Wired {
         }
         match self.stream.read(piece) {
             Ok(0) => Err(Halt::Ended),
-            Ok(count) => Ok(count),
+            Ok(count) => {
+                self.may_read = self.has_closed || count == piece.len();
+                Ok(count)
+            }
             Err(fault) => {
                 self.may_read = fault.kind() == io::ErrorKind::Interrupted;
                 Err(halted(fault.kind()))
@@ -131,7 +124,10 @@ impl Wired {
             return Err(Halt::Later);
         }
         match self.stream.write(bytes) {
-            Ok(count) => Ok(count),
+            Ok(count) => {
+                self.may_write = count == bytes.len();
+                Ok(count)
+            }
             Err(fault) => {
                 self.may_write = fault.kind() == io::ErrorKind::Interrupted;
                 Err(halted(fault.kind()))
