@@ -8,7 +8,8 @@ use Rattle.node_seats.specs.declared.seat_notice.SeatNotice.{SeatNotice}
 use Rattle.node_seats.specs.declared.seat_notice.SeatNotice.TheVariants as notices
 use Rattle.node_seats.specs.declared.token_digest.TokenDigest.{TokenDigest}
 use Rattle.node_seats.specs.Passing.{passed_by, Passed, TakesNobody, AreOfGuests, Grows}
-use Rattle.node_seats.specs.Guesting.{ShowsToken, IsGuested, behind_by, Passes}
+use Rattle.node_seats.specs.Guesting.{ShowsToken, IsGuested, IsToldOf, behind_by, Passes}
+use Rattle.node_seats.specs.Pieces.{IsPieceOf}
 use Rattle.node_seats.specs.declared.seat.Seat.{Seat as SeatOf}
 use Rattle.node_seats.specs.Seating.{waits_at, sits_at, Follows, Changes}
 use Rattle.node_seats.specs.Coming.{passed_in, tokens_in, Comes}
@@ -201,13 +202,6 @@ plain_passed notice old new wired_old wired_new comes without = passed_without (
 
 -- ---- one seat behind another
 
-follows_on : (notice : Option SeatNotice) (a b c : List SeatOf) → ((seat : ℕ) → waits_at b seat ≡ waits_at a seat) → Follows notice b c → Follows notice a c
-follows_on None a b c one two = λ seat. two seat ∙ one seat
-follows_on (Some (notices.Piece number bytes)) a b c one two = λ seat. two seat ∙ one seat
-follows_on (Some (notices.Refused number)) a b c one two = λ seat. two seat ∙ one seat
-follows_on (Some (notices.Came number)) a b c one two = (two.0, λ seat differs. two.1 seat differs ∙ one seat)
-follows_on (Some (notices.Gone number)) a b c one two = (two.0, λ seat differs. two.1 seat differs ∙ one seat)
-
 pub changes_on : (notice : Option SeatNotice) (a b c : List SeatOf) → ((seat : ℕ) → sits_at b seat ≡ sits_at a seat) → Changes notice b c → Changes notice a c
 changes_on None a b c one two = λ seat. two seat ∙ one seat
 changes_on (Some (notices.Piece number bytes)) a b c one two = λ seat. two seat ∙ one seat
@@ -215,22 +209,12 @@ changes_on (Some (notices.Refused number)) a b c one two = λ seat. two seat ∙
 changes_on (Some (notices.Came number)) a b c one two = (sym (one number) ∙ two.0, two.1, λ seat differs. two.2 seat differs ∙ one seat)
 changes_on (Some (notices.Gone number)) a b c one two = (two.0, λ seat differs. two.1 seat differs ∙ one seat)
 
-pub comes_on : (notice : Option SeatNotice) (a b c : Seats) (x y z : List Passage) → Comes None a b x y → Comes notice b c y z → Comes notice a c x z
-comes_on notice a b c x y z one two = record {
-  passes =
-      passed_on (tokens_in a.guests) notice (passed_in a.guests) (passed_in b.guests) (passed_in c.guests) x y z one.passes
-      (subst (λ (t : Option (List TokenDigest)). Passes t notice (passed_in b.guests) (passed_in c.guests) y z) one.tokens two.passes);
-  tokens = two.tokens ∙ one.tokens;
-  waits = follows_on notice a.seats.items b.seats.items c.seats.items one.waits two.waits;
-  told = two.told ∙ one.told;
-  sits = changes_on notice a.seats.items b.seats.items c.seats.items one.sits two.sits;
-}
+-- ---- pieces
 
-pub comes_of : (old new : Seats) (wired_old wired_new : List Passage) → new.guests ≡ old.guests → new.seats.items ≡ old.seats.items → new.told ≡ old.told → wired_new ≡ wired_old → Comes None old new wired_old wired_new
-comes_of old new wired_old wired_new guests seats told wired = record {
-  passes = nothing_passes (tokens_in old.guests) (passed_in old.guests) (passed_in new.guests) wired_old wired_new (ap passed_in guests) wired;
-  tokens = ap tokens_in guests;
-  waits = λ seat. ap (λ (s : List SeatOf). waits_at s seat) seats;
-  told = told;
-  sits = λ seat. ap (λ (s : List SeatOf). sits_at s seat) seats;
-}
+-- of a guest none is told
+pub no_piece : (tokens : List TokenDigest) (came : List ℕ) (notice : Option SeatNotice) (seat most : ℕ) → IsToldOf tokens came notice → IsPieceOf seat most notice
+no_piece tokens came None seat most told = tt
+no_piece tokens came (Some (notices.Came at)) seat most told = tt
+no_piece tokens came (Some (notices.Piece at bytes)) seat most told = absurd told
+no_piece tokens came (Some (notices.Gone at)) seat most told = tt
+no_piece tokens came (Some (notices.Refused at)) seat most told = tt

@@ -3,11 +3,13 @@ use Rattle.std.proofs.Common.{◌≡◌, inl, ℕ, true, false, List, [], ◌∷
 use Rattle.std.specs.Prelude.{codes, Some}
 use Rattle.std.proofs.lemmas.List.{length-append}
 use Rattle.sha2.specs.Sha256.{sha256}
-use Rattle.node_wires.specs.declared.line.Line.TheVariants.{Guest}
-use Rattle.node_wires.specs.Passages.{Passage, Began, Came, Gave}
+use Rattle.node_wires.specs.declared.line.Line.TheVariants.{Guest, Seat}
+use Rattle.node_wires.specs.Passages.{Passage, Began, Came, Wrote, Gave}
 use Rattle.node_seats.specs.declared.token_digest.TokenDigest.{TokenDigest}
 use Rattle.node_seats.specs.declared.seat_notice.SeatNotice.TheVariants as notices
 use Rattle.node_seats.specs.Lines.{line_of}
+use Rattle.node_seats.specs.Others.{TellsNoGuest}
+use Rattle.node_seats.specs.Writing.{AreToSeats, WritesToSeats}
 use Rattle.node_seats.specs.Tokens.{is_token_digit, IsTokenLine}
 use Rattle.node_seats.specs.Guesting.{ShowsToken, IsToldOf, IsGuested, Passes}
 use Rattle.node_seats.proofs.Tokens.{token_length}
@@ -82,3 +84,14 @@ throws_nobody_out shows = omega (arith, (token_length (sha256 sevens) (codes "VE
 
 right_one_is_not_refused : IsToldOf tokens shown (Some (notices.Refused 1)) → ⊥
 right_one_is_not_refused refused = refused makes_room
+
+-- ---- what is written
+
+told_to_a_seat : WritesToSeats said (said ++ Wrote (Seat 1) (65 ∷ []) ∷ [])
+told_to_a_seat = record { more = Wrote (Seat 1) (65 ∷ []) ∷ []; to_seats = (tt, tt); passed = refl }
+
+not_to_a_guest : AreToSeats (Wrote (Guest 3) (65 ∷ []) ∷ []) → ⊥
+not_to_a_guest are = are.0
+
+a_guest_is_told : TellsNoGuest said (said ++ Wrote (Guest 3) (65 ∷ []) ∷ []) → ⊥
+a_guest_is_told none = omega (arith, ap length (none 3 refl))

@@ -1,5 +1,5 @@
 -- What passes over lines of bots and of guests leaves those of others.
-use Rattle.std.proofs.Common.{◌≡◌, ℕ, Bool, true, false, List, [], ◌∷◌, ◌++◌, refl, ap, ◌∙◌, subst, sym}
+use Rattle.std.proofs.Common.{◌≡◌, ℕ, Bool, true, false, if◌then◌else◌, List, [], ◌∷◌, ◌++◌, refl, ap, ◌∙◌, subst, sym}
 use Rattle.std.proofs.lemmas.Bool.{cond-false}
 use Rattle.std.specs.Prelude.{Option, Some, None}
 use Rattle.node_wires.specs.declared.line.Line.{Line}
@@ -9,7 +9,7 @@ use Rattle.node_seats.specs.declared.seats.Seats.{Seats}
 use Rattle.node_seats.specs.declared.seat_notice.SeatNotice.{SeatNotice}
 use Rattle.node_seats.specs.declared.seat_notice.SeatNotice.TheVariants as notices
 use Rattle.node_seats.specs.declared.token_digest.TokenDigest.{TokenDigest}
-use Rattle.node_seats.specs.Others.{is_bots, KeepsOthers}
+use Rattle.node_seats.specs.Others.{is_bots, KeepsOthers, TellsNoGuest}
 use Rattle.node_seats.specs.Passing.{AreOfGuests, passed_by}
 use Rattle.node_seats.specs.Guesting.{IsGuested, behind_by}
 use Rattle.node_seats.specs.Coming.{Comes, tokens_of, passed_of}
@@ -137,3 +137,62 @@ bots_come (Some tokens) (Some (notices.Refused seat)) old more is = both_of_bots
 pub keeps_coming : (notice : Option SeatNotice) (old new : Seats) (wired_old wired_new : List Passage) → Comes notice old new wired_old wired_new → KeepsOthers wired_old wired_new
 keeps_coming notice old new wired_old wired_new comes =
     keeps_by wired_old wired_new (comes.passes.more ++ behind_by (tokens_of old) notice) (bots_come (tokens_of old) notice (passed_of old) comes.passes.more comes.passes.guested) comes.passes.wired
+
+-- ---- guests are told nothing
+
+abbrev IsUnsaid : Passage → Type 0
+IsUnsaid (Wrote line bytes) = ⊥
+IsUnsaid (Began line) = Unit {0}
+IsUnsaid (Came line bytes) = Unit {0}
+IsUnsaid (Gave place seat) = Unit {0}
+IsUnsaid (Logged text) = Unit {0}
+
+abbrev AreUnsaid : List Passage → Type 0
+AreUnsaid [] = Unit {0}
+AreUnsaid (p ∷ more) = IsUnsaid p × AreUnsaid more
+
+both_unsaid : (xs ys : List Passage) → AreUnsaid xs → AreUnsaid ys → AreUnsaid (xs ++ ys)
+both_unsaid [] ys are others = others
+both_unsaid (x ∷ xs) ys are others = (are.0, both_unsaid xs ys are.1 others)
+
+unsaid_of_guests : (ps : List Passage) → AreOfGuests ps → AreUnsaid ps
+unsaid_of_guests [] are = tt
+unsaid_of_guests (Began line ∷ ps) are = (tt, unsaid_of_guests ps are.1)
+unsaid_of_guests (Came line bytes ∷ ps) are = (tt, unsaid_of_guests ps are.1)
+unsaid_of_guests (Wrote line bytes ∷ ps) are = absurd are.0
+unsaid_of_guests (Gave place seat ∷ ps) are = absurd are.0
+unsaid_of_guests (Logged text ∷ ps) are = absurd are.0
+
+unsaid_passed : (notice : Option SeatNotice) → AreUnsaid (passed_by notice)
+unsaid_passed None = tt
+unsaid_passed (Some (notices.Came seat)) = (tt, tt)
+unsaid_passed (Some (notices.Piece seat bytes)) = (tt, tt)
+unsaid_passed (Some (notices.Gone seat)) = tt
+unsaid_passed (Some (notices.Refused seat)) = tt
+
+unsaid_come : (tokens : Option (List TokenDigest)) (notice : Option SeatNotice) (old more : List Passage) → IsGuested tokens notice old more → AreUnsaid (more ++ behind_by tokens notice)
+unsaid_come None notice old more is = subst (λ (ps : List Passage). AreUnsaid (ps ++ passed_by notice)) (sym is) (unsaid_passed notice)
+unsaid_come (Some tokens) None old more is = both_unsaid more [] (unsaid_of_guests more is) tt
+unsaid_come (Some tokens) (Some (notices.Came seat)) old more is =
+    both_unsaid more [] (subst (λ (ps : List Passage). AreUnsaid ps) (sym is.given) (both_unsaid is.front (Gave is.place seat ∷ []) (unsaid_of_guests is.front is.of_guests) (tt, tt))) tt
+unsaid_come (Some tokens) (Some (notices.Piece seat bytes)) old more is = both_unsaid more (Came (Seat seat) bytes.items ∷ []) (unsaid_of_guests more is) (tt, tt)
+unsaid_come (Some tokens) (Some (notices.Gone seat)) old more is = both_unsaid more [] (unsaid_of_guests more is) tt
+unsaid_come (Some tokens) (Some (notices.Refused seat)) old more is = both_unsaid more [] (unsaid_of_guests more is) tt
+
+none_or : (b : Bool) (before : List ℕ) → before ≡ [] → (if b then [] else before) ≡ []
+none_or true before none = refl
+none_or false before none = none
+
+nothing_said : (line : Line) (before : List ℕ) (ps : List Passage) → before ≡ [] → AreUnsaid ps → wrote_behind line before ps ≡ []
+nothing_said line before [] none are = none
+nothing_said line before (Began at ∷ ps) none are = nothing_said line (wrote_by line before (Began at)) ps (none_or (is_line at line) before none) are.1
+nothing_said line before (Came at bytes ∷ ps) none are = nothing_said line before ps none are.1
+nothing_said line before (Wrote at bytes ∷ ps) none are = absurd are.0
+nothing_said line before (Gave place seat ∷ ps) none are = nothing_said line (wrote_by line before (Gave place seat)) ps (none_or (is_given place seat line) before none) are.1
+nothing_said line before (Logged text ∷ ps) none are = nothing_said line before ps none are.1
+
+pub no_guest_told_coming : (notice : Option SeatNotice) (old new : Seats) (wired_old wired_new : List Passage) → Comes notice old new wired_old wired_new → TellsNoGuest wired_old wired_new
+no_guest_told_coming notice old new wired_old wired_new comes place none =
+    let more = comes.passes.more ++ behind_by (tokens_of old) notice in
+    ap (λ (ps : List Passage). wrote_over ps (Guest place)) comes.passes.wired
+    ∙ (wrote_both (Guest place) [] wired_old more ∙ nothing_said (Guest place) (wrote_over wired_old (Guest place)) more none (unsaid_come (tokens_of old) notice (passed_of old) comes.passes.more comes.passes.guested))

@@ -1,5 +1,5 @@
 -- What was told to seats is what is written to them, call by call.
-use Rattle.std.proofs.Common.{◌≡◌, ◌≢◌, ◌⊎◌, inl, inr, ℕ, ◌<◌, ◌==◌, ◌&&◌, eqb, Bool, true, false, if◌then◌else◌, List, [], ◌∷◌, ◌++◌, append_assoc, append-nil, length, set, get_or, refl, ap, sym, subst, ◌∙◌}
+use Rattle.std.proofs.Common.{◌≡◌, ◌≢◌, inl, inr, ℕ, ◌<◌, ◌==◌, ◌&&◌, Bool, true, false, if◌then◌else◌, List, [], ◌∷◌, ◌++◌, append_assoc, append-nil, length, set, get_or, refl, ap, sym, subst, ◌∙◌}
 use Rattle.std.proofs.lemmas.Bool.{cond-true, cond-false, eq-eqb, ne_eqb}
 use Rattle.std.proofs.lemmas.Bool.Decides.{eqb_tells}
 use Rattle.std.proofs.lemmas.List.{get_or_default}
@@ -16,7 +16,7 @@ use Rattle.node_seats.specs.Passing.{AreOfGuests, TakesNobody, passed_by}
 use Rattle.node_seats.specs.Guesting.{IsGuested, behind_by}
 use Rattle.node_seats.specs.Writing.{Writes}
 use Rattle.node_seats.specs.Coming.{Comes, tokens_of, passed_of}
-use Rattle.node_seats.specs.Seating.{nobody, waits_at, sits_at, Follows, Changes, Tells, IsOf, Flushes}
+use Rattle.node_seats.specs.Seating.{nobody, waits_at, sits_at, Follows, Changes, Tells, Flushes}
 use Rattle.node_seats.specs.Telling.{line_to, lines_to, IsMadeOf, IsSaid, AreSaid, Loses}
 use Rattle.node_seats.proofs.Seating.{waits_here}
 use Rattle.node_seats.proofs.Others.{wrote_both}

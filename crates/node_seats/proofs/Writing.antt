@@ -1,12 +1,13 @@
 -- What is written to the bots of seats, call by call.
-use Rattle.std.proofs.Common.{◌≡◌, ℕ, ◌==◌, Bool, true, false, cond, List, [], ◌∷◌, ◌++◌, take, drop, append_assoc, refl, ap, sym, subst, ◌∙◌}
+use Rattle.std.proofs.Common.{◌≡◌, ℕ, ◌==◌, Bool, true, false, cond, List, [], ◌∷◌, ◌++◌, take, drop, append_assoc, append-nil, refl, ap, sym, subst, ◌∙◌}
 use Rattle.std.proofs.lemmas.Bool.{eq-eqb, ne_eqb}
 use Rattle.std.proofs.lemmas.List.{take-append-drop}
 use Rattle.node_wires.specs.declared.line.Line.{Line}
-use Rattle.node_wires.specs.declared.line.Line.TheVariants.{Seat}
+use Rattle.node_wires.specs.declared.line.Line.TheVariants.{Peer, Caller, Seat, Guest, Asker}
 use Rattle.node_wires.specs.Passages.{Passage, Began, Came, Wrote, Gave, Logged, of_seat, seats_in, wrote_by, wrote_behind, wrote_over, logged_in}
-use Rattle.node_seats.specs.Writing.{Writes}
-use Rattle.node_seats.proofs.Others.{keeps_same, keeps_on, keeps_written}
+use Rattle.node_seats.specs.Others.{TellsNoGuest}
+use Rattle.node_seats.specs.Writing.{Writes, AreToSeats, WritesToSeats}
+use Rattle.node_seats.proofs.Others.{wrote_both, keeps_same, keeps_on, keeps_written}
 
 -- ---- behind what passed, one passage more
 
@@ -34,6 +35,40 @@ to_another : (same : Bool) (before bytes : List ℕ) → same ≡ false → cond
 to_another true before bytes e = absurd cc
 to_another false before bytes e = refl
 
+-- ---- to seats alone
+
+pub none_to_seats : (old new : List Passage) → new ≡ old → WritesToSeats old new
+none_to_seats old new e = record { more = []; to_seats = tt; passed = e ∙ sym (append-nil old) }
+
+both_to_seats : (xs ys : List Passage) → AreToSeats xs → AreToSeats ys → AreToSeats (xs ++ ys)
+both_to_seats [] ys are others = others
+both_to_seats (x ∷ xs) ys are others = (are.0, both_to_seats xs ys are.1 others)
+
+pub to_seats_on : (a b c : List Passage) → WritesToSeats a b → WritesToSeats b c → WritesToSeats a c
+to_seats_on a b c one two = record {
+  more = one.more ++ two.more;
+  to_seats = both_to_seats one.more two.more one.to_seats two.to_seats;
+  passed = two.passed ∙ (ap (λ (ps : List Passage). ps ++ two.more) one.passed ∙ append_assoc a one.more two.more);
+}
+
+-- to guests nothing is
+not_to_guests : (place : ℕ) (before : List ℕ) (ps : List Passage) → AreToSeats ps → wrote_behind (Guest place) before ps ≡ before
+not_to_guests place before [] are = refl
+not_to_guests place before (Wrote (Seat number) bytes ∷ ps) are = not_to_guests place before ps are.1
+not_to_guests place before (Wrote (Peer n) bytes ∷ ps) are = absurd are.0
+not_to_guests place before (Wrote (Caller n) bytes ∷ ps) are = absurd are.0
+not_to_guests place before (Wrote (Guest n) bytes ∷ ps) are = absurd are.0
+not_to_guests place before (Wrote (Asker n) bytes ∷ ps) are = absurd are.0
+not_to_guests place before (Began line ∷ ps) are = absurd are.0
+not_to_guests place before (Came line bytes ∷ ps) are = absurd are.0
+not_to_guests place before (Gave at seat ∷ ps) are = absurd are.0
+not_to_guests place before (Logged text ∷ ps) are = absurd are.0
+
+pub no_guest_told : (old new : List Passage) → WritesToSeats old new → TellsNoGuest old new
+no_guest_told old new writes place none =
+    ap (λ (ps : List Passage). wrote_over ps (Guest place)) writes.passed
+    ∙ (wrote_both (Guest place) [] old writes.more ∙ (not_to_guests place (wrote_over old (Guest place)) writes.more writes.to_seats ∙ none))
+
 -- ---- calls
 
 pub nothing_written : (number : ℕ) (old new : List ℕ) (passed_old passed_new : List Passage) → new ≡ old → passed_new ≡ passed_old → Writes number old new passed_old passed_new
@@ -43,6 +78,7 @@ nothing_written number old new passed_old passed_new e f = record {
   seats = ap seats_in f;
   left = keeps_same passed_old passed_new f;
   log = ap logged_in f;
+  all = none_to_seats passed_old passed_new f;
 }
 
 pub written_on : (number : ℕ) (a b c : List ℕ) (x y z : List Passage) → Writes number a b x y → Writes number b c y z → Writes number a c x z
@@ -52,6 +88,7 @@ written_on number a b c x y z one two = record {
   seats = two.seats ∙ one.seats;
   left = keeps_on x y z one.left two.left;
   log = two.log ∙ one.log;
+  all = to_seats_on x y z one.all two.all;
 }
 
 pub some_written : (number count : ℕ) (old bytes new : List ℕ) (passed_old passed_new : List Passage) → bytes ≡ old → new ≡ drop count old
@@ -70,4 +107,5 @@ some_written number count old bytes new passed_old passed_new same e wrote =
       seats = ap seats_in f ∙ seats_and_write passed_old (Seat number) piece;
       left = keeps_written number piece passed_old passed_new f;
       log = ap logged_in f ∙ log_and_write passed_old (Seat number) piece;
+      all = record { more = Wrote (Seat number) piece ∷ []; to_seats = (tt, tt); passed = f };
     }

@@ -1,6 +1,7 @@
 pub mod Lines
 pub mod Tokens
 pub mod Passing
+pub mod Pieces
 pub mod Others
 pub mod Writing
 pub mod Guesting

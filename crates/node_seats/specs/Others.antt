@@ -1,5 +1,5 @@
 -- What passes over lines of others.
-use Rattle.std.specs.Prelude.{◌≡◌, Bool, true, false, List}
+use Rattle.std.specs.Prelude.{◌≡◌, ℕ, Bool, true, false, List, []}
 use Rattle.node_wires.specs.declared.line.Line.{Line}
 use Rattle.node_wires.specs.declared.line.Line.TheVariants.{Peer, Caller, Seat, Guest, Asker}
 use Rattle.node_wires.specs.Passages.{Passage, came_over, wrote_over}
@@ -15,3 +15,7 @@ is_bots (Asker place) = false
 pub record KeepsOthers (old new : List Passage) : Type 0 where
   pub wrote : (line : Line) → is_bots line ≡ false → wrote_over new line ≡ wrote_over old line
   pub came : (line : Line) → is_bots line ≡ false → came_over new line ≡ came_over old line
+
+-- to guests nothing is written: over the connection of each nothing was, so nothing is
+abbrev pub TellsNoGuest : List Passage → List Passage → Type 0
+TellsNoGuest old new = (place : ℕ) → wrote_over old (Guest place) ≡ [] → wrote_over new (Guest place) ≡ []

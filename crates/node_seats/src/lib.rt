@@ -1,8 +1,9 @@
 //! The bots of a node's seats, over the wires of its process.
 //!
-//! `Seats::next` takes one thing that came of a seat: a bot that was taken in, a piece that it sent, or its end. `tell` puts
-//! a line behind those that wait for it, `flush` writes what waits. A seat has one bot at a time: who comes meanwhile waits
-//! in the system's queue.
+//! `Seats::next` takes one thing that came of the seat that is asked: a bot that was taken in, a piece that it sent, or its
+//! end. Who asks each of them (`looks`) once a turn takes no more of one seat than one piece. `tell` puts a line behind those
+//! that wait for a seat, `flush` writes what waits. A seat has one bot at a time: who comes meanwhile waits in the system's
+//! queue.
 //!
 //! Where seats have tokens, who comes to a seat's port is a guest first: his first line is to be `#TOKEN ` and the 64
 //! hexadecimal digits whose SHA-256 is the seat's `TokenDigest`. Then he is the seat's bot, in place of the one that sits

@@ -1,7 +1,7 @@
 //! The counts of a process's seats. Times are in microseconds.
 
 /// The most bytes of a piece that is taken of a bot at once.
-pub const PIECE: usize = 4096;
+pub const PIECE: usize = 512;
 
 /// A bot for whom so many bytes wait and more is to be said is let go: it doesn't read.
 pub const BACKLOG: usize = 1 << 20;

@@ -1,17 +1,17 @@
 //! One seat.
 
-ghost use Rattle.std.specs.Prelude.{◌≡◌, ◌++◌, [], true, false, IfSome, Some, length, OnOk, OnErr};
+ghost use Rattle.std.specs.Prelude.{◌≡◌, ◌++◌, ℕ, [], true, false, IfSome, Some, length, OnOk, OnErr};
 ghost use Rattle.node_seats.specs.declared.seat_notice.SeatNotice.TheVariants as notices;
 ghost use Rattle.node_seats.specs.Lines.{line_of};
 ghost use Rattle.node_wires.specs.declared.line.Line.TheVariants.{Guest as GuestAt};
 ghost use Rattle.node_wires.specs.Passages.{came_over};
 ghost use Rattle.node_seats.specs.Passing.{Passed, TakesNobody, seat_of, Leaves};
+ghost use Rattle.node_seats.specs.Pieces.{IsPieceOf};
 ghost use Rattle.node_seats.specs.Guesting.{ShowsToken, IsToldOf, Passes};
 ghost use Rattle.node_seats.specs.Seating.{Sits};
 ghost use Rattle.node_seats.specs.Writing.{Writes};
 
 use crate::guests::Guests;
-use crate::limits::PIECE;
 use crate::seat_notice::SeatNotice;
 use byte_queue::ByteQueue;
 use node_wires::{Halt, Line, Wire};
@@ -66,6 +66,7 @@ impl Seat {
         requires { self.old.sits ≡ false }
         ensures passed { Passed result (W.passed wire.old) (W.passed wire.new) }
         ensures seat { IfSome result (λ notice. seat_of notice ≡ number) }
+        ensures piece { (seat most : ℕ) → IsPieceOf seat most result }
         ensures waiting { Leaves result self.old.waiting.waiting self.new.waiting.waiting }
         ensures sits { Sits result self.old.sits self.new.sits }
     {
@@ -91,21 +92,28 @@ impl Seat {
         SeatNotice::Gone { seat: number }
     }
 
-    /// Takes the next piece of who sits there. Without memory for it nothing is read.
+    /// Takes the next piece of who sits there, no more than the buffer holds. Without memory for it nothing is read.
     #[tactic(auto, using(crate::proofs::Lists::nothing_more, crate::proofs::Lists::nothing_passed))]
-    fn take_piece<W: Wire>(&mut self, alloc: Global, wire: &mut W, number: u8) -> Option<SeatNotice>
+    fn take_piece<W: Wire>(
+        &mut self,
+        alloc: Global,
+        buffer: &mut [u8],
+        wire: &mut W,
+        number: u8,
+    ) -> Option<SeatNotice>
         ensures nobody { TakesNobody result }
         ensures passed { Passed result (W.passed wire.old) (W.passed wire.new) }
         ensures seat { IfSome result (λ notice. seat_of notice ≡ number) }
+        ensures piece { IsPieceOf number (length buffer.old) result }
         ensures waiting { Leaves result self.old.waiting.waiting self.new.waiting.waiting }
         ensures sits { Sits result self.old.sits self.new.sits }
     {
-        let Ok(mut bytes) = Vec::from_slice(alloc, &[0; PIECE]) else {
+        let Ok(mut bytes) = Vec::with_capacity(alloc, buffer.len()) else {
             return None;
         };
-        match wire.read(Line::Seat(number), &mut bytes) {
+        match wire.read(Line::Seat(number), buffer) {
             Ok(count) => {
-                bytes.truncate(count);
+                bytes.extend_from_slice(&buffer[..count]).unwrap();
                 Some(SeatNotice::Piece {
                     seat: number,
                     bytes,
@@ -120,17 +128,19 @@ impl Seat {
     pub(crate) fn next_piece<W: Wire>(
         &mut self,
         alloc: Global,
+        buffer: &mut [u8],
         wire: &mut W,
         number: u8,
     ) -> Option<SeatNotice>
         ensures passed { Passed result (W.passed wire.old) (W.passed wire.new) }
         ensures nobody { TakesNobody result }
         ensures seat { IfSome result (λ notice. seat_of notice ≡ number) }
+        ensures piece { IsPieceOf number (length buffer.old) result }
         ensures waiting { Leaves result self.old.waiting.waiting self.new.waiting.waiting }
         ensures sits { Sits result self.old.sits self.new.sits }
     {
         if self.sits {
-            self.take_piece(alloc, wire, number)
+            self.take_piece(alloc, buffer, wire, number)
         } else {
             None
         }
@@ -141,16 +151,18 @@ impl Seat {
     pub(crate) fn next<W: Wire>(
         &mut self,
         alloc: Global,
+        buffer: &mut [u8],
         wire: &mut W,
         number: u8,
     ) -> Option<SeatNotice>
         ensures passed { Passed result (W.passed wire.old) (W.passed wire.new) }
         ensures seat { IfSome result (λ notice. seat_of notice ≡ number) }
+        ensures piece { IsPieceOf number (length buffer.old) result }
         ensures waiting { Leaves result self.old.waiting.waiting self.new.waiting.waiting }
         ensures sits { Sits result self.old.sits self.new.sits }
     {
         if self.sits {
-            self.take_piece(alloc, wire, number)
+            self.take_piece(alloc, buffer, wire, number)
         } else {
             self.take_in(wire, number)
         }

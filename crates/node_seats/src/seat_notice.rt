@@ -1,3 +1,8 @@
+ghost use Rattle.std.specs.Prelude.{◌≡◌};
+ghost use Rattle.node_seats.specs.Pieces.{may_have_more};
+
+use crate::limits::PIECE;
+
 /// What came of a seat.
 #[derive(Drop)]
 pub enum SeatNotice {
@@ -9,4 +14,17 @@ pub enum SeatNotice {
     Gone { seat: u8 },
     /// Who came to its port didn't show its token.
     Refused { seat: u8 },
+}
+
+impl SeatNotice {
+    /// Whether more of the same seat may be there by now. Behind a piece that is shorter than it may be there is nothing: that
+    /// was all that had come.
+    pub fn may_have_more(&self) -> bool
+        ensures { result ≡ may_have_more self.now }
+    {
+        match self {
+            SeatNotice::Piece { seat: _, bytes } => bytes.len() == PIECE,
+            SeatNotice::Came { .. } | SeatNotice::Gone { .. } | SeatNotice::Refused { .. } => true,
+        }
+    }
 }

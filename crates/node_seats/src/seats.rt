@@ -4,14 +4,15 @@ ghost use Rattle.node_wires.specs.declared.line.Line.TheVariants.{Guest as Guest
 ghost use Rattle.node_wires.specs.Passages.{Passage, Wrote, came_over, seats_in, logged_in};
 ghost use Rattle.node_seats.specs.Passing.{Passed, TakesNobody, passed_by};
 ghost use Rattle.node_seats.specs.Guesting.{IsToldOf, Passes};
-ghost use Rattle.node_seats.specs.Others.{KeepsOthers};
+ghost use Rattle.node_seats.specs.Others.{KeepsOthers, TellsNoGuest};
+ghost use Rattle.node_seats.specs.Writing.{WritesToSeats};
 ghost use Rattle.node_seats.specs.Seating.{Follows, Changes, bit_of, waits_at};
 ghost use Rattle.node_seats.specs.Telling.{lines_of, AreSaid, Loses};
 ghost use Rattle.node_seats.specs.Coming.{passed_in, tokens_in};
 
 use crate::guest::Found;
 use crate::guests::Guests;
-use crate::limits::BACKLOG;
+use crate::limits::{BACKLOG, PIECE};
 use crate::seat::Seat;
 use crate::seat_notice::SeatNotice;
 use crate::token_digest::TokenDigest;
@@ -28,9 +29,8 @@ pub struct Seats {
     seats: Vec<Seat>,
     /// Where seats have tokens, who came to their ports and hasn't shown one yet.
     guests: Option<Guests>,
-    /// The seat that is looked at next, or behind all seats the place of a guest, so that none is passed over while others
-    /// send much.
-    turn: u8,
+    /// Where a piece stands while it is read.
+    buffer: [u8; PIECE],
     /// The lines that were told, for clauses alone.
     told: Passages,
 }
@@ -95,7 +95,8 @@ fn hear_guest<W: Wire>(
 
 impl Seats {
     ghost use Rattle.node_seats.specs.Seating.{sits_at, Tells, Flushes};
-    ghost use Rattle.node_seats.specs.declared.limits.TheConstants.{BACKLOG as MOST};
+    ghost use Rattle.node_seats.specs.declared.limits.TheConstants.{BACKLOG as MOST, PIECE as LONGEST};
+    ghost use Rattle.node_seats.specs.Pieces.{IsPieceOf};
     ghost use Rattle.node_seats.specs.Coming.{tokens_of, passed_of, Comes};
 
     /// So many seats, where nobody sits. With tokens, of each seat by its number, a seat takes nobody but who shows its own,
@@ -118,7 +119,7 @@ impl Seats {
             count,
             seats,
             guests,
-            turn: 0,
+            buffer: [0; PIECE],
             told: Passages::new(),
         })
     }
@@ -126,22 +127,24 @@ impl Seats {
     /// What came next of a seat. Where seats have tokens, who came to its port is a guest from now on.
     #[tactic(auto, using(crate::proofs::Coming::plain_passes, crate::proofs::Coming::nothing_passes, crate::proofs::Coming::bot_passes))]
     fn look_at_seat<W: Wire>(&mut self, wire: &mut W, number: u8, now: u64) -> Option<SeatNotice>
-        ensures { Comes result self.old self.new (W.passed wire.old) (W.passed wire.new) }
+        ensures comes { Comes result self.old self.new (W.passed wire.old) (W.passed wire.new) }
+        ensures piece { IsPieceOf number LONGEST result }
     {
         let seat = self.seats.get_mut(number as usize)?;
         match &mut self.guests {
-            None => seat.next(self.alloc, wire, number),
+            None => seat.next(self.alloc, &mut self.buffer, wire, number),
             Some(guests) => {
                 guests.accept(wire, number, now);
-                seat.next_piece(self.alloc, wire, number)
+                seat.next_piece(self.alloc, &mut self.buffer, wire, number)
             }
         }
     }
 
     /// What came next of the guest at a place.
-    #[tactic(auto, using(crate::proofs::Coming::nothing_passes))]
+    #[tactic(auto, using(crate::proofs::Coming::nothing_passes, crate::proofs::Coming::no_piece))]
     fn look_at_guest<W: Wire>(&mut self, wire: &mut W, place: u8, now: u64) -> Option<SeatNotice>
-        ensures { Comes result self.old self.new (W.passed wire.old) (W.passed wire.new) }
+        ensures comes { Comes result self.old self.new (W.passed wire.old) (W.passed wire.new) }
+        ensures piece { (seat most : ℕ) → IsPieceOf seat most result }
     {
         match &mut self.guests {
             Some(guests) => hear_guest(guests, &mut self.seats, wire, place, now),
@@ -149,23 +152,19 @@ impl Seats {
         }
     }
 
-    /// What came next of the seat, or of the guest, whose turn it is.
+    /// What came next of a seat or, by numbers behind those of all seats, of the guest at a place.
     fn look<W: Wire>(&mut self, wire: &mut W, at: u8, now: u64) -> Option<SeatNotice>
-        ensures { Comes result self.old self.new (W.passed wire.old) (W.passed wire.new) }
+        ensures comes { Comes result self.old self.new (W.passed wire.old) (W.passed wire.new) }
+        ensures piece { IsPieceOf at LONGEST result }
     {
-        let Some(place) = at.checked_sub(self.count) else {
-            return self.look_at_seat(wire, at, now);
-        };
-        let notice = self.look_at_guest(wire, place, now);
-        if let Some(SeatNotice::Gone { seat: _ }) = notice {
-            // The guest for whom he made room is next.
-            self.turn = at;
+        match at.checked_sub(self.count) {
+            None => self.look_at_seat(wire, at, now),
+            Some(place) => self.look_at_guest(wire, place, now),
         }
-        notice
     }
 
-    /// How many seats and places of guests are looked at in turn.
-    fn looks(&self) -> u8 {
+    /// How many there are of whom `next` tells: the seats and, where these have tokens, the places of guests behind them.
+    pub fn looks(&self) -> u8 {
         if self.guests.is_some() {
             self.count.saturating_add(GUESTS as u8)
         } else {
@@ -173,56 +172,30 @@ impl Seats {
         }
     }
 
-    /// The seat, or behind all seats the place of a guest, that is looked at now.
-    fn take_turn(&mut self) -> u8
-        ensures seats { self.new.seats ≡ self.old.seats }
-        ensures guests { self.new.guests ≡ self.old.guests }
-        ensures told { self.new.told ≡ self.old.told }
-    {
-        let at = self.turn;
-        self.turn = if at.saturating_add(1) < self.looks() {
-            at.saturating_add(1)
-        } else {
-            0
-        };
-        at
-    }
-
-    /// What came next of those whose turn it is, each of whom is asked once at most, from the one behind the last on.
-    #[tactic(auto, using(crate::proofs::Coming::comes_on, crate::proofs::Coming::comes_of))]
-    fn next_in_turn<W: Wire>(&mut self, wire: &mut W, now: u64) -> Option<SeatNotice>
-        ensures { Comes result self.old self.new (W.passed wire.old) (W.passed wire.new) }
-    {
-        for _ in 0..self.looks() {
-            let at = self.take_turn();
-            if let Some(notice) = self.look(wire, at, now) {
-                return Some(notice);
-            }
-        }
-        None
-    }
-
-    /// What came next of a seat, if anything did: each is asked once at most, from the one behind the last on, and each guest
-    /// where seats have tokens. Nothing waits for one who was taken in.
+    /// What came next of one of them, by its number, if anything did. Nothing waits for one who was taken in. Of a seat one
+    /// piece comes at a time, of 512 bytes at most, and of a guest none.
     ///
     /// With tokens who was taken in was a guest who showed the token of that seat, and nothing else had come of him; who sat
     /// there is told to be gone before. Nothing that came of a guest is told.
     #[tactic(auto, using(crate::proofs::Coming::plain_passed, crate::proofs::Coming::seats_come, crate::proofs::Coming::log_stays, crate::proofs::Others::keeps_coming, crate::proofs::Telling::said_coming))]
-    pub fn next<W: Wire>(&mut self, wire: &mut W, now: u64) -> Option<SeatNotice>
+    pub fn next<W: Wire>(&mut self, wire: &mut W, at: u8, now: u64) -> Option<SeatNotice>
         ensures comes { Comes result self.old self.new (W.passed wire.old) (W.passed wire.new) }
+        ensures piece { IsPieceOf at LONGEST result }
         ensures plain { tokens_of self.old ≡ None → Passed result (W.passed wire.old) (W.passed wire.new) }
         ensures seats { seats_in (W.passed wire.new) ≡ seats_in (W.passed wire.old) ++ seats_in (passed_by result) }
         ensures log { logged_in (W.passed wire.new) ≡ logged_in (W.passed wire.old) }
         ensures others { KeepsOthers (W.passed wire.old) (W.passed wire.new) }
+        ensures unsaid { TellsNoGuest (W.passed wire.old) (W.passed wire.new) }
         ensures said { AreSaid (W.passed wire.old) (lines_of self.old) self.old.seats.items → AreSaid (W.passed wire.new) (lines_of self.old) self.new.seats.items }
     {
-        self.next_in_turn(wire, now)
+        self.look(wire, at, now)
     }
 
     /// Puts a line behind those that wait for a seat, as `tell` does.
     #[tactic(auto, using(crate::proofs::Seating::waits_here, crate::proofs::Seating::waits_elsewhere, crate::proofs::Seating::sits_alike))]
     fn keep(&mut self, seat: u8, line: &[u8]) -> bool
         ensures told { self.new.told ≡ self.old.told }
+        ensures guests { self.new.guests ≡ self.old.guests }
         ensures tells { Tells seat line.now result self.old.seats.items self.new.seats.items }
         ensures bound { result ≡ true → sits_at self.old.seats.items seat ≡ true → length (waits_at self.old.seats.items seat) < MOST }
         ensures sits { (seat : ℕ) → sits_at self.new.seats.items seat ≡ sits_at self.old.seats.items seat }
@@ -243,6 +216,7 @@ impl Seats {
     #[tactic(auto, using(crate::proofs::Telling::said_telling))]
     pub fn tell(&mut self, seat: u8, line: &[u8]) -> bool
         ensures told { lines_of self.new ≡ lines_of self.old ++ Wrote (SeatOf seat) line.now ∷ [] }
+        ensures guests { self.new.guests ≡ self.old.guests }
         ensures tells { Tells seat line.now result self.old.seats.items self.new.seats.items }
         ensures bound { result ≡ true → sits_at self.old.seats.items seat ≡ true → length (waits_at self.old.seats.items seat) < MOST }
         ensures sits { (seat : ℕ) → sits_at self.new.seats.items seat ≡ sits_at self.old.seats.items seat }
@@ -267,6 +241,7 @@ impl Seats {
     pub fn hang_up<W: Wire>(&mut self, wire: &mut W, seat: u8) -> Option<SeatNotice>
         ensures passed { W.passed wire.new ≡ W.passed wire.old }
         ensures told { lines_of self.new ≡ lines_of self.old }
+        ensures guests { self.new.guests ≡ self.old.guests }
         ensures waits { Follows result self.old.seats.items self.new.seats.items }
         ensures sits { Changes result self.old.seats.items self.new.seats.items }
         ensures said { AreSaid (W.passed wire.old) (lines_of self.old) self.old.seats.items → AreSaid (W.passed wire.new) (lines_of self.old) self.new.seats.items }
@@ -279,6 +254,7 @@ impl Seats {
     fn let_go<W: Wire>(&mut self, wire: &mut W, seat: u8) -> Option<SeatNotice>
         ensures nobody { TakesNobody result }
         ensures told { self.new.told ≡ self.old.told }
+        ensures guests { self.new.guests ≡ self.old.guests }
         ensures passed { W.passed wire.new ≡ W.passed wire.old }
         ensures waits { Follows result self.old.seats.items self.new.seats.items }
         ensures sits { Changes result self.old.seats.items self.new.seats.items }
@@ -298,7 +274,7 @@ impl Seats {
 
     /// Writes what waits for a seat. It answers whether its connection ended, where somebody sits there: then he is let go
     /// of.
-    #[tactic(auto, using(crate::proofs::Others::keeps_same))]
+    #[tactic(auto, using(crate::proofs::Others::keeps_same, crate::proofs::Writing::none_to_seats))]
     fn flush_one<W: Wire>(&mut self, wire: &mut W, number: u8) -> Option<SeatNotice>
         ensures said { Flushes result self.old.seats.items self.new.seats.items (W.passed wire.old) (W.passed wire.new) }
         ensures sits { Changes result self.old.seats.items self.new.seats.items }
@@ -307,7 +283,9 @@ impl Seats {
         ensures nobody { TakesNobody result }
         ensures loses { Loses result self.old.seats.items self.new.seats.items (W.passed wire.old) (W.passed wire.new) }
         ensures others { KeepsOthers (W.passed wire.old) (W.passed wire.new) }
+        ensures wrote { WritesToSeats (W.passed wire.old) (W.passed wire.new) }
         ensures told { self.new.told ≡ self.old.told }
+        ensures guests { self.new.guests ≡ self.old.guests }
     {
         let seat = self.seats.get_mut(number as usize)?;
         if seat.sits && !seat.flush(wire, number) {
@@ -325,14 +303,17 @@ impl Seats {
         ensures seats { seats_in (W.passed wire.new) ≡ seats_in (W.passed wire.old) }
         ensures log { logged_in (W.passed wire.new) ≡ logged_in (W.passed wire.old) }
         ensures others { KeepsOthers (W.passed wire.old) (W.passed wire.new) }
+        ensures wrote { WritesToSeats (W.passed wire.old) (W.passed wire.new) }
+        ensures unsaid { TellsNoGuest (W.passed wire.old) (W.passed wire.new) }
         ensures told { lines_of self.new ≡ lines_of self.old }
+        ensures guests { self.new.guests ≡ self.old.guests }
         ensures said { AreSaid (W.passed wire.old) (lines_of self.old) self.old.seats.items → AreSaid (W.passed wire.new) (lines_of self.old) self.new.seats.items }
     {
         self.flush_all(wire)
     }
 
     /// Writes what waits for all seats, as `flush` does.
-    #[tactic(auto, using(crate::proofs::Others::keeps_same, crate::proofs::Others::keeps_on))]
+    #[tactic(auto, using(crate::proofs::Others::keeps_same, crate::proofs::Others::keeps_on, crate::proofs::Writing::none_to_seats, crate::proofs::Writing::to_seats_on))]
     fn flush_all<W: Wire>(&mut self, wire: &mut W) -> Option<SeatNotice>
         ensures said { Flushes result self.old.seats.items self.new.seats.items (W.passed wire.old) (W.passed wire.new) }
         ensures sits { Changes result self.old.seats.items self.new.seats.items }
@@ -341,7 +322,9 @@ impl Seats {
         ensures nobody { TakesNobody result }
         ensures loses { Loses result self.old.seats.items self.new.seats.items (W.passed wire.old) (W.passed wire.new) }
         ensures others { KeepsOthers (W.passed wire.old) (W.passed wire.new) }
+        ensures wrote { WritesToSeats (W.passed wire.old) (W.passed wire.new) }
         ensures told { self.new.told ≡ self.old.told }
+        ensures guests { self.new.guests ≡ self.old.guests }
     {
         for number in 0..self.count {
             if let Some(notice) = self.flush_one(wire, number) {

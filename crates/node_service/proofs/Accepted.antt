@@ -1,5 +1,5 @@
 -- The log of a match that is over at a node is accepted.
-use Rattle.std.proofs.Common.{◌≡◌, ◌⊎◌, inl, inr, ℕ, zero, suc, ◌≤◌, Bool, true, false, List, [], Option, Some, None, refl, sym, ap, subst, ◌∙◌, arith}
+use Rattle.std.proofs.Common.{◌≡◌, ◌⊎◌, inl, inr, ℕ, ◌≤◌, true, List, [], Option, Some, None, sym, ap, subst, ◌∙◌, arith}
 use Rattle.std.specs.List.{AllByRecursion}
 use Rattle.std.proofs.lemmas.Bool.Decides.{nat_tests}
 use Rattle.std.proofs.lemmas.List.Sums.{count_by-le-length}
@@ -15,7 +15,7 @@ use Rattle.slot_log.specs.declared.command.Command.{Command}
 use Rattle.match_log.specs.Check.{IsMatchLog}
 use Rattle.dealer_kind.specs.Kind.{Setting, hands_after, log_of}
 use Rattle.dealer_kind.specs.Plans.{IsSetting}
-use Rattle.node_rules.specs.Standings.{Standing, applied, stopped, Place}
+use Rattle.node_rules.specs.Standings.{Standing, applied, Place}
 use Rattle.dealer_node.specs.Nodes.{Node}
 use Rattle.dealer_node.specs.Members.{place_at}
 use Rattle.dealer_node.specs.Scenes.{IsTableOf}

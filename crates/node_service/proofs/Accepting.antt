@@ -1,15 +1,15 @@
 -- The log of a match that is over, whose deals are fair, is one that is accepted.
-use Rattle.std.proofs.Common.{◌≡◌, ℕ, ◌≤◌, Bool, true, List, [], ◌∷◌, ◌++◌, refl, sym, ap, subst, ◌∙◌, arith, length}
+use Rattle.std.proofs.Common.{◌≡◌, ℕ, true, List, [], ◌∷◌, ◌++◌, sym, ap, subst, ◌∙◌, arith, length}
 use Rattle.std.specs.List.{AllByRecursion}
 use Rattle.game_def.specs.Game.{Game}
 use Rattle.card_core.specs.Deal.{IsDeal, player_count}
 use Rattle.betting.specs.declared.action.Action.{Action}
 use Rattle.slot_log.specs.Hand.{Hand}
-use Rattle.slot_log.specs.Dealer.{is_match_over, hands_of}
+use Rattle.slot_log.specs.Dealer.{is_match_over}
 use Rattle.slot_log.specs.Laws.{HandsComeOfCommands}
 use Rattle.slot_log.specs.Played.{AreHands, IsLegalHand, acts_of, commands_of}
 use Rattle.slot_log.specs.declared.command.Command.{Command}
-use Rattle.slot_log.specs.declared.command.Command.TheVariants.{Deal, Act}
+use Rattle.slot_log.specs.declared.command.Command.TheVariants.{Deal}
 use Rattle.match_log.specs.Check.{DealsFairly, IsMatchLog}
 use Rattle.match_log.specs.Log.{log_of as lines_of, log_lines}
 use Rattle.dealer_kind.specs.Kind.{Setting, hands_after, log_of}

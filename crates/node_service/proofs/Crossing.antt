@@ -1,14 +1,13 @@
 -- What crosses the wires of a process, call by call.
-use Rattle.std.proofs.Common.{◌≡◌, ◌≢◌, ◌⊎◌, inl, inr, ℕ, ◌<◌, ◌≤◌, nat_lt, eqb, Bool, true, false, if◌then◌else◌, List, [], ◌∷◌, ◌++◌, append_assoc, length, refl, ap, sym, subst, ◌∙◌}
+use Rattle.std.proofs.Common.{◌≡◌, ◌⊎◌, inl, inr, ℕ, nat_lt, Bool, true, false, if◌then◌else◌, List, [], ◌∷◌, ◌++◌, append_assoc, length, refl, ap, sym, subst, ◌∙◌}
 use Rattle.std.proofs.Math.Logic.{∥∥₁_map}
 use Rattle.std.proofs.lemmas.Bool.{ltb-true, ltb-false}
 use Rattle.std.proofs.lemmas.Bool.Decides.{eqb_tells}
 use Rattle.std.specs.Prelude.{Option, Some, None, IfSome, Result, Ok, Err}
 use Rattle.std.specs.declared.alloc.AllocError.{AllocError}
-use Rattle.node_wires.specs.declared.limits.TheConstants.{ASKERS}
 use Rattle.node_wires.specs.declared.line.Line.{Line}
 use Rattle.node_wires.specs.declared.line.Line.TheVariants.{Peer, Caller, Seat as SeatOf, Guest, Asker as AskerAt}
-use Rattle.node_wires.specs.Passages.{Passage, Began, Came, Wrote, Gave, Logged, came_by, came_behind, came_over, wrote_by, wrote_behind, wrote_over, logged_in, seats_in}
+use Rattle.node_wires.specs.Passages.{Passage, Began, Came, Wrote, Gave, Logged, came_by, came_behind, came_over, wrote_by, wrote_behind, wrote_over}
 use Rattle.peer_codes.specs.declared.frame.Frame.{Frame}
 use Rattle.peer_codes.specs.declared.hello.Life.{Life}
 use Rattle.node_links.specs.declared.own.Own.{Own}
@@ -22,13 +21,14 @@ use Rattle.node_seats.specs.Seating.{waits_at, sits_at}
 use Rattle.node_seats.specs.Telling.{lines_to, IsSaid, AreSaid}
 use Rattle.node_status.specs.declared.asker.Asker.{Asker}
 use Rattle.node_status.specs.Asking as status
-use Rattle.node_status.specs.Asking.{AreAnswered, is_asker, Arrival, Comes, IsGiven}
-use Rattle.node_status.specs.Given.{Given, given_at, come_at, waits, with_line}
+use Rattle.node_status.specs.Asking.{AreAnswered, is_asker, Arrivals, Comes, IsGiven}
+use Rattle.node_status.specs.Given.{Given, given_at, waits, with_line}
 use Rattle.node_service.specs.Arriving.{Incoming, OfSeat, OfPeer, OfJoined}
 use Rattle.node_service.specs.Telling.{told_of, told_by}
 use Rattle.node_service.specs.Company.{Hears}
 use Rattle.node_service.specs.Asking.{line_given, GivesOnly, IsNoLine}
-use Rattle.node_service.specs.Crossing.{AreCarried, IsCarried, KeepsLines, IsHeard, AreHeard, HasNoLife, EndsAtLife}
+use Rattle.node_service.specs.Crossing.{IsCarried, KeepsLines, IsHeard, AreHeard, HasNoLife, EndsAtLife}
+use Rattle.node_service.proofs.Asking.{gives_alike}
 
 -- ---- several passages
 
@@ -57,6 +57,23 @@ not_asked place before (Wrote (AskerAt n) bytes ∷ ys) are = absurd are.0
 not_asked place before (Gave at number ∷ ys) are = absurd are.0
 not_asked place before (Logged text ∷ ys) are = absurd are.0
 
+-- nor to guests
+not_guests : (place : ℕ) (before : List ℕ) (ys : List Passage) → AreOfPeers ys → wrote_behind (Guest place) before ys ≡ before
+not_guests place before [] are = refl
+not_guests place before (Began (Peer n) ∷ ys) are = not_guests place before ys are.1
+not_guests place before (Began (Caller n) ∷ ys) are = not_guests place before ys are.1
+not_guests place before (Began (SeatOf n) ∷ ys) are = absurd are.0
+not_guests place before (Began (Guest n) ∷ ys) are = absurd are.0
+not_guests place before (Began (AskerAt n) ∷ ys) are = absurd are.0
+not_guests place before (Came line bytes ∷ ys) are = not_guests place before ys are.1
+not_guests place before (Wrote (Peer n) bytes ∷ ys) are = not_guests place before ys are.1
+not_guests place before (Wrote (Caller n) bytes ∷ ys) are = not_guests place before ys are.1
+not_guests place before (Wrote (SeatOf n) bytes ∷ ys) are = absurd are.0
+not_guests place before (Wrote (Guest n) bytes ∷ ys) are = absurd are.0
+not_guests place before (Wrote (AskerAt n) bytes ∷ ys) are = absurd are.0
+not_guests place before (Gave at number ∷ ys) are = absurd are.0
+not_guests place before (Logged text ∷ ys) are = absurd are.0
+
 -- ---- where nothing changes but what is said of it
 
 said_so : (seat : ℕ) (old new told : List Passage) (bots : List Seat) → wrote_over new (SeatOf seat) ≡ wrote_over old (SeatOf seat)
@@ -80,6 +97,8 @@ carried_grown old new wired_old wired_new told bots askers adds writing is = rec
         ∙ (ap (λ (b : List ℕ). came_behind line b adds.more) (is.peers line of_peers).1 ∙ (sym (came_both line [] old adds.more) ∙ ap (λ (ps : List Passage). came_over ps line) (sym adds.put_down)))),
   );
   said = said_alike wired_old wired_new told bots writing is.said;
+  guests = λ place.
+      ap (λ (ps : List Passage). wrote_over ps (Guest place)) adds.wired ∙ (wrote_both (Guest place) [] wired_old adds.more ∙ (not_guests place (wrote_over wired_old (Guest place)) adds.more adds.of_peers ∙ is.guests place));
   answered = λ place.
       ap (λ (ps : List Passage). wrote_over ps (AskerAt place)) adds.wired ∙ (wrote_both (AskerAt place) [] wired_old adds.more ∙ (not_asked place (wrote_over wired_old (AskerAt place)) adds.more adds.of_peers ∙ is.answered place));
 }
@@ -93,11 +112,12 @@ not_bots (SeatOf n) is = absurd is
 not_bots (Guest n) is = absurd is
 not_bots (AskerAt n) is = absurd is
 
-pub carried_seated : (old new lines told : List Passage) (bots now : List Seat) (askers : List Asker) → seats.KeepsOthers old new → (AreSaid old told bots → AreSaid new told now) → IsCarried old lines told bots askers
-    → IsCarried new lines told now askers
-carried_seated old new lines told bots now askers keeps said is = record {
+pub carried_seated : (old new lines told : List Passage) (bots now : List Seat) (askers : List Asker) → seats.KeepsOthers old new → seats.TellsNoGuest old new → (AreSaid old told bots → AreSaid new told now)
+    → IsCarried old lines told bots askers → IsCarried new lines told now askers
+carried_seated old new lines told bots now askers keeps unsaid said is = record {
   peers = λ line of_peers. (keeps.wrote line (not_bots line of_peers) ∙ (is.peers line of_peers).0, keeps.came line (not_bots line of_peers) ∙ (is.peers line of_peers).1);
   said = said is.said;
+  guests = λ place. unsaid place (is.guests place);
   answered = λ place. keeps.wrote (AskerAt place) refl ∙ is.answered place;
 }
 
@@ -115,6 +135,7 @@ pub carried_asked : (old new lines told : List Passage) (bots : List Seat) (aske
 carried_asked old new lines told bots askers now keeps answered is = record {
   peers = λ line of_peers. (keeps.wrote line (no_asker line of_peers) ∙ (is.peers line of_peers).0, keeps.came line (no_asker line of_peers) ∙ (is.peers line of_peers).1);
   said = said_alike old new told bots (λ seat. keeps.wrote (SeatOf seat) refl) is.said;
+  guests = λ place. keeps.wrote (Guest place) refl ∙ is.guests place;
   answered = answered is.answered;
 }
 
@@ -128,9 +149,10 @@ come_there place other at askers now comes = elim (eqb_tells other place) as (λ
   | inr there ↦ inl (ap (λ (g : Given). g.line) (comes.others other there.1))
 ]
 
-pub none_given : (at : ℕ) (askers now : List Asker) (old new : List Passage) → Arrival at askers now old new → GivesOnly IsNoLine askers now
-none_given at askers now old new (status.nobody_came wired same) place within = inl (ap (λ (all : List Asker). line_given all place) same)
-none_given at askers now old new (status.one_came there wired comes) place within = come_there there place at askers now comes
+pub none_given : (at : ℕ) (places : List ℕ) (askers now : List Asker) (old new : List Passage) → Arrivals at places askers now old new → GivesOnly IsNoLine askers now
+none_given at [] askers now old new came = λ place within. inl (ap (λ (all : List Asker). line_given all place) came.1)
+none_given at (there ∷ more) askers now old new came =
+    gives_alike IsNoLine askers came.0 now (λ place within. come_there there place at askers came.0 came.1.0) (none_given at more came.0 now (old ++ Began (AskerAt there) ∷ []) new came.1.1)
 
 line_or : (is_waiting : Bool) (line : List ℕ) (g : Given) → waits g ≡ is_waiting → ((with_line line g).line ≡ g.line) ⊎ ((with_line line g).line ≡ line)
 line_or true line g e = inr (ap (λ (b : Bool). (if b then record { is_here = true; since = g.since; line = line; written = 0 } else g).line) e)
@@ -169,6 +191,7 @@ pub carried_shown : (old new lines told all : List Passage) (bots now : List Sea
 carried_shown old new lines told all bots now askers keeps said is = record {
   peers = λ line of_peers. (keeps.wrote line ∙ (is.peers line of_peers).0, keeps.came line ∙ (is.peers line of_peers).1);
   said = said is.said;
+  guests = λ place. keeps.wrote (Guest place) ∙ is.guests place;
   answered = λ place. keeps.wrote (AskerAt place) ∙ is.answered place;
 }
 
@@ -215,6 +238,7 @@ heard_notice own lines (notices.Joined peer None) is = tt
 heard_notice own lines (notices.Gone peer) is = tt
 heard_notice own lines (notices.Refused peer fault source) is = tt
 heard_notice own lines (notices.Strangers count fault) is = tt
+heard_notice own lines (notices.Unreached peer refuses) is = tt
 
 pub heard_now : (own : Own) (lines : List Passage) (notice : Option Notice) → IfSome notice (λ n. IsTold own lines n) → AreHeard own lines (told_by notice)
 heard_now own lines None is = tt
@@ -248,3 +272,10 @@ no_life_ends (Logged text ∷ xs) none = no_life_ends xs none
 
 pub others_same : (passed : List Passage) → status.KeepsOthers passed passed
 others_same passed = record { wrote = λ line off. refl; came = λ line off. refl; seats = refl; log = refl }
+
+pub none_unsaid : (old new : List Passage) → new ≡ old → seats.TellsNoGuest old new
+none_unsaid old new same place none = ap (λ (ps : List Passage). wrote_over ps (Guest place)) same ∙ none
+
+-- over new wires all is carried
+pub carried_first : (bots : List Seat) (askers : List Asker) → AreSaid [] [] bots → AreAnswered [] askers → IsCarried [] [] [] bots askers
+carried_first bots askers said answered = record { peers = λ line of_peers. (refl, refl); said = said; guests = λ place. refl; answered = answered }

@@ -136,11 +136,15 @@ all_of_it_is_there : LogGains false false (2 ∷ 3 ∷ []) (1 ∷ []) (1 ∷ 2 �
 all_of_it_is_there = refl
 
 a_beginning_is_there : LogGains false true (2 ∷ 3 ∷ []) (1 ∷ []) (1 ∷ 2 ∷ [])
-a_beginning_is_there = (2 ∷ [], 3 ∷ [], refl, refl)
+a_beginning_is_there = (2 ∷ [], 3 ∷ [], refl, (λ none. cc), refl)
 
 -- a log that could be written has no beginning alone
 not_a_beginning_alone : LogGains false false (2 ∷ 3 ∷ []) (1 ∷ []) (1 ∷ 2 ∷ []) → ⊥
 not_a_beginning_alone is = cc
+
+-- nor has one that couldn't be written all of it
+not_failed_for_nothing : LogGains false true (2 ∷ []) [] (2 ∷ []) → ⊥
+not_failed_for_nothing (given, rest, is, some, has) = some (cc)
 
 -- and once it couldn't, it gains nothing
 nothing_more_once_it_failed : LogGains true true (2 ∷ []) (1 ∷ []) (1 ∷ 2 ∷ []) → ⊥

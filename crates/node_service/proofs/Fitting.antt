@@ -2,9 +2,8 @@
 use Rattle.std.proofs.Common.{◌≡◌, ◌⊎◌, inl, inr, ℕ, ◌==◌, Bool, true, false, cond, List, [], ◌∷◌, ◌++◌, append_assoc, refl, ap, sym, subst, ◌∙◌}
 use Rattle.std.proofs.lemmas.Bool.{eq-eqb, ne_eqb, cases_eq, cond-true, cond-false}
 use Rattle.std.proofs.lemmas.List.{append-nil}
-use Rattle.std.specs.Prelude.{Option, Some, None, Result, Err}
+use Rattle.std.specs.Prelude.{Result}
 use Rattle.dealer_node.specs.declared.fault.NodeFault.{NodeFault}
-use Rattle.dealer_node.specs.declared.fault.NodeFault.TheVariants.{OutOfMemory}
 use Rattle.dealer_node.specs.Outs.{Told}
 use Rattle.dealer_world.specs.declared.event.Event.{Event}
 use Rattle.dealer_world.specs.declared.event.Event.TheVariants as event
@@ -19,8 +18,8 @@ use Rattle.node_service.specs.declared.sitting.Sitting.{Sitting}
 use Rattle.node_service.specs.declared.sitting.Sitting.TheVariants.{Away, Here, LetGo}
 use Rattle.node_service.specs.declared.sitting.Sittings.{Sittings}
 use Rattle.node_service.specs.Arriving.{seats_of, taken_for}
-use Rattle.node_service.specs.Sessions.{Session, Without, With, with_more, session_by, session_of, IsBeginning, AreGiven}
-use Rattle.node_service.specs.Sittings.{sitting_at, Loosens, Frees, Sets, IsSeated, Admits, IsGivenBy, Settles, Refuses}
+use Rattle.node_service.specs.Sessions.{Session, Without, With, with_more, session_of, IsBeginning, AreGiven}
+use Rattle.node_service.specs.Sittings.{sitting_at, Loosens, Frees, Sets, IsSeated, Admits, Settles, Refuses}
 use Rattle.node_service.specs.Fitting.{FitsAt, FitsFor}
 
 -- ---- over a line

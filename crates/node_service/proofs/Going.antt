@@ -12,20 +12,24 @@ use Rattle.node_service.specs.Showing.{shown_log, LogGains}
 use Rattle.node_service.specs.Handed.{frames_by, lines_by}
 use Rattle.node_service.specs.Arriving.{Incoming, seats_of, peers_of, came_by}
 use Rattle.node_service.specs.Served.{Served}
-use Rattle.node_service.specs.Going.{GoesOn, Does, GoesOnToLife, GoesOnWithoutLife, Takes}
+use Rattle.node_service.specs.Logging.{StartedOnce, IsOnce}
+use Rattle.node_service.specs.Going.{GoesOn, GoesOnWith, Does, Takes}
 use Rattle.node_service.specs.Sittings.{Loosens}
 use Rattle.node_service.specs.Fitting.{FitsFor, Fits, FitsBut}
 use Rattle.node_service.proofs.Fitting.{fits_moved}
 use Rattle.node_service.specs.Company.{Hears}
 use Rattle.node_service.specs.Asking.{GivesOnly, IsReply}
-use Rattle.node_service.specs.Crossing.{Carries, HasNoLife, EndsAtLife}
+use Rattle.node_service.specs.Crossing.{Carries}
 use Rattle.node_service.specs.Taking.{StopsAtLife, TakesNext}
+use Rattle.node_service.specs.Turns.{AreFrames, ComeOfPeers}
 use Rattle.node_service.specs.declared.taking.Taken.{Taken}
 use Rattle.node_service.specs.declared.taking.Taken.TheVariants as kind
 use Rattle.node_service.proofs.Asking.{gives_on, none_gives_on}
-use Rattle.node_service.proofs.Crossing.{heard_both, heard_further, no_life_both, ends_both, no_life_ends}
+use Rattle.node_service.proofs.Crossing.{heard_both, heard_further}
+use Rattle.node_service.proofs.Turns.{no_frames}
 use Rattle.node_service.proofs.Hearing.{hears_none, hears_on}
 use Rattle.node_service.proofs.Parts.{both, left_out}
+use Rattle.node_service.proofs.Welcoming.{hosts_none, hosts_on, let_in_on, let_in_both}
 use Rattle.node_service.proofs.Showing.{shown_by_both, came_by_both, frames_by_both, lines_by_both, seats_of_more, peers_of_more, nothing_shown, shown_on}
 
 -- where nothing was taken it fits
@@ -44,6 +48,10 @@ fits_kept {N} old new look seats loosened fits =
     subst (λ (l : Look N). FitsFor l.deeds new.sittings (seats_in new.passed)) (sym look)
     (subst (λ (m : List Passage). FitsFor old.look.deeds new.sittings m) (sym seats) (fits_moved old.look.deeds old.sittings new.sittings (seats_in old.passed) loosened fits))
 
+-- where nothing is done a node that was started once still is
+pub once_kept : {N : Type 0} (old new : Served N) → new.look ≡ old.look → new.started ≡ old.started → IsOnce old → IsOnce new
+once_kept {N} old new look started was = (started ∙ was.0, subst (λ (l : Look N). StartedOnce l.deeds) (sym look) was.1)
+
 -- what was taken is all that came since
 pub taken_fits : {N : Type 0} (taken : List Incoming) (old new : Served N) → new.look ≡ old.look → seats_in new.passed ≡ seats_in old.passed ++ seats_of taken
     → Loosens old.sittings new.sittings → Fits old → FitsBut taken new
@@ -58,11 +66,12 @@ taken_fits {N} taken old new look seats loosened fits = (
 module _ {D : Type 0} {g : Ghosts D} where
   -- where nothing is done
   unfoldable pub still : (old new : Served (Node D)) → new.look ≡ old.look → new.log_failed ≡ old.log_failed → new.sent ≡ old.sent → new.told ≡ old.told → new.heard ≡ old.heard → logged_in new.passed ≡ logged_in old.passed → seats_in new.passed ≡ seats_in old.passed
-      → Loosens old.sittings new.sittings → Hears old.own new.own old.lines new.lines → GivesOnly (IsReply new.look.number) old.askers new.askers → (Carries old → Carries new) → GoesOn g [] old new
-  still old new look log_failed sent told heard log seats loosened hears asked carried = record {
+      → Loosens old.sittings new.sittings → Hears old.own new.own old.lines new.lines → GivesOnly (IsReply new.look) old.askers new.askers → (Carries old → Carries new) → new.started ≡ old.started → new.terms ≡ old.terms → new.guests ≡ old.guests → GoesOn g [] old new
+  still old new look log_failed sent told heard log seats loosened hears asked carried started terms guests = record {
     config = ap (λ (l : Look (Node D)). l.config) look;
     number = ap (λ (l : Look (Node D)). l.number) look;
     begun = ap (λ (l : Look (Node D)). begun_of g l.node) look;
+    terms = terms;
     since = [];
     deeds = ap (λ (l : Look (Node D)). l.deeds) look;
     log = subst (λ (b : Bool). LogGains old.log_failed b [] (logged_in old.passed) (logged_in new.passed)) (sym log_failed)
@@ -73,11 +82,14 @@ module _ {D : Type 0} {g : Ghosts D} where
     seats = seats ∙ sym (append-nil (seats_in old.passed));
     heard = heard ∙ sym (append-nil old.heard);
     were = tt;
+    hosts = hosts_none old.guests new.guests guests;
+    let_in = tt;
     came = tt;
     given = λ but. fits_kept old new look seats loosened (but_nothing old but);
     hears = hears;
     asked = asked;
     carried = carried;
+    once = λ was. once_kept old new look started was;
   }
 
   -- one after the other
@@ -86,6 +98,7 @@ module _ {D : Type 0} {g : Ghosts D} where
     config = then_on.config ∙ first.config;
     number = then_on.number ∙ first.number;
     begun = then_on.begun ∙ first.begun;
+    terms = then_on.terms ∙ first.terms;
     since = then_on.since ++ first.since;
     deeds = then_on.deeds ∙ (ap (λ (m : List Deed). then_on.since ++ m) first.deeds ∙ sym (append_assoc then_on.since first.since one.look.deeds));
     log = subst (λ (m : List ℕ). LogGains one.log_failed three.log_failed m (logged_in one.passed) (logged_in three.passed)) (sym (shown_by_both then_on.since first.since))
@@ -103,11 +116,14 @@ module _ {D : Type 0} {g : Ghosts D} where
     came = subst (λ (m : List Incoming). IsPartOf m (taken ++ (first.gained ++ then_on.gained))) (sym (came_by_both then_on.since first.since))
         (subst (λ (m : List Incoming). IsPartOf (came_by first.since ++ came_by then_on.since) m) (append_assoc taken first.gained then_on.gained)
         (both (came_by first.since) (came_by then_on.since) (taken ++ first.gained) then_on.gained first.came then_on.came));
+    hosts = hosts_on one.guests two.guests three.guests first.hosts then_on.hosts;
+    let_in = let_in_both three.guests first.gained then_on.gained (let_in_on two.guests three.guests first.gained then_on.hosts first.let_in) then_on.let_in;
     were = heard_both three.own three.lines first.gained then_on.gained (heard_further two.own three.own two.lines three.lines first.gained then_on.hears first.were) then_on.were;
     given = λ but. then_on.given (all_but_nothing two (first.given but));
     hears = hears_on one.own two.own three.own one.lines two.lines three.lines first.hears then_on.hears;
-    asked = gives_on two.look.number three.look.number one.askers two.askers three.askers then_on.number first.asked then_on.asked;
+    asked = gives_on two.look three.look one.askers two.askers three.askers then_on.number then_on.config first.asked then_on.asked;
     carried = λ is. then_on.carried (first.carried is);
+    once = λ was. then_on.once (first.once was);
   }
 
   -- what was taken comes to the node then
@@ -116,6 +132,7 @@ module _ {D : Type 0} {g : Ghosts D} where
     config = then_on.config ∙ ap (λ (l : Look (Node D)). l.config) takes.look;
     number = then_on.number ∙ ap (λ (l : Look (Node D)). l.number) takes.look;
     begun = then_on.begun ∙ ap (λ (l : Look (Node D)). begun_of g l.node) takes.look;
+    terms = then_on.terms ∙ takes.terms;
     since = then_on.since;
     deeds = then_on.deeds ∙ ap (λ (l : Look (Node D)). then_on.since ++ l.deeds) takes.look;
     log = subst (λ (b : Bool). LogGains b three.log_failed (shown_log then_on.since) (logged_in one.passed) (logged_in three.passed)) takes.log_failed
@@ -127,12 +144,15 @@ module _ {D : Type 0} {g : Ghosts D} where
         (then_on.seats ∙ (ap (λ (m : List Passage). m ++ seats_of then_on.gained) takes.seats ∙ append_assoc (seats_in one.passed) (seats_of taken) (seats_of then_on.gained)));
     heard = subst (λ (m : List Passage). three.heard ≡ one.heard ++ m) (sym (peers_of_more taken then_on.gained))
         (then_on.heard ∙ (ap (λ (m : List Passage). m ++ peers_of then_on.gained) takes.heard ∙ append_assoc one.heard (peers_of taken) (peers_of then_on.gained)));
+    hosts = hosts_on one.guests two.guests three.guests takes.hosts then_on.hosts;
+    let_in = let_in_both three.guests taken then_on.gained (let_in_on two.guests three.guests taken then_on.hosts takes.let_in) then_on.let_in;
     were = heard_both three.own three.lines taken then_on.gained (heard_further two.own three.own two.lines three.lines taken then_on.hears takes.were) then_on.were;
     came = then_on.came;
     given = λ but. then_on.given (taken_fits taken one two takes.look takes.seats takes.sittings (but_nothing one but));
     hears = hears_on one.own two.own three.own one.lines two.lines three.lines takes.hears then_on.hears;
-    asked = none_gives_on three.look.number one.askers two.askers three.askers takes.asked then_on.asked;
+    asked = none_gives_on three.look one.askers two.askers three.askers takes.asked then_on.asked;
     carried = λ is. then_on.carried (takes.carried is);
+    once = λ was. then_on.once (once_kept one two takes.look takes.started was);
   }
 
   -- and may be left out, where nothing of it is of seats
@@ -141,6 +161,7 @@ module _ {D : Type 0} {g : Ghosts D} where
     config = goes.config;
     number = goes.number;
     begun = goes.begun;
+    terms = goes.terms;
     since = goes.since;
     deeds = goes.deeds;
     log = goes.log;
@@ -150,16 +171,19 @@ module _ {D : Type 0} {g : Ghosts D} where
     seats = goes.seats;
     heard = goes.heard;
     were = goes.were;
+    hosts = goes.hosts;
+    let_in = goes.let_in;
     came = left_out (came_by goes.since) taken goes.gained goes.came;
     given = λ but. goes.given (but_none_of_seats taken old none but);
     hears = goes.hears;
     asked = goes.asked;
     carried = goes.carried;
+    once = goes.once;
   }
 
   -- nothing happens
-  unfoldable nothing_done : (here : Served (Node D)) → GoesOn g [] here here
-  nothing_done here = still here here refl refl refl refl refl refl refl (λ seat. inl refl) (hears_none here.own here.own here.lines here.lines refl refl) (λ place within. inl refl) (λ is. is)
+  unfoldable pub nothing_done : (here : Served (Node D)) → GoesOn g [] here here
+  nothing_done here = still here here refl refl refl refl refl refl refl (λ seat. inl refl) (hears_none here.own here.own here.lines here.lines refl refl) (λ place within. inl refl) (λ is. is) refl refl refl
 
   -- what was taken and isn't given
   pub not_given : {taken : List Incoming} {one two : Served (Node D)} → seats_of taken ≡ [] → Takes g taken one two → GoesOn g [] one two
@@ -175,51 +199,43 @@ module _ {D : Type 0} {g : Ghosts D} where
   unfolding let_go
   let_go_so none does = (let_go none does.0, does.1)
 
-  -- ---- lives that are to be kept
+  -- ---- where what comes meanwhile is such
 
-  pub without_life : {one two : Served (Node D)} → Does g [] one two → GoesOnWithoutLife g one two
-  without_life does = (does.0, subst (λ (m : List Incoming). HasNoLife (peers_of m)) (sym does.1) tt)
-
-  pub without_on : {one two three : Served (Node D)} → GoesOnWithoutLife g one two → GoesOnWithoutLife g two three → GoesOnWithoutLife g one three
+  pub with_on : (such also all : List Incoming → Type 0) {one two three : Served (Node D)} → ((xs ys : List Incoming) → such xs → also ys → all (xs ++ ys)) → GoesOnWith g such one two → GoesOnWith g also two three
+      → GoesOnWith g all one three
   unfolding on
-  without_on first then_on =
-      (on first.0 then_on.0, subst HasNoLife (sym (peers_of_more first.0.gained then_on.0.gained)) (no_life_both (peers_of first.0.gained) (peers_of then_on.0.gained) first.1 then_on.1))
+  with_on such also all join first then_on = (on first.0 then_on.0, join first.0.gained then_on.0.gained first.1 then_on.1)
 
-  pub to_life : {one two three : Served (Node D)} → GoesOnWithoutLife g one two → GoesOnToLife g two three → GoesOnToLife g one three
+  pub with_so : (such also : List Incoming → Type 0) {one two : Served (Node D)} → ((xs : List Incoming) → such xs → also xs) → GoesOnWith g such one two → GoesOnWith g also one two
+  with_so such also change goes = (goes.0, change goes.0.gained goes.1)
+
+  pub does_with : (such : List Incoming → Type 0) {one two three : Served (Node D)} → Does g [] one two → GoesOnWith g such two three → GoesOnWith g such one three
   unfolding on
-  to_life first then_on =
-      (on first.0 then_on.0, subst EndsAtLife (sym (peers_of_more first.0.gained then_on.0.gained)) (ends_both (peers_of first.0.gained) (peers_of then_on.0.gained) first.1 then_on.1))
+  does_with such first then_on = (on first.0 then_on.0, subst such (sym (ap (λ (m : List Incoming). m ++ then_on.0.gained) first.1)) then_on.1)
 
-  pub then_nothing : {one two three : Served (Node D)} → GoesOnToLife g one two → Does g [] two three → GoesOnToLife g one three
+  pub with_does : (such : List Incoming → Type 0) {one two three : Served (Node D)} → GoesOnWith g such one two → Does g [] two three → GoesOnWith g such one three
   unfolding on
-  then_nothing first then_on = (
-    on first.0 then_on.0,
-    subst (λ (m : List Incoming). EndsAtLife (peers_of m)) (sym (ap (λ (m : List Incoming). first.0.gained ++ m) then_on.1 ∙ append-nil first.0.gained)) first.1,
-  )
+  with_does such first then_on = (on first.0 then_on.0, subst such (sym (ap (λ (m : List Incoming). first.0.gained ++ m) then_on.1 ∙ append-nil first.0.gained)) first.1)
 
-  pub none_ends : {one two : Served (Node D)} → GoesOnWithoutLife g one two → GoesOnToLife g one two
-  none_ends without = (without.0, no_life_ends (peers_of without.0.gained) without.1)
+  pub does_such : (such : List Incoming → Type 0) {one two : Served (Node D)} → such [] → Does g [] one two → GoesOnWith g such one two
+  does_such such none does = (does.0, subst such (sym does.1) none)
 
-  -- one thing was taken, and given to the node
-  pub next_taken : {taken : List Incoming} {one two three : Served (Node D)} (result : Taken) → Takes g taken one two → Does g taken two three → StopsAtLife result taken → TakesNext g result one three
+  -- what was taken, and given to the node
+  pub taken_with : (such : List Incoming → Type 0) {taken : List Incoming} {one two three : Served (Node D)} → Takes g taken one two → Does g taken two three → such taken → GoesOnWith g such one three
   unfolding taken_up
-  next_taken {taken} kind.Nothing takes does stops =
-      (taken_up takes does.0, subst (λ (m : List Incoming). HasNoLife (peers_of m)) (sym (ap (λ (m : List Incoming). taken ++ m) does.1 ∙ append-nil taken)) stops)
-  next_taken {taken} kind.One takes does stops =
-      (taken_up takes does.0, subst (λ (m : List Incoming). HasNoLife (peers_of m)) (sym (ap (λ (m : List Incoming). taken ++ m) does.1 ∙ append-nil taken)) stops)
-  next_taken {taken} kind.Last takes does stops =
-      (taken_up takes does.0, subst (λ (m : List Incoming). EndsAtLife (peers_of m)) (sym (ap (λ (m : List Incoming). taken ++ m) does.1 ∙ append-nil taken)) stops)
+  taken_with such {taken} takes does is = (taken_up takes does.0, subst such (sym (ap (λ (m : List Incoming). taken ++ m) does.1 ∙ append-nil taken)) is)
 
-  -- and of it nothing was to be given
-  pub not_given_so : {taken : List Incoming} {one two : Served (Node D)} → seats_of taken ≡ [] → peers_of taken ≡ [] → Takes g taken one two → GoesOnWithoutLife g one two
-  unfolding taken_up let_go nothing_done still
-  not_given_so {taken} {two = two} none nobody takes = (
-    taken_up takes (let_go none (nothing_done two)),
-    subst HasNoLife (sym (ap peers_of (append-nil taken) ∙ nobody)) tt,
-  )
+  pub nothing_taken : (such : List Incoming → Type 0) {one two : Served (Node D)} → such [] → Takes g [] one two → GoesOnWith g such one two
+  unfolding taken_up nothing_done still
+  nothing_taken such {two = two} none takes = (taken_up takes (nothing_done two), none)
 
-  -- nobody was told to be there whose life is to be kept, and then something was taken
-  pub next_behind : (one two three : Served (Node D)) (result : Taken) → GoesOnWithoutLife g one two → TakesNext g result two three → TakesNext g result one three
-  next_behind one two three kind.Nothing first then_on = without_on first then_on
-  next_behind one two three kind.One first then_on = without_on first then_on
-  next_behind one two three kind.Last first then_on = to_life first then_on
+  -- ---- one thing
+
+  pub frame_does : {one two : Served (Node D)} → Does g [] one two → GoesOnWith g AreFrames one two
+  frame_does does = does_such AreFrames no_frames does
+
+  -- one thing of a peer was taken, and given to the node
+  pub next_taken : {taken : List Incoming} {one two three : Served (Node D)} (result : Taken) → seats_of taken ≡ [] → Takes g taken one two → Does g taken two three → StopsAtLife result taken → TakesNext g result one three
+  next_taken kind.Nothing none takes does stops = taken_with AreFrames takes does (record { seats = none; lives = stops })
+  next_taken kind.One none takes does stops = taken_with AreFrames takes does (record { seats = none; lives = stops })
+  next_taken kind.Last none takes does stops = taken_with ComeOfPeers takes does (record { seats = none; lives = stops })

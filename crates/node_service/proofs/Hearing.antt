@@ -1,5 +1,5 @@
 -- What a process has to tell of its peers stays so.
-use Rattle.std.proofs.Common.{◌≡◌, List, [], ◌∷◌, ◌++◌, refl, sym, ap, subst, ◌∙◌, append_assoc, append-nil}
+use Rattle.std.proofs.Common.{◌≡◌, List, [], ◌∷◌, ◌++◌, sym, ap, subst, ◌∙◌, append_assoc, append-nil}
 use Rattle.std.proofs.Math.Logic.{∥∥₁_map}
 use Rattle.std.specs.Prelude.{Option, Some, None, IfSome}
 use Rattle.node_wires.specs.Passages.{Passage}
@@ -8,7 +8,7 @@ use Rattle.node_links.specs.declared.own.Own.{Own}
 use Rattle.node_peers.specs.declared.notice.Notice.{Notice}
 use Rattle.node_peers.specs.declared.notice.Notice.TheVariants as notices
 use Rattle.node_peers.specs.declared.peers.Peers.{Peers}
-use Rattle.node_peers.specs.Hearing.{OpenedBy, IsTold, AreTold}
+use Rattle.node_peers.specs.Hearing.{IsTold, AreTold}
 use Rattle.node_peers.specs.Adding.{Adds}
 use Rattle.node_peers.specs.Peering.{own_of, passed_of, Grew, Keeps, Stays}
 use Rattle.node_service.specs.declared.server_notice.ServerNotice.{ServerNotice}
@@ -73,6 +73,7 @@ opened_on own lines more (notices.Joined peer life) told =
 opened_on own lines more (notices.Gone peer) told = tt
 opened_on own lines more (notices.Refused peer fault source) told = tt
 opened_on own lines more (notices.Strangers count fault) told = tt
+opened_on own lines more (notices.Unreached peer refuses) told = tt
 
 told_on : (own : Own) (lines more : List Passage) (told : List Notice) → AreTold own lines told → AreTold own (lines ++ more) told
 told_on own lines more [] are = tt

@@ -7,9 +7,7 @@ use Rattle.node_seats.specs.declared.seat_notice.SeatNotice.TheVariants as notic
 use Rattle.node_seats.specs.Passing.{passed_by}
 use Rattle.node_links.specs.declared.own.Own.{Own}
 use Rattle.node_service.specs.Crossing.{AreHeard}
-use Rattle.node_service.specs.Taking.{StopsAtLife}
-use Rattle.node_service.specs.declared.taking.Taken.TheVariants as kind
-use Rattle.node_service.specs.Arriving.{seats_of, peers_of, incoming_of}
+use Rattle.node_service.specs.Arriving.{seats_of, peers_of}
 use Rattle.node_service.specs.Telling.{incoming_by}
 
 -- what passed over the lines of seats is what came of them
@@ -33,10 +31,3 @@ none_of_peers own lines (Some (notices.Came seat)) = (tt, tt)
 none_of_peers own lines (Some (notices.Piece seat bytes)) = (tt, tt)
 none_of_peers own lines (Some (notices.Gone seat)) = tt
 none_of_peers own lines (Some (notices.Refused seat)) = tt
-
--- nor is a node told to be there
-pub stops_not : (notice : SeatNotice) → StopsAtLife kind.One (incoming_of notice)
-stops_not (notices.Came seat) = tt
-stops_not (notices.Piece seat bytes) = tt
-stops_not (notices.Gone seat) = tt
-stops_not (notices.Refused seat) = tt

@@ -1,5 +1,5 @@
 -- What calls leave that call no node.
-use Rattle.std.proofs.Common.{◌≡◌, ◌⊎◌, inl, inr, ℕ, Bool, false, List, [], ◌++◌, map, refl, ap, sym, ◌∙◌, subst}
+use Rattle.std.proofs.Common.{◌≡◌, ◌⊎◌, inl, inr, ℕ, Bool, true, false, List, [], ◌++◌, map, refl, ap, sym, ◌∙◌, subst}
 use Rattle.std.proofs.lemmas.List.{append-nil}
 use Rattle.std.specs.Prelude.{Option, Result, IfSome, IsNone}
 use Rattle.promise_store.specs.declared.disk.Disk.{Ghosts}
@@ -16,11 +16,11 @@ use Rattle.stations.specs.Looking.{look_of}
 use Rattle.node_service.specs.declared.desk.Desk.{Desk}
 use Rattle.node_service.specs.declared.local_node.LocalNode.{LocalNode}
 use Rattle.node_service.specs.Showing.{shown_log, added, LogGains}
-use Rattle.node_service.specs.Handed.{frames_by, lines_by, mark_handed, lines_handed}
+use Rattle.node_service.specs.Handed.{frames_by, lines_by}
 use Rattle.node_service.specs.Arriving.{Incoming, seats_of, peers_of, taken_for}
 use Rattle.node_service.specs.Served.{Served}
 use Rattle.node_service.specs.Desks.{served_by, IsUntouched, IsKeptWith, IsKept}
-use Rattle.node_service.specs.Going.{GoesOn, Does, GoesOnWithoutLife}
+use Rattle.node_service.specs.Going.{GoesOn, Does}
 use Rattle.node_service.specs.Sittings.{sitting_at, Loosens, IsGivenBy, Refuses}
 use Rattle.node_service.specs.Fitting.{FitsFor, FitsBut}
 use Rattle.node_service.specs.declared.sitting.Sitting.{Sitting}
@@ -31,7 +31,7 @@ use Rattle.node_peers.specs.Peering.{own_of, passed_of, frames_of, heard_of, Gre
 use Rattle.node_wires.specs.declared.line.Line.TheVariants.{Seat as SeatOf}
 use Rattle.node_wires.specs.declared.passages.Passages.{Passages}
 use Rattle.node_seats.specs.declared.seats.Seats.{Seats}
-use Rattle.node_seats.specs.Others.{KeepsOthers}
+use Rattle.node_seats.specs.Others.{KeepsOthers, TellsNoGuest}
 use Rattle.node_seats.specs.Telling.{lines_of, AreSaid}
 use Rattle.node_status.specs.declared.askers.Askers.{Askers}
 use Rattle.node_status.specs.Asking.{AreAnswered, KeepsOthers as OthersKept}
@@ -41,11 +41,12 @@ use Rattle.node_service.specs.Crossing.{IsCarried, Carries}
 use Rattle.node_service.specs.Handing.{HandsOn}
 use Rattle.node_service.proofs.Asking.{gives_alike, gives_weaker, none_gives_on}
 use Rattle.node_service.proofs.Crossing.{carried_grown, carried_seated, carried_asked}
-use Rattle.node_service.specs.Company.{Hears, HearsOn}
+use Rattle.node_service.specs.Company.{HearsOn}
 use Rattle.node_service.proofs.Hearing.{hears_none, hears_on, heard_on}
 use Rattle.node_service.proofs.Fitting.{fits_moved}
-use Rattle.node_service.proofs.Going.{still, does_on, let_go_so, without_life}
+use Rattle.node_service.proofs.Going.{once_kept, still, does_on, let_go_so}
 use Rattle.node_service.proofs.Showing.{nothing_shown}
+use Rattle.node_service.proofs.Welcoming.{hosts_none, hosts_on}
 use Rattle.node_service.proofs.Stepping.{unstepped, unstepped_if_not}
 
 loosened_by : (one two three : Sitting) → (two ≡ one) ⊎ ((one ≡ Here) × (two ≡ LetGo)) → (three ≡ two) ⊎ ((two ≡ Here) × (three ≡ LetGo)) → (three ≡ one) ⊎ ((one ≡ Here) × (three ≡ LetGo))
@@ -80,6 +81,7 @@ module _ {D W : Type 0} {disk : Ghosts D} (wire : OfWire W) where
     log_failed = then_on.log_failed ∙ first.log_failed;
     sent = then_on.sent ∙ first.sent;
     told = then_on.told ∙ first.told;
+    guests = then_on.guests ∙ first.guests;
     heard = then_on.heard ∙ first.heard;
     log = then_on.log ∙ first.log;
     seats = then_on.seats ∙ first.seats;
@@ -96,6 +98,7 @@ module _ {D W : Type 0} {disk : Ghosts D} (wire : OfWire W) where
     log_failed = ap (λ (d : Desk D W disk). d.log_failed) is;
     sent = ap (λ (d : Desk D W disk). frames_of d.company.peers) is;
     told = ap (λ (d : Desk D W disk). lines_of d.seats) is;
+    guests = ap (λ (d : Desk D W disk). d.seats.guests) is;
     heard = ap (λ (d : Desk D W disk). heard_of d.company.peers) is;
     log = ap (λ (d : Desk D W disk). logged_in (wire.passed d.wire)) is;
     seats = ap (λ (d : Desk D W disk). seats_in (wire.passed d.wire)) is;
@@ -115,6 +118,7 @@ module _ {D W : Type 0} {disk : Ghosts D} (wire : OfWire W) where
     log_failed = log_failed;
     sent = ap (λ (p : Passages). p.items) stays.1.1.0;
     told = ap lines_of seats;
+    guests = ap (λ (s : Seats). s.guests) seats;
     heard = ap (λ (p : Passages). p.items) stays.1.1.1;
     log = ap logged_in passed;
     seats = ap seats_in passed;
@@ -134,6 +138,7 @@ module _ {D W : Type 0} {disk : Ghosts D} (wire : OfWire W) where
     log_failed = log_failed;
     sent = ap (λ (p : Passages). p.items) grew.1.1.0;
     told = ap lines_of seats;
+    guests = ap (λ (s : Seats). s.guests) seats;
     heard = ap (λ (p : Passages). p.items) grew.1.1.1;
     log = log;
     seats = of_seats;
@@ -148,14 +153,15 @@ module _ {D W : Type 0} {disk : Ghosts D} (wire : OfWire W) where
 
   -- something was written to seats, or one was let go of
   pub kept_seated : {old new : Desk D W disk} → new.member ≡ old.member → new.log_failed ≡ old.log_failed → new.company ≡ old.company → new.askers ≡ old.askers → Loosens old.sittings new.sittings
-      → lines_of new.seats ≡ lines_of old.seats → logged_in (wire.passed new.wire) ≡ logged_in (wire.passed old.wire) → seats_in (wire.passed new.wire) ≡ seats_in (wire.passed old.wire)
-      → KeepsOthers (wire.passed old.wire) (wire.passed new.wire)
+      → lines_of new.seats ≡ lines_of old.seats → new.seats.guests ≡ old.seats.guests → logged_in (wire.passed new.wire) ≡ logged_in (wire.passed old.wire) → seats_in (wire.passed new.wire) ≡ seats_in (wire.passed old.wire)
+      → KeepsOthers (wire.passed old.wire) (wire.passed new.wire) → TellsNoGuest (wire.passed old.wire) (wire.passed new.wire)
       → (AreSaid (wire.passed old.wire) (lines_of old.seats) old.seats.seats.items → AreSaid (wire.passed new.wire) (lines_of old.seats) new.seats.seats.items) → IsKept wire old new
-  kept_seated {old} {new} member log_failed company askers loosened told log seats others said = record {
+  kept_seated {old} {new} member log_failed company askers loosened told guests log seats others unsaid said = record {
     member = member;
     log_failed = log_failed;
     sent = ap (λ (c : Company). frames_of c.peers) company;
     told = told;
+    guests = guests;
     heard = ap (λ (c : Company). heard_of c.peers) company;
     log = log;
     seats = seats;
@@ -166,7 +172,7 @@ module _ {D W : Type 0} {disk : Ghosts D} (wire : OfWire W) where
         subst (λ (c : Company). IsCarried (wire.passed new.wire) (passed_of c.peers) (lines_of new.seats) new.seats.seats.items new.askers.askers.items) (sym company)
         (subst (λ (a : Askers). IsCarried (wire.passed new.wire) (passed_of old.company.peers) (lines_of new.seats) new.seats.seats.items a.askers.items) (sym askers)
         (subst (λ (m : List Passage). IsCarried (wire.passed new.wire) (passed_of old.company.peers) m new.seats.seats.items old.askers.askers.items) (sym told)
-        (carried_seated (wire.passed old.wire) (wire.passed new.wire) (passed_of old.company.peers) (lines_of old.seats) old.seats.seats.items new.seats.seats.items old.askers.askers.items others said is))));
+        (carried_seated (wire.passed old.wire) (wire.passed new.wire) (passed_of old.company.peers) (lines_of old.seats) old.seats.seats.items new.seats.seats.items old.askers.askers.items others unsaid said is))));
   }
 
   -- something passed over lines of those who ask, or they were given such lines
@@ -178,6 +184,7 @@ module _ {D W : Type 0} {disk : Ghosts D} (wire : OfWire W) where
     log_failed = log_failed;
     sent = ap (λ (c : Company). frames_of c.peers) company;
     told = ap lines_of seats;
+    guests = ap (λ (s : Seats). s.guests) seats;
     heard = ap (λ (c : Company). heard_of c.peers) company;
     log = others.log;
     seats = others.seats;
@@ -192,13 +199,14 @@ module _ {D W : Type 0} {disk : Ghosts D} (wire : OfWire W) where
 
   -- ---- as part of what is done
 
-  goes_with : {such : List ℕ → Type 0} {old new : Desk D W disk} → ((line : List ℕ) → such line → IsReply (look_of new.member.station).number line) → IsKeptWith wire such old new
+  goes_with : {such : List ℕ → Type 0} {old new : Desk D W disk} → ((line : List ℕ) → such line → IsReply (look_of new.member.station) line) → IsKeptWith wire such old new
       → Does disk [] (served_by wire old) (served_by wire new)
   unfolding still
   goes_with {such} {old} {new} replies is = (
     still (served_by wire old) (served_by wire new) (ap (λ (m : LocalNode D disk). look_of m.station) is.member) is.log_failed is.sent is.told is.heard is.log is.seats is.sittings
         (heard_either old.company.peers new.company.peers is.hears)
-        (gives_weaker such (IsReply (look_of new.member.station).number) old.askers.askers.items new.askers.askers.items replies is.asked) (carries is),
+        (gives_weaker such (IsReply (look_of new.member.station)) old.askers.askers.items new.askers.askers.items replies is.asked) (carries is)
+        (ap (λ (m : LocalNode D disk). m.is_started) is.member) (ap (λ (m : LocalNode D disk). m.terms) is.member) is.guests,
     refl,
   )
 
@@ -206,13 +214,13 @@ module _ {D W : Type 0} {disk : Ghosts D} (wire : OfWire W) where
   goes_kept is = goes_with (λ line e. inl e) is
 
   -- they were given a status line
-  pub goes_answered : (line : List ℕ) (old new : Desk D W disk) → IsStatusLine (look_of old.member.station).number line → IsKeptWith wire (λ given. given ≡ line) old new
+  pub goes_answered : (line : List ℕ) (old new : Desk D W disk) → IsStatusLine (look_of old.member.station) line → IsKeptWith wire (λ given. given ≡ line) old new
       → Does disk [] (served_by wire old) (served_by wire new)
   goes_answered line old new is_status is =
       goes_with
       (λ given e.
-      inr (subst (λ (l : List ℕ). IsStatusLine (look_of new.member.station).number l) (sym e)
-      (subst (λ (m : LocalNode D disk). IsStatusLine (look_of m.station).number line) (sym is.member) is_status))) is
+      inr (subst (λ (l : List ℕ). IsStatusLine (look_of new.member.station) l) (sym e)
+      (subst (λ (m : LocalNode D disk). IsStatusLine (look_of m.station) line) (sym is.member) is_status))) is
 
   pub taken_kept : (taken : List Incoming) (old new : Desk D W disk) → IsKept wire old new → FitsBut taken (served_by wire old) → FitsBut taken (served_by wire new)
   taken_kept taken old new is but = (
@@ -230,6 +238,7 @@ module _ {D W : Type 0} {disk : Ghosts D} (wire : OfWire W) where
     config = goes.config ∙ ap (λ (m : LocalNode D disk). (look_of m.station).config) is.member;
     number = goes.number ∙ ap (λ (m : LocalNode D disk). (look_of m.station).number) is.member;
     begun = goes.begun ∙ ap (λ (m : LocalNode D disk). begun_of disk (look_of m.station).node) is.member;
+    terms = goes.terms ∙ ap (λ (m : LocalNode D disk). m.terms) is.member;
     since = goes.since;
     deeds = goes.deeds ∙ ap (λ (m : LocalNode D disk). goes.since ++ (look_of m.station).deeds) is.member;
     log = subst (λ (b : Bool). LogGains b three.log_failed (shown_log goes.since) (logged_in (wire.passed one.wire)) (logged_in three.passed)) is.log_failed
@@ -240,20 +249,20 @@ module _ {D W : Type 0} {disk : Ghosts D} (wire : OfWire W) where
     seats = goes.seats ∙ ap (λ (m : List Passage). m ++ seats_of goes.gained) is.seats;
     heard = goes.heard ∙ ap (λ (m : List Passage). m ++ peers_of goes.gained) is.heard;
     were = goes.were;
+    hosts = hosts_on one.seats.guests two.seats.guests three.guests (hosts_none one.seats.guests two.seats.guests is.guests) goes.hosts;
+    let_in = goes.let_in;
     came = goes.came;
     given = λ but. goes.given (taken_kept taken one two is but);
     hears = hears_on (own_of one.company.peers) (own_of two.company.peers) three.own (passed_of one.company.peers) (passed_of two.company.peers) three.lines
         (heard_either one.company.peers two.company.peers is.hears) goes.hears;
-    asked = none_gives_on three.look.number one.askers.askers.items two.askers.askers.items three.askers is.asked goes.asked;
+    asked = none_gives_on three.look one.askers.askers.items two.askers.askers.items three.askers is.asked goes.asked;
     carried = λ held. goes.carried (carries is held);
+    once = λ was. goes.once (once_kept (served_by wire one) (served_by wire two) (ap (λ (m : LocalNode D disk). look_of m.station) is.member) (ap (λ (m : LocalNode D disk). m.is_started) is.member) was);
   }
 
   pub kept_then : {taken : List Incoming} {one two : Desk D W disk} {three : Served (Node D)} → IsKept wire one two → Does disk taken (served_by wire two) three → Does disk taken (served_by wire one) three
   unfolding all_kept_then
   kept_then is does = (all_kept_then is does.0, does.1)
-
-  pub kept_without : {one two : Desk D W disk} → IsKept wire one two → GoesOnWithoutLife disk (served_by wire one) (served_by wire two)
-  kept_without is = without_life (goes_kept is)
 
   -- and the other way round
   pub then_kept : {taken : List Incoming} {one : Served (Node D)} {two three : Desk D W disk} → Does disk taken one (served_by wire two) → IsKept wire two three
@@ -273,6 +282,7 @@ module _ {D W : Type 0} {disk : Ghosts D} (wire : OfWire W) where
     told = is.told ∙ hands.told;
     seats = is.seats ∙ hands.seats;
     heard = is.heard ∙ hands.heard;
+    guests = is.guests ∙ hands.guests;
     hears = hears_on one.own (own_of two.company.peers) (own_of three.company.peers) one.lines (passed_of two.company.peers) (passed_of three.company.peers) hands.hears (heard_either two.company.peers three.company.peers is.hears);
     asked = gives_alike IsNoLine one.askers two.askers.askers.items three.askers.askers.items hands.asked is.asked;
     carried = λ held. carries is (hands.carried held);
@@ -280,11 +290,11 @@ module _ {D W : Type 0} {disk : Ghosts D} (wire : OfWire W) where
 
   -- how bots are is of no account for that
   pub settled : {told : Told} {one : Served (Node D)} (two : Desk D W disk) (sittings : Sittings) → HandsOn told one (served_by wire two) → HandsOn told one (served_by wire (record two { sittings = sittings }))
-  settled two sittings hands = record { log = hands.log; sent = hands.sent; told = hands.told; seats = hands.seats; heard = hands.heard; hears = hands.hears; asked = hands.asked; carried = hands.carried }
+  settled two sittings hands = record { log = hands.log; sent = hands.sent; told = hands.told; seats = hands.seats; heard = hands.heard; guests = hands.guests; hears = hands.hears; asked = hands.asked; carried = hands.carried }
 
   -- nor is the node that was called
   pub of_any : {told : Told} {three : Served (Node D)} (one : Desk D W disk) (member : LocalNode D disk) → HandsOn told (served_by wire (record one { member = member })) three → HandsOn told (served_by wire one) three
-  of_any one member hands = record { log = hands.log; sent = hands.sent; told = hands.told; seats = hands.seats; heard = hands.heard; hears = hands.hears; asked = hands.asked; carried = hands.carried }
+  of_any one member hands = record { log = hands.log; sent = hands.sent; told = hands.told; seats = hands.seats; heard = hands.heard; guests = hands.guests; hears = hands.hears; asked = hands.asked; carried = hands.carried }
 
   -- nothing was made
   hands_nothing : {old new : Desk D W disk} → IsKept wire old new → HandsOn nothing_told (served_by wire old) (served_by wire new)
@@ -295,6 +305,7 @@ module _ {D W : Type 0} {disk : Ghosts D} (wire : OfWire W) where
         told = sym (append-nil (lines_of old.seats));
         seats = refl;
         heard = refl;
+        guests = refl;
         hears = hears_none (own_of old.company.peers) (own_of old.company.peers) (passed_of old.company.peers) (passed_of old.company.peers) refl refl;
         asked = λ place within. inl refl;
         carried = λ held. held;
@@ -307,13 +318,16 @@ module _ {D W : Type 0} {disk : Ghosts D} (wire : OfWire W) where
       let look : look_of new.member.station ≡ look_of old.member.station = ap (λ (m : LocalNode D disk). look_of m.station) is.member in
       unstepped e nothing_told (served_by wire old) (served_by wire new) (ap (λ (l : Look (Node D)). l.config) look) (ap (λ (l : Look (Node D)). l.number) look)
       (ap (λ (l : Look (Node D)). begun_of disk l.node) look) (ap (λ (l : Look (Node D)). l.deeds) look) refl (hands_nothing is) refuses
+      (λ was. ap (λ (m : LocalNode D disk). m.is_started) is.member ∙ was) (ap (λ (m : LocalNode D disk). m.terms) is.member)
 
   -- the node was called, but not given what the event is made of, and then its bot was let go of
   pub unstepped_then : (e : Event) (told : Told) (result : Option (Result (Unit {0}) NodeFault)) (old : Served (Node D)) (mid new : Desk D W disk) → IsGivenBy false result
       → IfSome result (λ answer. Acts disk e told answer old.look (look_of mid.member.station)) → (IsNone result → look_of mid.member.station ≡ old.look) → (IsNone result → told ≡ nothing_told)
-      → HandsOn told old (served_by wire mid) → mid.sittings ≡ old.sittings → IsKept wire mid new → Refuses e mid.sittings new.sittings → Does disk (taken_for e) old (served_by wire new)
-  unstepped_then e told result old mid new given acts same unmade hands sittings is refuses =
+      → HandsOn told old (served_by wire mid) → mid.sittings ≡ old.sittings → IsKept wire mid new → Refuses e mid.sittings new.sittings → (old.started ≡ true → mid.member.is_started ≡ true)
+      → mid.member.terms ≡ old.terms → Does disk (taken_for e) old (served_by wire new)
+  unstepped_then e told result old mid new given acts same unmade hands sittings is refuses started terms =
       let look : look_of new.member.station ≡ look_of mid.member.station = ap (λ (m : LocalNode D disk). look_of m.station) is.member in
       unstepped_if_not e told result old (served_by wire new) given
       (subst (λ (l : Look (Node D)). IfSome result (λ answer. Acts disk e told answer old.look l)) (sym look) acts) (λ none. look ∙ same none) unmade (hands_kept hands is)
-      (subst (λ (s : Sittings). Refuses e s new.sittings) sittings refuses)
+      (subst (λ (s : Sittings). Refuses e s new.sittings) sittings refuses) (λ was. ap (λ (m : LocalNode D disk). m.is_started) is.member ∙ started was)
+      (ap (λ (m : LocalNode D disk). m.terms) is.member ∙ terms)

@@ -1,5 +1,4 @@
 -- What a process may call its node with may be given to that.
-use Rattle.std.proofs.Common.{◌≡◌}
 use Rattle.promise_store.specs.declared.disk.Disk.{Ghosts}
 use Rattle.node_wires.specs.declared.wire.Wire.{Ghosts as OfWire}
 use Rattle.dealer_world.specs.declared.event.Event.{Event}

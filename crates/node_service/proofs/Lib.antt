@@ -4,11 +4,15 @@ pub mod Showing
 pub mod Fitting
 pub mod Asking
 pub mod Crossing
+pub mod Welcoming
 pub mod RuleLogs
+pub mod Called
+pub mod Starting
 pub mod SinceStart
 pub mod Accepting
 pub mod Dealt
 pub mod Accepted
+pub mod Turns
 pub mod Going
 pub mod Stepping
 pub mod Incoming
@@ -16,6 +20,7 @@ pub mod Telling
 pub mod Hearing
 pub mod Keeping
 pub mod Knowing
+pub mod Meaning
 pub mod Seats
 pub mod Others
 pub mod Counting

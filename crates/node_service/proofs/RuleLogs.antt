@@ -1,5 +1,5 @@
 -- What the rules show to a log is what the dealer's log has further.
-use Rattle.std.proofs.Common.{◌≡◌, ℕ, ◌+◌, ◌≤◌, Bool, true, false, not, if◌then◌else◌, List, [], ◌∷◌, ◌++◌, Option, Some, None, Result, Ok, Err, refl, sym, ap, subst, ◌∙◌, append_assoc}
+use Rattle.std.proofs.Common.{◌≡◌, ℕ, ◌+◌, Bool, true, false, not, if◌then◌else◌, List, [], ◌∷◌, ◌++◌, Option, Some, None, Result, Ok, Err, refl, sym, ap, subst, ◌∙◌, append_assoc}
 use Rattle.std.specs.Prelude.{is_none}
 use Rattle.std.specs.Option.{option_map, option_to_list}
 use Rattle.std.proofs.lemmas.List.{append-nil}
@@ -37,15 +37,15 @@ use Rattle.dealer_kind.specs.Kind.{Setting, hands_after, fits, log_of}
 use Rattle.node_rules.specs.Standings.{Place, Standing, applied, front_of, hands_at, with_stored, idle}
 use Rattle.node_rules.specs.Sending.{to_others, one}
 use Rattle.node_rules.specs.Showing.{Piece, is_connected, line_piece, seat_line, seat_lines, log_piece, news}
-use Rattle.node_rules.specs.Turns.{Turn, Refusal, Conflict, still, sending, joined, behind, and_then}
+use Rattle.node_rules.specs.Turns.{Turn, Refusal, still, sending, joined, behind, and_then}
 use Rattle.node_rules.specs.Applying.{Scene, shown_of, taking as applies, taking_all, passed, scene_of, applying}
 use Rattle.node_rules.specs.Learning.{learning, counting_votes, believing, asking_on, comes_to_window, asking_above}
-use Rattle.node_rules.specs.Accepting.{preparing, promising, refusing, voting, accepting}
+use Rattle.node_rules.specs.Accepting.{promising, refusing, voting}
 use Rattle.node_rules.specs.Proposing.{is_over, is_spent, beginning, ticking, greatest_seen, proposing, closing_by, closing, proposal_at}
-use Rattle.node_rules.specs.Seats.{session_at, with_session, ordering_by, ordering, away_at, answering, answering_all, left, hearing as hearing_piece, HearsPiece}
+use Rattle.node_rules.specs.Seats.{session_at, with_session, ordering_by, ordering, away_at, answering, answering_all, left, HearsPiece}
 use Rattle.node_rules.specs.Calls.{Call, Start, Tick, Away, Line, Connect, Drop, Stop}
 use Rattle.node_rules.specs.Calls as call
-use Rattle.node_rules.specs.Rules.{seeing, taking, asking, on_message, on_read, IsTurnUp}
+use Rattle.node_rules.specs.Rules.{seeing, taking, asking, on_read, IsTurnUp}
 use Rattle.node_rules.proofs.Passing.{all_applied, passed_all}
 
 -- ---- what pieces add to the log

@@ -44,15 +44,19 @@ pub nothing_shown : (failed : Bool) (log : List ℕ) → LogGains failed failed 
 nothing_shown true log = (refl, refl)
 nothing_shown false log = sym (append-nil log)
 
+not_empty : (xs ys : List ℕ) → (xs ≡ [] → ⊥) → xs ++ ys ≡ [] → ⊥
+not_empty [] ys some none = some refl
+not_empty (x ∷ xs) ys some none = cc
+
 pub shown_on : (first then_on last : Bool) (shown more one two three : List ℕ) → LogGains first then_on shown one two → LogGains then_on last more two three
     → LogGains first last (shown ++ more) one three
 shown_on true true last shown more one two three before after = (after.0, after.1 ∙ before.1)
 shown_on true false last shown more one two three before after = let never : false ≡ true = before.0 in absurd (cc)
 shown_on false true true shown more one two three before after =
-    (before.0, before.1 ++ more, ap (λ (m : List ℕ). m ++ more) before.2 ∙ append_assoc before.0 before.1 more, after.1 ∙ before.3)
+    (before.0, before.1 ++ more, ap (λ (m : List ℕ). m ++ more) before.2 ∙ append_assoc before.0 before.1 more, not_empty before.1 more before.3, after.1 ∙ before.4)
 shown_on false true false shown more one two three before after = let never : false ≡ true = after.0 in absurd (cc)
 shown_on false false true shown more one two three before after =
-    (shown ++ after.0, after.1, ap (λ (m : List ℕ). shown ++ m) after.2 ∙ sym (append_assoc shown after.0 after.1), after.3 ∙ (ap (λ (m : List ℕ). m ++ after.0) before ∙ append_assoc one shown after.0))
+    (shown ++ after.0, after.1, ap (λ (m : List ℕ). shown ++ m) after.2 ∙ sym (append_assoc shown after.0 after.1), after.3, after.4 ∙ (ap (λ (m : List ℕ). m ++ after.0) before ∙ append_assoc one shown after.0))
 shown_on false false false shown more one two three before after = after ∙ (ap (λ (m : List ℕ). m ++ more) before ∙ append_assoc one shown more)
 
 -- ---- what passes over wires
@@ -82,9 +86,14 @@ pub not_any_more : (failed : Bool) (text log after : List ℕ) → failed ≡ tr
 not_any_more true text log after is same = (refl, same)
 not_any_more false text log after is same = absurd (cc)
 
-pub fails_now : (failed : Bool) (text log after : List ℕ) → failed ≡ false → after ≡ log → LogGains failed true text log after
-fails_now false text log after is same = ([], text, refl, same ∙ sym (append-nil log))
-fails_now true text log after is same = absurd (cc)
+pub fails_now : (failed : Bool) (text log after : List ℕ) → failed ≡ false → (text ≡ [] → ⊥) → after ≡ log → LogGains failed true text log after
+fails_now false text log after is some same = ([], text, refl, some, same ∙ sym (append-nil log))
+fails_now true text log after is some same = absurd (cc)
+
+-- an empty text is had
+pub gains_none : (failed : Bool) (text log : List ℕ) → text ≡ [] → LogGains failed failed text log log
+gains_none true text log none = (refl, refl)
+gains_none false text log none = sym (ap (λ (m : List ℕ). log ++ m) none ∙ append-nil log)
 
 pub gains_it : (failed : Bool) (text log after : List ℕ) → failed ≡ false → after ≡ log ++ text → LogGains failed failed text log after
 gains_it false text log after is gains = gains

@@ -1,6 +1,5 @@
 -- What a node's deeds show to its log since a start.
-use Rattle.std.proofs.Common.{◌≡◌, ℕ, ◌≤◌, inl, inr, Bool, true, false, List, [], ◌∷◌, ◌++◌, Result, Ok, Err, refl, sym, ap, subst, ◌∙◌, map, append_assoc}
-use Rattle.std.specs.Prelude.{IsTrue}
+use Rattle.std.proofs.Common.{◌≡◌, ℕ, ◌≤◌, Bool, true, false, List, [], ◌∷◌, ◌++◌, Ok, Err, refl, sym, ap, subst, ◌∙◌, map, append_assoc}
 use Rattle.std.proofs.lemmas.List.{append-nil}
 use Rattle.std.proofs.Math.Logic.{∥∥₁_map}
 use Rattle.promise_store.specs.declared.disk.Disk.{Ghosts}
@@ -20,11 +19,10 @@ use Rattle.dealer_world.specs.Calls.{Made, added_by}
 use Rattle.dealer_world.specs.Records.{Arrived}
 use Rattle.dealer_world.specs.Runs.{Ruled, text_by_rule, begins_by, Keeps}
 use Rattle.dealer_node.specs.Nodes.{Node}
-use Rattle.dealer_node.specs.Seeing.{begun_of}
 use Rattle.stations.specs.Deeds.{Deed, Did, new_at}
-use Rattle.stations.specs.Stations.{Look, Has, HoldsAfter, LeavesFile, known_place}
+use Rattle.stations.specs.Stations.{Look, Has, HoldsAfter, known_place}
 use Rattle.node_service.specs.Showing.{added, shown_log}
-use Rattle.node_service.specs.Logging.{HasNoStart, IsLogAt, StartedOnce, ShowsOneLog, HasOneLog}
+use Rattle.node_service.specs.Logging.{HasNoStart, IsLogAt, HasOneLog}
 use Rattle.node_service.proofs.RuleLogs.{Given, logged, LogsOn, turns_log}
 
 -- texts add what their pieces do

@@ -1,6 +1,6 @@
 -- What a call of the node makes of a process.
 use Rattle.std.proofs.Common.{◌≡◌, ℕ, Bool, true, false, List, [], ◌∷◌, ◌++◌, map, inl, refl, sym, ◌∙◌, ap, subst}
-use Rattle.std.specs.Prelude.{Option, Some, None, IfSome, IsNone, Result, Err, IsErr}
+use Rattle.std.specs.Prelude.{Option, Some, None, IfSome, IsNone, Result, Ok, Err, IsErr}
 use Rattle.std.proofs.lemmas.List.{append-nil}
 use Rattle.promise_store.specs.declared.disk.Disk.{Ghosts}
 use Rattle.dealer_node.specs.Nodes.{Node}
@@ -11,7 +11,7 @@ use Rattle.dealer_node.specs.Texts.{Marked}
 use Rattle.dealer_node.specs.Seeing.{runs, front_in, begun_of}
 use Rattle.dealer_world.specs.declared.event.Event.{Event}
 use Rattle.dealer_world.specs.declared.event.Event.TheVariants as event
-use Rattle.dealer_world.specs.Stepping.{arrived_by_event}
+use Rattle.dealer_world.specs.Stepping.{arrived_by_event, begins_by_event}
 use Rattle.dealer_world.specs.Recordings.{frame_by, text_by}
 use Rattle.node_wires.specs.Passages.{Passage, logged_in, seats_in}
 use Rattle.stations.specs.Deeds.{Deed}
@@ -20,12 +20,15 @@ use Rattle.node_service.specs.Parts.{IsPartOf}
 use Rattle.node_service.specs.Showing.{added, LogGains}
 use Rattle.node_service.specs.Handed.{frame_handed, mark_handed, lines_handed}
 use Rattle.node_service.specs.Arriving.{incoming_in, seats_of, taken_for}
+use Rattle.node_service.specs.Calling.{MayBeGiven}
+use Rattle.node_service.specs.Logging.{StartedOnce}
 use Rattle.node_service.specs.Served.{Served}
 use Rattle.node_service.specs.Sittings.{Admits, IsGivenBy, Settles, Refuses}
 use Rattle.node_service.specs.Fitting.{FitsFor}
 use Rattle.node_service.specs.Handing.{HandsOn}
 use Rattle.node_service.specs.Going.{Does}
 use Rattle.node_service.proofs.Asking.{none_gives}
+use Rattle.node_service.proofs.Welcoming.{hosts_none}
 use Rattle.node_service.proofs.Fitting.{fits_given, fits_refused}
 
 -- what an event brings to a node is what it was made of
@@ -40,6 +43,27 @@ brought_is_taken true front (event.Drop node seat) = tt
 brought_is_taken true front (event.Stop node pick) = tt
 brought_is_taken true front (event.Start node) = tt
 
+-- by an event that may be given to a node that was started no start begins
+pub begins_none : (up : Bool) (e : Event) (answer : Result (Unit {0}) NodeFault) → MayBeGiven true e → begins_by_event up e answer ≡ false
+begins_none up (event.Frame from to bytes) (Ok done) may = refl
+begins_none up (event.Line node seat bytes) (Ok done) may = refl
+begins_none up (event.Tick node) (Ok done) may = refl
+begins_none up (event.Away node) (Ok done) may = refl
+begins_none up (event.Connect node seat) (Ok done) may = refl
+begins_none up (event.Drop node seat) (Ok done) may = refl
+begins_none up (event.Stop node pick) (Ok done) may = absurd may
+begins_none up (event.Start node) (Ok done) may = absurd (cc)
+begins_none up e (Err fault) may = refl
+
+pub once_more : (deeds : List Deed) (deed : Deed) → deed.made.began ≡ false → StartedOnce deeds → StartedOnce (deed ∷ deeds)
+once_more deeds deed none once = record {
+  later = deed ∷ once.later;
+  first = once.first;
+  deeds_are = ap (λ (m : List Deed). deed ∷ m) once.deeds_are;
+  begins = once.begins;
+  no_other = (none, once.no_other);
+}
+
 pub same_frames : (node : ℕ) (frames : List (Marked ℕ)) → map frame_handed (map (frame_by node) frames) ≡ map mark_handed frames
 same_frames node [] = refl
 same_frames node (frame ∷ frames) = ap (λ (m : List Passage). mark_handed frame ∷ m) (same_frames node frames)
@@ -48,8 +72,8 @@ module _ {D : Type 0} {g : Ghosts D} where
   -- an event was given to the node, and what it made of it was handed on
   stepped : (e : Event) (told : Told) (answer : Result (Unit {0}) NodeFault) (old new : Served (Node D)) → (answer ≡ Err OutOfMemory → ⊥) → Acts g e told answer old.look new.look
       → HandsOn told old new
-      → Admits (runs old.look.node) e old.sittings → Settles e old.sittings new.sittings → Does g (taken_for e) old new
-  stepped e told answer old new was_given acts hands admitted settled =
+      → Admits (runs old.look.node) e old.sittings → Settles e old.sittings new.sittings → MayBeGiven old.started e → (old.started ≡ true → new.started ≡ true) → new.terms ≡ old.terms → Does g (taken_for e) old new
+  stepped e told answer old new was_given acts hands admitted settled may started terms =
       elim acts.gains as (λ _. Does g (taken_for e) old new) [
         | nothing refused same ↦ absurd (was_given refused)
         | call taken is ↦ (
@@ -57,6 +81,7 @@ module _ {D : Type 0} {g : Ghosts D} where
             config = acts.config;
             number = acts.number;
             begun = acts.given.stays.begun;
+            terms = terms;
             since = deed_by (runs old.look.node) (front_in old.look.node) e told answer ∷ [];
             deeds = is;
             log = hands.log;
@@ -66,14 +91,22 @@ module _ {D : Type 0} {g : Ghosts D} where
             seats = hands.seats ∙ sym (append-nil (seats_in old.passed));
             heard = hands.heard ∙ sym (append-nil old.heard);
             were = tt;
+            hosts = hosts_none old.guests new.guests hands.guests;
+            let_in = tt;
             came = brought_is_taken (runs old.look.node) (front_in old.look.node) e;
             given = λ but.
                 subst (λ (m : List Passage). FitsFor new.look.deeds new.sittings m) (sym (hands.seats ∙ but.1.0))
                 (subst (λ (m : List Deed). FitsFor m new.sittings (but.0 ++ seats_of (taken_for e))) (sym is)
                 (fits_given (runs old.look.node) (front_in old.look.node) e told answer old.look.deeds old.sittings new.sittings but.0 admitted settled but.1.1));
             hears = hands.hears;
-            asked = none_gives new.look.number old.askers new.askers hands.asked;
+            asked = none_gives new.look old.askers new.askers hands.asked;
             carried = hands.carried;
+            once = λ was. (
+              started was.0,
+              subst StartedOnce (sym is)
+                  (once_more old.look.deeds (deed_by (runs old.look.node) (front_in old.look.node) e told answer)
+                  (begins_none (runs old.look.node) e answer (subst (λ (b : Bool). MayBeGiven b e) was.0 may)) was.1),
+            );
           },
           refl,
         )
@@ -83,12 +116,13 @@ module _ {D : Type 0} {g : Ghosts D} where
   pub unstepped : (e : Event) (told : Told) (old new : Served (Node D)) → new.look.config ≡ old.look.config → new.look.number ≡ old.look.number
       → begun_of g new.look.node ≡ begun_of g old.look.node → new.look.deeds ≡ old.look.deeds → told ≡ nothing_told
       → HandsOn told old new
-      → Refuses e old.sittings new.sittings → Does g (taken_for e) old new
-  unstepped e told old new config number begun deeds unmade hands refused = (
+      → Refuses e old.sittings new.sittings → (old.started ≡ true → new.started ≡ true) → new.terms ≡ old.terms → Does g (taken_for e) old new
+  unstepped e told old new config number begun deeds unmade hands refused started terms = (
     record {
       config = config;
       number = number;
       begun = begun;
+      terms = terms;
       since = [];
       deeds = deeds;
       log = subst (λ (t : Told). LogGains old.log_failed new.log_failed (added (map text_by t.shown)) (logged_in old.passed) (logged_in new.passed)) unmade hands.log;
@@ -98,14 +132,17 @@ module _ {D : Type 0} {g : Ghosts D} where
       seats = hands.seats ∙ sym (append-nil (seats_in old.passed));
       heard = hands.heard ∙ sym (append-nil old.heard);
       were = tt;
+      hosts = hosts_none old.guests new.guests hands.guests;
+      let_in = tt;
       came = tt;
       given = λ but.
           subst (λ (m : List Passage). FitsFor new.look.deeds new.sittings m) (sym (hands.seats ∙ but.1.0))
           (subst (λ (m : List Deed). FitsFor m new.sittings (but.0 ++ seats_of (taken_for e))) (sym deeds)
           (fits_refused e old.look.deeds old.sittings new.sittings but.0 refused but.1.1));
       hears = hands.hears;
-      asked = none_gives new.look.number old.askers new.askers hands.asked;
+      asked = none_gives new.look old.askers new.askers hands.asked;
       carried = hands.carried;
+      once = λ was. (started was.0, subst StartedOnce (sym deeds) was.1);
     },
     refl,
   )
@@ -114,22 +151,22 @@ module _ {D : Type 0} {g : Ghosts D} where
   pub stepped_if_given : (e : Event) (told : Told) (result : Option (Result (Unit {0}) NodeFault)) (old new : Served (Node D)) → IsGivenBy true result
       → IfSome result (λ answer. Acts g e told answer old.look new.look)
       → HandsOn told old new
-      → Admits (runs old.look.node) e old.sittings → Settles e old.sittings new.sittings → Does g (taken_for e) old new
-  stepped_if_given e told None old new given acts hands admitted settled = absurd given
-  stepped_if_given e told (Some answer) old new given acts hands admitted settled =
-      stepped e told answer old new given acts hands admitted settled
+      → Admits (runs old.look.node) e old.sittings → Settles e old.sittings new.sittings → MayBeGiven old.started e → (old.started ≡ true → new.started ≡ true) → new.terms ≡ old.terms → Does g (taken_for e) old new
+  stepped_if_given e told None old new given acts hands admitted settled may started terms = absurd given
+  stepped_if_given e told (Some answer) old new given acts hands admitted settled may started terms =
+      stepped e told answer old new given acts hands admitted settled may started terms
 
   pub unstepped_if_not : (e : Event) (told : Told) (result : Option (Result (Unit {0}) NodeFault)) (old new : Served (Node D)) → IsGivenBy false result
       → IfSome result (λ answer. Acts g e told answer old.look new.look) → (IsNone result → new.look ≡ old.look) → (IsNone result → told ≡ nothing_told)
       → HandsOn told old new
-      → Refuses e old.sittings new.sittings → Does g (taken_for e) old new
-  unstepped_if_not e told None old new given acts same unmade hands refused =
+      → Refuses e old.sittings new.sittings → (old.started ≡ true → new.started ≡ true) → new.terms ≡ old.terms → Does g (taken_for e) old new
+  unstepped_if_not e told None old new given acts same unmade hands refused started terms =
       let look : new.look ≡ old.look = same refl in
       unstepped e told old new (ap (λ (l : Look (Node D)). l.config) look) (ap (λ (l : Look (Node D)). l.number) look) (ap (λ (l : Look (Node D)). begun_of g l.node) look)
-      (ap (λ (l : Look (Node D)). l.deeds) look) (unmade refl) hands refused
-  unstepped_if_not e told (Some answer) old new given acts same unmade hands refused =
+      (ap (λ (l : Look (Node D)). l.deeds) look) (unmade refl) hands refused started terms
+  unstepped_if_not e told (Some answer) old new given acts same unmade hands refused started terms =
       elim acts.gains as (λ _. Does g (taken_for e) old new) [
         | nothing no_memory is ↦
-            unstepped e told old new acts.config acts.number acts.given.stays.begun is (acts.given.stays.unmade (subst (λ (a : Result (Unit {0}) NodeFault). IsErr a) (sym no_memory) refl)) hands refused
+            unstepped e told old new acts.config acts.number acts.given.stays.begun is (acts.given.stays.unmade (subst (λ (a : Result (Unit {0}) NodeFault). IsErr a) (sym no_memory) refl)) hands refused started terms
         | call taken is ↦ absurd (taken given)
       ]

@@ -18,6 +18,8 @@ module _ {D W : Type 0} {disk : Ghosts D} (wire : OfWire W) where
   abbrev pub served_by : Desk D W disk → Served (Node D)
   served_by desk = record {
     look = look_of desk.member.station;
+    started = desk.member.is_started;
+    terms = desk.member.terms;
     passed = wire.passed desk.wire;
     log_failed = desk.log_failed;
     sent = frames_of desk.company.peers;
@@ -27,6 +29,7 @@ module _ {D W : Type 0} {disk : Ghosts D} (wire : OfWire W) where
     own = own_of desk.company.peers;
     lines = passed_of desk.company.peers;
     bots = desk.seats.seats.items;
+    guests = desk.seats.guests;
     askers = desk.askers.askers.items;
   }
 
@@ -41,6 +44,7 @@ module _ {D W : Type 0} {disk : Ghosts D} (wire : OfWire W) where
     pub log_failed : new.log_failed ≡ old.log_failed
     pub sent : frames_of new.company.peers ≡ frames_of old.company.peers
     pub told : lines_of new.seats ≡ lines_of old.seats
+    pub guests : new.seats.guests ≡ old.seats.guests
     pub heard : heard_of new.company.peers ≡ heard_of old.company.peers
     pub log : logged_in (wire.passed new.wire) ≡ logged_in (wire.passed old.wire)
     pub seats : seats_in (wire.passed new.wire) ≡ seats_in (wire.passed old.wire)

@@ -11,20 +11,24 @@ use Rattle.node_service.specs.Handed.{frames_by, lines_by}
 use Rattle.node_service.specs.Arriving.{Incoming, seats_of, peers_of, came_by}
 use Rattle.node_service.specs.Company.{Hears}
 use Rattle.node_service.specs.Asking.{GivesOnly, IsNoLine, IsReply}
-use Rattle.node_service.specs.Crossing.{AreHeard, Carries, HasNoLife, EndsAtLife}
+use Rattle.node_service.specs.Crossing.{AreHeard, Carries, EndsAtLife}
 use Rattle.node_service.specs.Served.{Served}
+use Rattle.node_service.specs.Welcoming.{Hosts, AreLetIn}
+use Rattle.node_service.specs.Logging.{IsOnce}
 use Rattle.node_service.specs.Sittings.{Loosens}
 use Rattle.node_service.specs.Fitting.{Fits, FitsBut}
 
 module _ {D : Type 0} (g : Ghosts D) where
-  -- it stays the process of the same node; it did so much more, the newest first: the log gained what was shown to it; the frames that these deeds
+  -- it stays the process of the same node, by the same terms; it did so much more, the newest first: the log gained what was shown to it; the frames that these deeds
   -- sent were handed to the peers and their lines told to the seats, in order, and nothing else was; and what came to the node had come: of seats over their
-  -- lines, and of peers as they told it, with what was taken before, in this order and each once; of each seat nothing was left out in the middle; what had
-  -- passed over the lines of its peers has; who asks is given status lines alone; and what crosses the wires goes by peers, seats and askers, as before
+  -- lines, and of peers as they told it, with what was taken before, in this order and each once, and who was taken in at a seat had shown its token; of each seat nothing was left out in the middle; what had
+  -- passed over the lines of its peers has; who asks is given status lines alone; what crosses the wires goes by peers, seats and askers, as before; and a node
+  -- that was started once is still, and isn't started again
   pub record GoesOn (taken : List Incoming) (old new : Served (Node D)) : Type 0 where
     pub config : new.look.config ≡ old.look.config
     pub number : new.look.number ≡ old.look.number
     pub begun : begun_of g new.look.node ≡ begun_of g old.look.node
+    pub terms : new.terms ≡ old.terms
     pub since : List Deed
     pub deeds : new.look.deeds ≡ since ++ old.look.deeds
     pub log : LogGains old.log_failed new.log_failed (shown_log since) (logged_in old.passed) (logged_in new.passed)
@@ -34,27 +38,32 @@ module _ {D : Type 0} (g : Ghosts D) where
     pub seats : seats_in new.passed ≡ seats_in old.passed ++ seats_of gained
     pub heard : new.heard ≡ old.heard ++ peers_of gained
     pub were : AreHeard new.own new.lines gained
+    pub hosts : Hosts old.guests new.guests
+    pub let_in : AreLetIn new.guests gained
     pub came : IsPartOf (came_by since) (taken ++ gained)
     pub given : FitsBut taken old → Fits new
     pub hears : Hears old.own new.own old.lines new.lines
-    pub asked : GivesOnly (IsReply new.look.number) old.askers new.askers
+    pub asked : GivesOnly (IsReply new.look) old.askers new.askers
     pub carried : Carries old → Carries new
+    pub once : IsOnce old → IsOnce new
 
   -- and nothing came meanwhile
   abbrev pub Does : List Incoming → Served (Node D) → Served (Node D) → Type 0
   Does taken old new = (goes : GoesOn taken old new) × (goes.gained ≡ [])
 
+  -- and what came meanwhile is such
+  abbrev pub GoesOnWith : (List Incoming → Type 0) → Served (Node D) → Served (Node D) → Type 0
+  GoesOnWith such old new = (goes : GoesOn [] old new) × such goes.gained
+
   -- of what is told of peers nothing stands behind a node whose life is to be kept
   abbrev pub GoesOnToLife : Served (Node D) → Served (Node D) → Type 0
-  GoesOnToLife old new = (goes : GoesOn [] old new) × EndsAtLife (peers_of goes.gained)
-
-  -- and nobody is told to be there whose life is to be kept
-  abbrev pub GoesOnWithoutLife : Served (Node D) → Served (Node D) → Type 0
-  GoesOnWithoutLife old new = (goes : GoesOn [] old new) × HasNoLife (peers_of goes.gained)
+  GoesOnToLife old new = GoesOnWith (λ gained. EndsAtLife (peers_of gained)) old new
 
   -- nothing was done, and this was taken
   pub record Takes (taken : List Incoming) (old new : Served (Node D)) : Type 0 where
     pub look : new.look ≡ old.look
+    pub started : new.started ≡ old.started
+    pub terms : new.terms ≡ old.terms
     pub log_failed : new.log_failed ≡ old.log_failed
     pub sent : new.sent ≡ old.sent
     pub told : new.told ≡ old.told
@@ -62,6 +71,8 @@ module _ {D : Type 0} (g : Ghosts D) where
     pub seats : seats_in new.passed ≡ seats_in old.passed ++ seats_of taken
     pub heard : new.heard ≡ old.heard ++ peers_of taken
     pub were : AreHeard new.own new.lines taken
+    pub hosts : Hosts old.guests new.guests
+    pub let_in : AreLetIn new.guests taken
     pub sittings : Loosens old.sittings new.sittings
     pub hears : Hears old.own new.own old.lines new.lines
     pub asked : GivesOnly IsNoLine old.askers new.askers

@@ -17,6 +17,7 @@ pub record HandsOn {N : Type 0} (made : Told) (old new : Served N) : Type 0 wher
   pub told : new.told ≡ old.told ++ lines_handed (map text_by made.shown)
   pub seats : seats_in new.passed ≡ seats_in old.passed
   pub heard : new.heard ≡ old.heard
+  pub guests : new.guests ≡ old.guests
   pub hears : Hears old.own new.own old.lines new.lines
   pub asked : GivesOnly IsNoLine old.askers new.askers
   pub carried : Carries old → Carries new

@@ -15,6 +15,7 @@ use Rattle.dealer_world.specs.declared.event.Event.{Event}
 use Rattle.dealer_world.specs.declared.event.Event.TheVariants as event
 use Rattle.clockwork.specs.ActionTimeout.{away_due_of}
 use Rattle.clockwork.specs.Dues.{due_of}
+use Rattle.clockwork.specs.Measuring.{lately}
 use Rattle.clockwork.specs.Silence.{is_heard}
 use Rattle.clockwork.specs.Watches.{known_of}
 use Rattle.clockwork.specs.declared.action_timeout.Awaited.{Awaited}
@@ -32,6 +33,7 @@ use Rattle.node_peers.specs.declared.view.View.{View}
 use Rattle.node_seats.specs.Seating.{sits_at}
 use Rattle.node_wires.specs.declared.wire.Wire.{Ghosts as OfWire}
 use Rattle.stations.specs.Looking.{look_of}
+use Rattle.node_service.specs.Serving.{nodes_of}
 use Rattle.node_service.specs.declared.limits.TheConstants.{SEATS}
 use Rattle.node_service.specs.declared.peer_reports.LastReport.{LastReport}
 use Rattle.node_service.specs.declared.peer_reports.PeerReports.{PeerReports}
@@ -50,11 +52,11 @@ beat_in (Some report) = report.beat
 abbrev pub link_by : View → Option PeerReport → Bool → Link
 link_by view beat is_owed =
     if not view.is_open then Closed view.since
-    else Open (record { opened = view.since; heard = view.heard; round_trip = view.round_trip; unanswered = is_owed; beat = beat })
+    else Open (record { opened = view.since; heard = view.heard; unanswered = is_owed; beat = beat })
 
-abbrev pub peer_by : PeerReports → ℕ → View → Bool → Peer
-peer_by reports number view is_owed =
-    record { number = number; accepted = view.accepted; link = link_by view (beat_in (slice_get reports.all number)) is_owed }
+abbrev pub peer_by : PeerReports → ℕ → View → Bool → ℕ → Peer
+peer_by reports number view is_owed now =
+    record { number = number; accepted = view.accepted; longest = lately view.measured now; link = link_by view (beat_in (slice_get reports.all number)) is_owed }
 
 -- it owes an answer from before its connection opened that would still serve a node of which this is seen, in this ballot
 abbrev pub is_owed_by : Option Question → Seen → Option Ballot → Bool
@@ -79,8 +81,8 @@ tells_seat (Some report) seat = nat_lt seat 16 && has_bit report.seats seat
 
 -- a peer that is seen so is there: its connection is open, and it wasn't silent for so long
 abbrev pub is_there : Option View → ℕ → ℕ → Bool
-is_there None now pace = false
-is_there (Some view) now pace = view.is_open && is_heard view.heard now pace
+is_there None now silence = false
+is_there (Some view) now silence = view.is_open && is_heard view.heard now silence
 
 -- since when a seat is waited for, where the front last moved at that moment
 abbrev pub since_seated : Option Seating → ℕ → ℕ
@@ -126,7 +128,7 @@ module _ {D W : Type 0} {disk : Ghosts D} {wire : OfWire W} where
   -- another node as it is seen; none is of this one's own number
   abbrev pub seen_other : NodeServer D W disk wire → ℕ → Option View → Option Peer
   seen_other server number None = None
-  seen_other server number (Some view) = Some (peer_by server.reports number view (is_owed_by view.unanswered server.watch.seen server.leader))
+  seen_other server number (Some view) = Some (peer_by server.reports number view (is_owed_by view.unanswered server.watch.seen server.leader) (moment_of server))
 
   abbrev pub other_at : NodeServer D W disk wire → ℕ → Option Peer
   other_at server number = if number == number_of server then None else seen_other server number (view_of server.desk.company.peers number)
@@ -138,7 +140,7 @@ module _ {D W : Type 0} {disk : Ghosts D} {wire : OfWire W} where
 
   -- all of them
   abbrev pub others_of : NodeServer D W disk wire → List Peer
-  others_of server = others_below server server.nodes
+  others_of server = others_below server (nodes_of server)
 
   -- a tick is due by what it knows: of its node by its watch, of the others by these, at the moment of its last look
   pub record IsTickDue (server : NodeServer D W disk wire) : Type 0 where
@@ -152,7 +154,7 @@ module _ {D W : Type 0} {disk : Ghosts D} {wire : OfWire W} where
 
   -- whether one does at a peer, as far as that is there and has told
   abbrev pub sits_at_peer : NodeServer D W disk wire → ℕ → ℕ → ℕ → Bool
-  sits_at_peer server seat now number = is_there (view_of server.desk.company.peers number) now server.pace && tells_seat (slice_get server.reports.all number) seat
+  sits_at_peer server seat now number = is_there (view_of server.desk.company.peers number) now server.silence && tells_seat (slice_get server.reports.all number) seat
 
   -- at how many of those with lower numbers than this
   abbrev pub sits_below : NodeServer D W disk wire → ℕ → ℕ → ℕ → ℕ
@@ -173,7 +175,7 @@ module _ {D W : Type 0} {disk : Ghosts D} {wire : OfWire W} where
     quorate = server.turn_timer.is_quorate;
     replays = server.replays;
     sits_here = sits_here server seat;
-    sits_elsewhere = nat_lt 0 (sits_below server seat (moment_of server) server.nodes);
+    sits_elsewhere = nat_lt 0 (sits_below server seat (moment_of server) (nodes_of server));
     rank = min (rank_for server seat) MOST_PEERS;
     since = since_in server.turn_timer seat server.watch.moved;
     ordered = ordered_since server.turn_timer.ordered server.watch.moved;
@@ -182,7 +184,7 @@ module _ {D W : Type 0} {disk : Ghosts D} {wire : OfWire W} where
   -- this is what it knows of this seat, which is to act, in a match in which one that does nothing is played for
   pub record IsAwaited (server : NodeServer D W disk wire) (seat : ℕ) (awaited : Awaited) : Type 0 where
     pub patience : ℕ
-    pub most : server.turn_timer.most ≡ Some patience
+    pub most : server.desk.member.terms.patience ≡ Some patience
     pub acts : IsToAct disk (look_of server.desk.member.station).node seat
     pub is : awaited ≡ awaited_of server seat patience
 

@@ -1,16 +1,18 @@
 -- The log of a node's one start.
-use Rattle.std.specs.Prelude.{◌≡◌, ℕ, true, false, List, [], ◌∷◌, ◌++◌, IsTrue}
+use Rattle.std.specs.Prelude.{◌≡◌, ◌⊎◌, ℕ, true, false, List, [], ◌∷◌, ◌++◌, IsTrue}
 use Rattle.promise_store.specs.declared.disk.Disk.{Ghosts}
 use Rattle.slot_log.specs.declared.command.Command.{Command}
 use Rattle.match_log.specs.Check.{IsMatchLog}
 use Rattle.dealer_kind.specs.Kind.{Setting, log_of}
 use Rattle.node_rules.specs.Standings.{Standing, applied}
 use Rattle.dealer_node.specs.Nodes.{Node}
-use Rattle.dealer_node.specs.Seeing.{IsSeen, begun_of}
+use Rattle.dealer_node.specs.Seeing.{IsSeen, begun_of, runs}
 use Rattle.stations.specs.Deeds.{Deed}
 use Rattle.stations.specs.Stations.{Look, LeavesFile, known_place}
 use Rattle.node_service.specs.Showing.{shown_log}
-use Rattle.node_service.specs.Ending.{IsOverAt}
+use Rattle.node_service.specs.Served.{Served}
+use Rattle.node_service.specs.Ending.{is_well, IsOverAt}
+use Rattle.node_service.specs.declared.outcome.Outcome.{Outcome}
 
 -- by none of these deeds a start began
 abbrev pub HasNoStart : List Deed → Type 0
@@ -24,6 +26,19 @@ pub record StartedOnce (deeds : List Deed) : Type 0 where
   pub deeds_are : deeds ≡ later ++ first ∷ []
   pub begins : first.made.began ≡ true
   pub no_other : HasNoStart later
+
+-- so it is of a process, which starts its node no more
+abbrev pub IsOnce : {N : Type 0} → Served N → Type 0
+IsOnce served = (served.started ≡ true) × StartedOnce served.look.deeds
+
+-- a process whose node is down and has done nothing
+pub record IsFresh {D : Type 0} (look : Look (Node D)) : Type 0 where
+  pub deeds : look.deeds ≡ []
+  pub down : runs look.node ≡ false
+
+-- it was started once, or its start failed, which the process ends by, and it showed nothing to its log
+abbrev pub IsBegun : {D : Type 0} → Outcome → Served (Node D) → Type 0
+IsBegun outcome served = IsOnce served ⊎ ((is_well outcome ≡ false) × (shown_log served.look.deeds ≡ []))
 
 -- this text is the dealer's log after these commands, which the node that stands so has applied as long as it runs
 pub record IsLogAt (setting : Setting) (s : Standing) (text : List ℕ) : Type 0 where

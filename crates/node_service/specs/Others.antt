@@ -1,5 +1,5 @@
 -- The other nodes that are listed.
-use Rattle.std.specs.Prelude.{ℕ, min, List, take}
+use Rattle.std.specs.Prelude.{min, List, take}
 use Rattle.clockwork.specs.declared.known.Peer.{Peer}
 use Rattle.clockwork.specs.declared.limits.TheConstants.{MOST_PEERS}
 use Rattle.node_service.specs.declared.peer_reports.Others.{Others}

@@ -4,8 +4,9 @@ use Rattle.promise_store.specs.declared.disk.Disk.{Ghosts}
 use Rattle.dealer_node.specs.Nodes.{Node}
 use Rattle.node_service.specs.Arriving.{Incoming, peers_of}
 use Rattle.node_service.specs.Crossing.{HasNoLife, EndsAtLife}
-use Rattle.node_service.specs.Going.{GoesOnToLife, GoesOnWithoutLife}
+use Rattle.node_service.specs.Going.{GoesOnWith}
 use Rattle.node_service.specs.Served.{Served}
+use Rattle.node_service.specs.Turns.{AreFrames, ComeOfPeers}
 use Rattle.node_service.specs.declared.taking.Taken.{Taken}
 use Rattle.node_service.specs.declared.taking.Taken.TheVariants as taken
 
@@ -17,6 +18,6 @@ StopsAtLife taken.Last things = EndsAtLife (peers_of things)
 
 module _ {D : Type 0} (g : Ghosts D) where
   abbrev pub TakesNext : Taken → Served (Node D) → Served (Node D) → Type 0
-  TakesNext taken.Nothing old new = GoesOnWithoutLife g old new
-  TakesNext taken.One old new = GoesOnWithoutLife g old new
-  TakesNext taken.Last old new = GoesOnToLife g old new
+  TakesNext taken.Nothing old new = GoesOnWith g AreFrames old new
+  TakesNext taken.One old new = GoesOnWith g AreFrames old new
+  TakesNext taken.Last old new = GoesOnWith g ComeOfPeers old new

@@ -8,6 +8,8 @@ ghost use Rattle.node_peers.specs.Hearing.{IsTold};
 ghost use Rattle.node_peers.specs.Peering.{own_of, passed_of, frames_of, heard_of, Keeps};
 ghost use Rattle.node_peers.specs.Sending.{Sends};
 ghost use Rattle.node_seats.specs.Seating.{Tells};
+ghost use Rattle.node_seats.specs.Pieces.{IsPieceOf};
+ghost use Rattle.node_seats.specs.declared.limits.TheConstants.{PIECE};
 ghost use Rattle.node_seats.specs.Telling.{lines_of, AreSaid};
 ghost use Rattle.node_wires.specs.declared.line.Line.TheVariants.{Peer};
 ghost use Rattle.node_wires.specs.Passages.{Passage, Wrote, logged_in, seats_in};
@@ -132,6 +134,7 @@ fn send_all(made: &Out, company: &mut Company, now: u64)
 /// kept for him.
 fn tell(seat: usize, line: &[u8], seats: &mut Seats) -> bool
     ensures told { lines_of seats.new ≡ lines_of seats.old ++ line_handed (OfSeat seat) line.now }
+    ensures guests { seats.new.guests ≡ seats.old.guests }
     ensures tells { seat < SEATS → Tells seat line.now result seats.old.seats.items seats.new.seats.items }
     ensures said { (passed : List Passage) → AreSaid passed (lines_of seats.old) seats.old.seats.items → AreSaid passed (lines_of seats.new) seats.new.seats.items }
 {
@@ -145,6 +148,9 @@ fn log<W: Wire>(wire: &mut W, log_failed: &mut bool, text: &[u8])
     ensures lines { KeepsLines (W.passed wire.old) (W.passed wire.new) }
 {
     if *log_failed {
+        return;
+    }
+    if text.is_empty() {
         return;
     }
     match wire.add_to_log(text) {
@@ -164,6 +170,7 @@ fn show<W: Wire>(
     ensures log { LogGains log_failed.old log_failed.new (added_by (reader_by reader) text.now) (logged_in (W.passed wire.old)) (logged_in (W.passed wire.new)) }
     ensures seats { seats_in (W.passed wire.new) ≡ seats_in (W.passed wire.old) }
     ensures told { lines_of seats.new ≡ lines_of seats.old ++ line_handed (reader_by reader) text.now }
+    ensures guests { seats.new.guests ≡ seats.old.guests }
     ensures lines { KeepsLines (W.passed wire.old) (W.passed wire.new) }
     ensures said { AreSaid (W.passed wire.old) (lines_of seats.old) seats.old.seats.items → AreSaid (W.passed wire.new) (lines_of seats.new) seats.new.seats.items }
 {
@@ -188,6 +195,7 @@ fn show_all<W: Wire>(made: &Out, wire: &mut W, seats: &mut Seats, log_failed: &m
     ensures log { LogGains log_failed.old log_failed.new (added (map text_by made.now.shown)) (logged_in (W.passed wire.old)) (logged_in (W.passed wire.new)) }
     ensures seats { seats_in (W.passed wire.new) ≡ seats_in (W.passed wire.old) }
     ensures told { lines_of seats.new ≡ lines_of seats.old ++ lines_handed (map text_by made.now.shown) }
+    ensures guests { seats.new.guests ≡ seats.old.guests }
     ensures lines { KeepsLines (W.passed wire.old) (W.passed wire.new) }
     ensures said { AreSaid (W.passed wire.old) (lines_of seats.old) seats.old.seats.items → AreSaid (W.passed wire.new) (lines_of seats.new) seats.new.seats.items }
 {
@@ -284,11 +292,12 @@ impl<D: Disk + Drop, W: Wire + Drop> Desk<D, W> {
         self.company.next()
     }
 
-    /// What came next of a seat.
-    pub(crate) fn next_of_seats(&mut self, now: u64) -> Option<SeatNotice>
-        ensures { Takes D.Disk (incoming_by result) (served_by W.Wire self.old) (served_by W.Wire self.new) }
+    /// What came next of a seat, or of a guest, by its number.
+    pub(crate) fn next_of_seats(&mut self, at: u8, now: u64) -> Option<SeatNotice>
+        ensures takes { Takes D.Disk (incoming_by result) (served_by W.Wire self.old) (served_by W.Wire self.new) }
+        ensures piece { IsPieceOf at PIECE result }
     {
-        let notice = self.seats.next(&mut self.wire, now);
+        let notice = self.seats.next(&mut self.wire, at, now);
         note_gone(&notice, &mut self.sittings);
         notice
     }
@@ -349,7 +358,7 @@ impl<D: Disk + Drop, W: Wire + Drop> Desk<D, W> {
         self.company.speak(told, &mut self.wire, now);
     }
 
-    /// Takes in one who asks how the node is, and says whether anybody waits for that.
+    /// Takes in those who ask how the node is, and says whether anybody waits for that.
     pub(crate) fn is_asked(&mut self, now: u64) -> bool
         ensures { IsKept W.Wire self.old self.new }
     {

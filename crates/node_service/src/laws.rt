@@ -4,6 +4,7 @@ ghost use Rattle.std.specs.Prelude.{map, option_map};
 ghost use Rattle.stations.specs.Together.{StationsArePromised};
 ghost use Rattle.node_service.specs.Serving.{look_in};
 ghost use Rattle.node_service.specs.Company.{ShownStays};
+ghost use Rattle.node_service.specs.Crossing.{NewWiresCarry};
 ghost use Rattle.node_service.specs.Going.{TurnsAreOne};
 
 use crate::server::NodeServer;
@@ -32,4 +33,10 @@ pub fn turns_are_one<D: Disk + Drop>()
 /// connection that it opened by its Hello.
 pub fn lives_stay_shown()
     ensures { ShownStays }
+{}
+
+/// What crosses the wires of a new server goes by its peers, its seats and those who ask: `NodeServer::new` asks for that of
+/// what a server is made of, and so it is over wires over which nothing passed yet.
+pub fn new_wires_carry()
+    ensures { NewWiresCarry }
 {}

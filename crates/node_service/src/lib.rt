@@ -28,11 +28,13 @@ mod server_notice;
 mod sitting;
 mod status;
 mod taking;
+mod terms;
 mod ticking;
 mod turn_timer;
 mod wrong_tokens;
 
 pub use local_node::LocalNode;
 pub use outcome::Outcome;
-pub use server::{NodeServer, Terms};
+pub use server::NodeServer;
 pub use server_notice::ServerNotice;
+pub use terms::Terms;

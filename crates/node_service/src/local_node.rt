@@ -1,14 +1,17 @@
 //! The node of a process, and what its last call made.
 
-ghost use Rattle.std.specs.Prelude.{◌≡◌, true, IfSome, IsNone};
+ghost use Rattle.std.specs.Prelude.{◌≡◌, true, false, Some, None, IfSome, IsSome, IsNone};
 ghost use Rattle.dealer_node.specs.Outs.{nothing_told};
 ghost use Rattle.stations.specs.Stations.{Acts};
 ghost use Rattle.node_service.specs.Calling.{MayBeGiven};
+ghost use Rattle.node_service.specs.Called.{started_by, started_after, Calls};
 ghost use Rattle.node_service.specs.Sittings.{IsGivenBy};
-ghost use Rattle.node_service.specs.Ending.{IsOverAt};
+ghost use Rattle.dealer_node.specs.Taking.{TakesDown};
+ghost use Rattle.node_service.specs.Ending.{EndsBy, IsNeeded, IsRefusal, IsFaultAfter, IsOverAt};
 
 use crate::desk::Desk;
 use crate::server::NodeServer;
+use crate::terms::Terms;
 use dealer_node::{Node, NodeFault, Out, SeatFault};
 use dealer_world::Event;
 use node_wires::Wire;
@@ -22,6 +25,10 @@ pub struct LocalNode<D: Disk + Drop> {
     made: Out,
     /// It was started, which happens once.
     is_started: bool,
+    /// The fault that ends its process: the one by which the first such call was answered.
+    fault: Option<NodeFault>,
+    /// By what terms its match is played.
+    terms: Terms,
 }
 
 /// By hand, so that letting one go is one call for whoever owns it (docs/ARCHITECTURE.md, Habits).
@@ -31,6 +38,8 @@ impl<D: Disk + Drop> Drop for LocalNode<D> {
             station: _,
             made: _,
             is_started: _,
+            fault: _,
+            terms: _,
         } = self;
     }
 }
@@ -47,37 +56,146 @@ fn is_given(answer: Option<Result<(), NodeFault>>) -> bool
     }
 }
 
+/// Whether a node was started, behind this event.
+fn is_started_by(event: &Event, is_started: bool) -> bool
+    ensures { result ≡ started_by event.now is_started }
+{
+    match event {
+        Event::Start { .. } => true,
+        Event::Stop { .. }
+        | Event::Frame { .. }
+        | Event::Line { .. }
+        | Event::Tick { .. }
+        | Event::Away { .. }
+        | Event::Connect { .. }
+        | Event::Drop { .. } => is_started,
+    }
+}
+
+/// Whether this is a start, or the end of a seat.
+fn is_needed(event: &Event) -> bool
+    ensures { IsNeeded event.now → result ≡ true }
+{
+    match event {
+        Event::Start { .. } | Event::Drop { .. } => true,
+        Event::Stop { .. }
+        | Event::Frame { .. }
+        | Event::Line { .. }
+        | Event::Tick { .. }
+        | Event::Away { .. }
+        | Event::Connect { .. } => false,
+    }
+}
+
+/// Whether a call that was answered by this fault took the node down.
+fn takes_down(fault: NodeFault) -> bool
+    ensures { TakesDown (Err fault) → result ≡ true }
+{
+    match fault {
+        NodeFault::Store(_) | NodeFault::Conflict => true,
+        NodeFault::Down
+        | NodeFault::OutOfMemory
+        | NodeFault::Spent
+        | NodeFault::BadFrame(_)
+        | NodeFault::NothingToAct => false,
+    }
+}
+
+/// The fault that ends the process where this event was answered so: a call took the node down, or its start, or the end of a
+/// seat, was refused.
+fn ending_fault(event: &Event, answer: Result<(), NodeFault>) -> Option<NodeFault>
+    ensures answered { IfSome result (λ fault. answer ≡ Err fault) }
+    ensures ends { EndsBy event.now (Some answer) → IsSome result }
+{
+    match answer {
+        Ok(()) => None,
+        Err(fault) => {
+            if is_needed(event) || takes_down(fault) {
+                Some(fault)
+            } else {
+                None
+            }
+        }
+    }
+}
+
 impl<D: Disk + Drop> LocalNode<D> {
     ghost use Rattle.stations.specs.Looking.{look_of};
 
     /// A station whose node made nothing yet.
     pub fn new(alloc: Global, station: Station<D>) -> LocalNode<D>
-        ensures { result.station ≡ station }
+        ensures station { result.station ≡ station }
+        ensures fault { result.fault ≡ None }
+        ensures started { result.is_started ≡ false }
     {
         LocalNode {
             station,
             made: Out::new(alloc),
             is_started: false,
+            fault: None,
+            terms: Terms {
+                nodes: 0,
+                patience: None,
+            },
         }
+    }
+
+    /// The same by these terms of its match.
+    pub(crate) fn under(self, terms: Terms) -> LocalNode<D>
+        ensures { result ≡ record self { terms = terms } }
+    {
+        let mut member = self;
+        member.terms = terms;
+        member
+    }
+
+    /// By what terms its match is played.
+    pub(crate) fn terms(&self) -> Terms
+        ensures { result ≡ self.now.terms }
+    {
+        self.terms
     }
 
     /// Gives an event to the node; none that isn't its own. What it made stands in `made` until the next one. Nobody calls it
     /// but `Desk::step`, below.
     fn step(&mut self, event: &Event) -> Option<Result<(), NodeFault>>
         requires { MayBeGiven self.old.is_started event.now }
-        ensures started { self.old.is_started ≡ true → self.new.is_started ≡ true }
+        ensures started { self.new.is_started ≡ started_after event.now result self.old.is_started }
+        ensures fault { IsFaultAfter self.old.fault result self.new.fault }
+        ensures ends { EndsBy event.now result → IsSome self.new.fault }
+        ensures terms { self.new.terms ≡ self.old.terms }
         ensures acts { IfSome result (λ answer. Acts D.Disk event.now self.new.made answer (look_of self.old.station) (look_of self.new.station)) }
         ensures none { IsNone result → self.new.station ≡ self.old.station }
         ensures unmade { IsNone result → self.new.made ≡ nothing_told }
     {
         self.made.clear();
-        self.is_started = self.is_started || matches!(event, Event::Start { .. });
         let nodes = self.station.config().nodes();
         let players = self.station.config().game().players();
         if event.node() != self.station.number() || !event.is_for(nodes, players) {
             return None;
         }
-        Some(self.station.step(event, &mut self.made))
+        self.is_started = is_started_by(event, self.is_started);
+        let answer = self.station.step(event, &mut self.made);
+        self.note_fault(event, answer);
+        Some(answer)
+    }
+
+    /// An event was answered so: a fault that ends the process is noted, unless one was before.
+    fn note_fault(&mut self, event: &Event, answer: Result<(), NodeFault>)
+        ensures same { self.new ≡ record self.old { fault = self.new.fault } }
+        ensures fault { IsFaultAfter self.old.fault (Some answer) self.new.fault }
+        ensures ends { EndsBy event.now (Some answer) → IsSome self.new.fault }
+    {
+        if self.fault.is_none() {
+            self.fault = ending_fault(event, answer);
+        }
+    }
+
+    /// The fault that ends its process, once there is one.
+    pub(crate) fn ending_fault(&self) -> Option<NodeFault>
+        ensures { result ≡ self.now.fault }
+    {
+        self.fault
     }
 
     /// Whether it was started.
@@ -147,7 +265,8 @@ impl<D: Disk + Drop, W: Wire + Drop> Desk<D, W> {
     /// on. A bot of which something is lost is let go of. Nobody calls it but `NodeServer::step`, below.
     fn step(&mut self, event: &Event) -> Option<Result<(), NodeFault>>
         requires { MayBeGiven self.old.member.is_started event.now }
-        ensures { Does D.Disk (taken_for event.now) (served_by W.Wire self.old) (served_by W.Wire self.new) }
+        ensures goes { Does D.Disk (taken_for event.now) (served_by W.Wire self.old) (served_by W.Wire self.new) }
+        ensures calls { Calls event.now result self.old.member self.new.member }
     {
         if !self.sittings.admits(event, self.member.node().running()) {
             self.refuse(event);
@@ -174,11 +293,11 @@ impl<D: Disk + Drop, W: Wire + Drop> NodeServer<D, W> {
 
     /// Gives an event to the node: none that isn't its own, nothing of a seat whose bot isn't here, and a tick, or an order that
     /// a seat is played for, only where that is due by what the process knows. What it made is handed on. A bot of which
-    /// something is lost is let go of. It answers the moment before too.
+    /// something is lost is let go of. Nothing else is given to the node. It answers the moment before too.
     pub(crate) fn step(&mut self, event: &Event) -> (Option<Result<(), NodeFault>>, u64)
         requires { MayCall self.old event.now }
         ensures goes { Does D.Disk (taken_for event.now) (served_of self.old) (served_of self.new) }
-        ensures outcome { self.new.outcome ≡ self.old.outcome }
+        ensures calls { Calls event.now result.0 self.old.desk.member self.new.desk.member }
     {
         self.note_given(event);
         let before = self.desk.now();

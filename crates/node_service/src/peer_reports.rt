@@ -4,6 +4,7 @@ ghost use Rattle.std.specs.Prelude.{◌≡◌, ◌≤◌, List, [], length, min,
 ghost use Rattle.clockwork.specs.PeerReports.{report_after};
 ghost use Rattle.clockwork.specs.declared.limits.TheConstants.{MOST_PEERS};
 ghost use Rattle.node_service.specs.Knowing.{link_by};
+ghost use Rattle.node_service.specs.Meaning.{tells_over};
 
 use crate::limits::NODES;
 use clockwork::limits::MOST_PEERS;
@@ -128,7 +129,9 @@ impl PeerReports {
     }
 
     /// Whether a peer has told that the match is over there.
-    pub(crate) fn is_over(&self, peer: u8) -> bool {
+    pub(crate) fn is_over(&self, peer: u8) -> bool
+        ensures { result ≡ tells_over (slice_get self.now.all peer) }
+    {
         match self.all.get(peer as usize) {
             Some(report) => report.is_over,
             None => false,
@@ -145,9 +148,9 @@ impl PeerReports {
         }
     }
 
-    /// A peer as `clockwork` sees it, which owes an answer from before its connection opened or doesn't.
-    pub(crate) fn peer(&self, number: u8, view: &View, is_owed: bool) -> Peer
-        ensures { result ≡ peer_by self.now number view.now is_owed }
+    /// A peer as `clockwork` sees it at this moment, which owes an answer from before its connection opened or doesn't.
+    pub(crate) fn peer(&self, number: u8, view: &View, is_owed: bool, now: u64) -> Peer
+        ensures { result ≡ peer_by self.now number view.now is_owed now }
     {
         let beat = match self.all.get(number as usize) {
             Some(report) => report.beat,
@@ -156,6 +159,7 @@ impl PeerReports {
         Peer {
             number,
             accepted: view.accepted,
+            longest: view.measured.lately(now),
             link: link_of(view, beat, is_owed),
         }
     }
@@ -171,7 +175,6 @@ fn link_of(view: &View, beat: Option<PeerReport>, is_owed: bool) -> Link
     Link::Open(OpenLink {
         opened: view.since,
         heard: view.heard,
-        round_trip: view.round_trip,
         unanswered: is_owed,
         beat,
     })
@@ -196,6 +199,7 @@ impl Others {
             all: [Peer {
                 number: 0,
                 accepted: None,
+                longest: 0,
                 link: Link::Closed { since: 0 },
             }; MOST_PEERS],
             count: 0,

@@ -1,18 +1,19 @@
 //! The turns of a node's process.
 
-ghost use Rattle.std.specs.Prelude.{◌≡◌, ◌⊎◌, ◌≤◌, ◌∷◌, [], true, false, Some, Err, IfSome, IsNone};
+ghost use Rattle.std.specs.Prelude.{◌≡◌, ◌≤◌, ◌∷◌, [], true, false, None, IfSome, IsNone};
 ghost use Rattle.dealer_node.specs.Seeing.{runs};
-ghost use Rattle.dealer_node.specs.Taking.{TakesDown};
+ghost use Rattle.clockwork.specs.declared.limits.TheConstants.{MOST_SILENT as MOST};
 ghost use Rattle.node_links.specs.declared.limits.TheConstants.{LOOK};
 ghost use Rattle.node_service.specs.Arriving.{taken_for};
 ghost use Rattle.node_peers.specs.Peering.{own_of, passed_of, frames_of, heard_of};
 ghost use Rattle.node_seats.specs.Telling.{lines_of};
 ghost use Rattle.node_service.specs.Crossing.{IsCarried, Carries};
 ghost use Rattle.node_service.specs.Company.{IsShown};
-ghost use Rattle.node_service.specs.Ending.{is_well, IsOverAt};
-ghost use Rattle.node_service.specs.Logging.{HasOneLog, IsAcceptedOver};
+ghost use Rattle.node_service.specs.Called.{Calls};
+ghost use Rattle.node_service.specs.Ending.{is_well, IsFault, IsOverAt};
+ghost use Rattle.node_service.specs.Logging.{IsFresh, IsBegun, HasOneLog, IsAcceptedOver};
 ghost use Rattle.node_service.specs.Fitting.{Fits};
-ghost use Rattle.node_service.specs.declared.outcome.Outcome.TheVariants.{GoesOn as Further, Over as IsOver, Failed};
+ghost use Rattle.node_service.specs.declared.outcome.Outcome.TheVariants.{GoesOn as Further, Over as IsOver};
 
 use crate::company::Company;
 use crate::deals::read_deals;
@@ -26,6 +27,7 @@ use crate::peer_reports::PeerReports;
 use crate::rate::Rate;
 use crate::server_notice::ServerNotice;
 use crate::sitting::Sittings;
+use crate::terms::Terms;
 use crate::turn_timer::TurnTimer;
 use crate::wrong_tokens::WrongTokens;
 use clockwork::Watch;
@@ -43,15 +45,6 @@ use slot_log::laws::{fronts_go_on, hands_come_of_commands};
 use stations::Station;
 use std::alloc::Global;
 
-/// What a process is told of its match beside its node.
-#[derive(Clone, Copy, Debug)]
-pub struct Terms {
-    /// How many nodes the match has.
-    pub nodes: u8,
-    /// How long a seat may hold the table, in whole microseconds, until it is played for; without it nobody is.
-    pub patience: Option<u64>,
-}
-
 /// The process of a node: its station, its wires, and what it knows of its peers.
 ///
 /// It changes its node by `Station::step` alone, so what is promised of stations holds of this one, whatever the wires give.
@@ -63,13 +56,12 @@ pub struct NodeServer<D: Disk + Drop, W: Wire + Drop> {
     pub(crate) turn_timer: TurnTimer,
     pub(crate) rate: Rate,
     /// How long a peer may be silent and still counts as present.
-    pub(crate) pace: u64,
+    pub(crate) silence: u64,
     /// When it was last looked at what is due; and by what was known then: whether the node learns what was chosen before, and
     /// how many present nodes have a lower number.
     pub(crate) looked: u64,
     pub(crate) replays: bool,
     pub(crate) rank: usize,
-    pub(crate) nodes: u8,
     /// When the process began, and when it last left a turn.
     pub(crate) began: u64,
     pub(crate) left: u64,
@@ -77,9 +69,11 @@ pub struct NodeServer<D: Disk + Drop, W: Wire + Drop> {
     pub(crate) leader: Option<Ballot>,
     pub(crate) is_started: bool,
     pub(crate) wrong_tokens: WrongTokens,
-    /// What ends the process, once something does.
-    pub(crate) outcome: Outcome,
-    ghost within: { nodes ≤ 7 },
+    /// The peers are those of another node: nothing is done.
+    is_foreign: bool,
+    /// The match was over here, and each peer knew or was gone: the process ends well.
+    is_over: bool,
+    ghost within: { silence ≤ MOST },
 }
 
 /// By hand, so that letting one go is one call for whoever owns it (docs/ARCHITECTURE.md, Habits).
@@ -92,53 +86,27 @@ impl<D: Disk + Drop, W: Wire + Drop> Drop for NodeServer<D, W> {
             lasting: _,
             turn_timer: _,
             rate: _,
-            pace: _,
+            silence: _,
             looked: _,
             replays: _,
             rank: _,
-            nodes: _,
             began: _,
             left: _,
             leader: _,
             is_started: _,
             wrong_tokens: _,
-            outcome: _,
+            is_foreign: _,
+            is_over: _,
         } = self;
-    }
-}
-
-/// What is left to do behind a call that was answered so, where that was left before it; the log can't be written, or it can.
-fn outcome_after(
-    outcome: Outcome,
-    answer: Option<Result<(), NodeFault>>,
-    log_failed: bool,
-) -> Outcome
-    ensures log { log_failed ≡ true → is_well result ≡ false }
-    ensures ended { is_well outcome ≡ false → result ≡ outcome }
-    ensures well { is_well result ≡ true → result ≡ outcome }
-    ensures failed { (fault : NodeFault) → result ≡ Failed fault → (outcome ≡ Failed fault) ⊎ (answer ≡ Some (Err fault)) }
-    ensures down { IfSome answer (λ answer. TakesDown answer → is_well result ≡ false) }
-{
-    match outcome {
-        Outcome::GoesOn | Outcome::Over => match answer {
-            Some(Err(NodeFault::Store(fault))) => Outcome::Failed(NodeFault::Store(fault)),
-            Some(Err(NodeFault::Conflict)) => Outcome::Failed(NodeFault::Conflict),
-            _ => {
-                if log_failed {
-                    Outcome::LogFailed
-                } else {
-                    outcome
-                }
-            }
-        },
-        _ => outcome,
     }
 }
 
 impl<D: Disk + Drop, W: Wire + Drop> NodeServer<D, W> {
     ghost use Rattle.node_service.specs.Desks.{IsKept};
-    ghost use Rattle.node_service.specs.Going.{GoesOn, GoesOnToLife, Does};
-    ghost use Rattle.node_service.specs.Serving.{served_of, told_in, station_of, outcome_in, look_in};
+    ghost use Rattle.node_service.specs.Going.{GoesOn, GoesOnWith, GoesOnToLife, Does};
+    ghost use Rattle.node_service.specs.Turns.{IsTurn};
+    ghost use Rattle.node_service.specs.Serving.{served_of, told_in, station_of, outcome_in, ending_in, fault_in, look_in, nodes_of};
+    ghost use Rattle.node_service.specs.Meaning.{IsMeant, IsKnownEverywhere};
     ghost use Rattle.node_service.specs.Knowing.{MayCall};
 
     /// The process of this member, by these terms. Nothing is done yet. Where the peers are those of another node nothing ever
@@ -153,6 +121,7 @@ impl<D: Disk + Drop, W: Wire + Drop> NodeServer<D, W> {
         terms: Terms,
     ) -> NodeServer<D, W>
         ensures station { station_of result ≡ member.station }
+        ensures terms { (served_of result).terms ≡ terms }
         ensures passed { (served_of result).passed ≡ W.passed wire }
         ensures log { (served_of result).log_failed ≡ false }
         ensures told { told_in result ≡ [] }
@@ -163,19 +132,17 @@ impl<D: Disk + Drop, W: Wire + Drop> NodeServer<D, W> {
         ensures heard { (served_of result).heard ≡ heard_of peers }
         ensures carried { IsCarried (W.passed wire) (passed_of peers) (lines_of seats) seats.seats.items askers.askers.items → Carries (served_of result) }
         ensures peers { outcome_in result ≡ Further → (own_of peers).number ≡ (look_in result).number }
+        ensures further { (own_of peers).number ≡ (look_in result).number → member.fault ≡ None → outcome_in result ≡ Further }
+        ensures started { (served_of result).started ≡ member.is_started }
         ensures fits { (look_in result).deeds ≡ [] → Fits (served_of result) }
     {
         let now = wire.now();
         let seen = seen_of(&member);
-        let outcome = if peers.number() == member.number() {
-            Outcome::GoesOn
-        } else {
-            Outcome::Failed(NodeFault::Down)
-        };
+        let is_foreign = peers.number() != member.number();
         let company = Company::new(alloc, peers);
         NodeServer {
             desk: Desk {
-                member,
+                member: member.under(terms),
                 wire,
                 company,
                 seats,
@@ -186,19 +153,19 @@ impl<D: Disk + Drop, W: Wire + Drop> NodeServer<D, W> {
             watch: Watch::new(seen, now),
             reports: PeerReports::new(),
             lasting: Lasting::new(now),
-            turn_timer: TurnTimer::new(terms.patience, now),
+            turn_timer: TurnTimer::new(now),
             rate: Rate::new(seen.front, now),
-            pace: SHORTEST,
+            silence: SHORTEST,
             looked: now,
             replays: false,
             rank: 0,
-            nodes: terms.nodes.min(NODES as u8),
             began: now,
             left: now,
             leader: None,
             is_started: false,
             wrong_tokens: WrongTokens::new(),
-            outcome,
+            is_foreign,
+            is_over: false,
         }
     }
 
@@ -209,9 +176,9 @@ impl<D: Disk + Drop, W: Wire + Drop> NodeServer<D, W> {
         self.desk.member.station()
     }
 
-    /// What holds of the log of every server: where its node was started once, by a start that went well, over an honest disk
-    /// that the node's earlier processes left, what it showed to the log is the dealer's log after the commands that it has
-    /// applied, whatever its peers sent.
+    /// What holds of the log of every server: where the node was started once, by a start that went well, over an honest disk
+    /// that its earlier processes left, what it showed to the log is the dealer's log after the commands that it has applied,
+    /// whatever its peers sent.
     pub fn limits(&self)
         ensures { HasOneLog D.Disk (look_in self.now) }
     {
@@ -223,8 +190,8 @@ impl<D: Disk + Drop, W: Wire + Drop> NodeServer<D, W> {
         station.config().limits();
     }
 
-    /// What holds of that log once the match is over here: it is one that `match_log::check` accepts. It reads the deal of each
-    /// hand.
+    /// What holds of the log once the match is over here: it is one that `match_log::check` accepts, whatever the peers sent.
+    /// It reads the deal of each hand.
     pub fn read_deals(&self)
         ensures { IsAcceptedOver D.Disk (look_in self.now) }
     {
@@ -238,11 +205,25 @@ impl<D: Disk + Drop, W: Wire + Drop> NodeServer<D, W> {
         read_deals(table);
     }
 
+    /// How many nodes the match has, as many as there may be at most.
+    pub(crate) fn nodes(&self) -> u8
+        ensures { result ≡ nodes_of self.now }
+    {
+        self.desk.member.terms().nodes.min(NODES as u8)
+    }
+
     /// The wires of the process.
     pub fn wire(&self) -> &W
         ensures { W.passed result.now ≡ (served_of self.now).passed }
     {
         &self.desk.wire
+    }
+
+    /// When the process last left a turn, in microseconds of its wires' clock; before the first turn, when it began.
+    pub fn left(&self) -> u64
+        ensures { result ≡ self.now.left }
+    {
+        self.left
     }
 
     /// The wires, for whoever brings what comes over them. What is said of a turn is said of that turn alone.
@@ -256,6 +237,7 @@ impl<D: Disk + Drop, W: Wire + Drop> NodeServer<D, W> {
         ensures next { IfSome result (λ told. told_in self.old ≡ told ∷ told_in self.new) }
         ensures none { IsNone result → told_in self.old ≡ [] }
         ensures same { served_of self.new ≡ served_of self.old }
+        ensures outcome { outcome_in self.new ≡ outcome_in self.old }
         ensures shown { IfSome result (λ told. IsShown (served_of self.old).own (served_of self.old).lines told) }
     {
         self.desk.company.notice()
@@ -269,41 +251,68 @@ impl<D: Disk + Drop, W: Wire + Drop> NodeServer<D, W> {
         let _ = self.desk.company.tell(told);
     }
 
-    /// What is left to do: nothing is well while the node is down, and it isn't over before the match is over there.
-    pub(crate) fn outcome(&self) -> Outcome
+    /// What ends the process, by what was noted of its peers, its node and its log; the next turn is left to do else.
+    pub(crate) fn ending(&self) -> Outcome
+        ensures { result ≡ ending_in self.now }
+    {
+        let company = &self.desk.company;
+        if self.is_foreign {
+            return Outcome::Failed(NodeFault::Down);
+        }
+        if company.is_replaced() {
+            return Outcome::StoreReplaced;
+        }
+        if company.is_life_lost() {
+            return Outcome::Failed(NodeFault::OutOfMemory);
+        }
+        match self.desk.member.ending_fault() {
+            Some(fault) => Outcome::Failed(fault),
+            None if self.desk.log_failed => Outcome::LogFailed,
+            None => Outcome::GoesOn,
+        }
+    }
+
+    /// What is left to do, as it stands.
+    fn kept(&self) -> Outcome
+        ensures { result ≡ outcome_in self.now }
+    {
+        match self.ending() {
+            Outcome::GoesOn if self.is_over => Outcome::Over,
+            ending => ending,
+        }
+    }
+
+    /// What is left to do, where the match is over here and known everywhere, or isn't: nothing is well while the node is down.
+    #[tactic(auto, using(crate::proofs::Meaning::ending_is_meant))]
+    fn left_to_do(&self, is_over: bool) -> Outcome
+        ensures log { is_well result ≡ true → self.now.desk.log_failed ≡ false }
+        ensures runs { is_well result ≡ true → runs (look_in self.now).node ≡ true }
+        ensures answered { is_well result ≡ true → fault_in self.now ≡ None }
+        ensures over { result ≡ IsOver → is_over ≡ true }
+        ensures behind { result ≡ IsOver → ending_in self.now ≡ Further }
+        ensures further { result ≡ Further → (ending_in self.now ≡ Further) × (is_over ≡ false) }
+        ensures fault { IsFault result → IsMeant self.now result }
+    {
+        let runs = self.desk.member.node().running();
+        match self.ending() {
+            Outcome::GoesOn if !runs => Outcome::Failed(NodeFault::Down),
+            Outcome::GoesOn if is_over => Outcome::Over,
+            ending => ending,
+        }
+    }
+
+    /// What is left to do of a process that may have ended: it isn't over before the match is over there.
+    fn outcome(&self) -> Outcome
         ensures same { is_well result ≡ true → result ≡ outcome_in self.now }
         ensures log { is_well result ≡ true → self.now.desk.log_failed ≡ false }
         ensures runs { is_well result ≡ true → runs (look_in self.now).node ≡ true }
         ensures over { result ≡ IsOver → IsOverAt D.Disk (look_in self.now).node }
+        ensures fault { outcome_in self.now ≡ Further → IsFault result → IsMeant self.now result }
     {
-        let outcome = outcome_after(self.outcome, None, self.desk.log_failed);
-        let runs = self.desk.member.node().running();
-        match outcome {
-            Outcome::GoesOn if !runs => Outcome::Failed(NodeFault::Down),
-            Outcome::Over if !runs || !self.desk.member.is_over() => {
-                Outcome::Failed(NodeFault::Down)
-            }
-            outcome => outcome,
+        if self.is_over && !self.desk.member.is_over() {
+            return Outcome::Failed(NodeFault::Down);
         }
-    }
-
-    /// This ends the process, unless something did before.
-    pub(crate) fn end(&mut self, outcome: Outcome)
-        ensures { self.new.desk ≡ self.old.desk }
-    {
-        if matches!(self.outcome, Outcome::GoesOn) {
-            self.outcome = outcome;
-        }
-    }
-
-    /// A call that was answered with a fault ends the process.
-    fn end_by(&mut self, answer: Option<Result<(), NodeFault>>)
-        ensures { self.new.desk ≡ self.old.desk }
-    {
-        match answer {
-            Some(Err(fault)) => self.end(Outcome::Failed(fault)),
-            _ => (),
-        }
+        self.left_to_do(self.is_over)
     }
 
     /// Starts the node, unless the process is to end, or it was started before.
@@ -312,19 +321,23 @@ impl<D: Disk + Drop, W: Wire + Drop> NodeServer<D, W> {
         ensures log { is_well result ≡ true → (served_of self.new).log_failed ≡ false }
         ensures runs { is_well result ≡ true → runs (look_in self.new).node ≡ true }
         ensures over { result ≡ IsOver → IsOverAt D.Disk (look_in self.new).node }
+        ensures begun { IsFresh (look_in self.old) → IsBegun result (served_of self.new) }
+        ensures further { result ≡ Further → outcome_in self.new ≡ Further }
+        ensures known { outcome_in self.old ≡ Further → result ≡ IsOver → ⊥ }
+        ensures fault { outcome_in self.old ≡ Further → IsFault result → IsMeant self.new result }
         ensures ended { (outcome_in self.old ≡ Further → ⊥) → self.new ≡ self.old }
     {
-        if self.outcome != Outcome::GoesOn {
+        if self.kept() != Outcome::GoesOn {
             return self.outcome();
         }
         if self.desk.member.is_started() {
             return self.outcome();
         }
         let node = self.desk.member.number();
-        let answer = self.call(&Event::Start { node });
-        self.end_by(answer);
+        let _ = self.call(&Event::Start { node });
         self.is_started = true;
-        self.outcome()
+        self.is_over = false;
+        self.left_to_do(false)
     }
 
     /// One call of the node: what it made is handed on, and written as far as there is room. It ticks, and is ordered that a
@@ -332,16 +345,13 @@ impl<D: Disk + Drop, W: Wire + Drop> NodeServer<D, W> {
     pub(crate) fn call(&mut self, event: &Event) -> Option<Result<(), NodeFault>>
         requires { MayCall self.old event.now }
         ensures goes { Does D.Disk (taken_for event.now) (served_of self.old) (served_of self.new) }
-        ensures failed { (fault : NodeFault) → outcome_in self.new ≡ Failed fault → (outcome_in self.old ≡ Failed fault) ⊎ (result ≡ Some (Err fault)) }
-        ensures down { IfSome result (λ answer. TakesDown answer → is_well (outcome_in self.new) ≡ false) }
+        ensures calls { Calls event.now result self.old.desk.member self.new.desk.member }
     {
-        let outcome = self.outcome;
         let (answer, before) = self.step(event);
         let now = self.desk.now();
         self.note_faults(answer.is_some());
         self.note_seen(before, now);
         self.speak(now);
-        self.outcome = outcome_after(outcome, answer, self.desk.log_failed);
         answer
     }
 
@@ -356,11 +366,12 @@ impl<D: Disk + Drop, W: Wire + Drop> NodeServer<D, W> {
         now
     }
 
-    /// How long the next turn may wait, where that is how long it is until a tick may be due.
-    pub(crate) fn rest(&self, until_due: u64, now: u64) -> u64
+    /// How long the next turn may wait, where that is how long it is until a tick may be due. Not at all where something is
+    /// left.
+    pub(crate) fn rest(&self, is_all: bool, until_due: u64, now: u64) -> u64
         ensures { result ≤ LOOK }
     {
-        if self.desk.sittings.first_let_go().is_some() {
+        if !is_all || self.desk.sittings.first_let_go().is_some() {
             return 0;
         }
         until_due
@@ -372,7 +383,7 @@ impl<D: Disk + Drop, W: Wire + Drop> NodeServer<D, W> {
     pub(crate) fn part(&mut self)
         ensures { IsKept W.Wire self.old.desk self.new.desk }
     {
-        if self.outcome == Outcome::StoreReplaced {
+        if self.desk.company.is_replaced() {
             let now = self.desk.now();
             self.speak(now);
         }
@@ -380,12 +391,18 @@ impl<D: Disk + Drop, W: Wire + Drop> NodeServer<D, W> {
 
     /// One turn: waits for so many microseconds at most, takes what came, and does what is due. It answers what is left to
     /// do, and how long the next turn may wait. Once the process is to end nothing is done.
+    ///
+    /// What peers told is taken first, and then of each seat one piece of 512 bytes at most.
     pub fn turn(&mut self, alloc: Global, most: u64) -> (Outcome, u64)
         ensures goes { GoesOn D.Disk [] (served_of self.old) (served_of self.new) }
         ensures lives { GoesOnToLife D.Disk (served_of self.old) (served_of self.new) }
+        ensures takes { GoesOnWith D.Disk IsTurn (served_of self.old) (served_of self.new) }
         ensures log { is_well result.0 ≡ true → (served_of self.new).log_failed ≡ false }
         ensures runs { is_well result.0 ≡ true → runs (look_in self.new).node ≡ true }
         ensures over { result.0 ≡ IsOver → IsOverAt D.Disk (look_in self.new).node }
+        ensures known { outcome_in self.old ≡ Further → result.0 ≡ IsOver → IsKnownEverywhere self.new self.new.left }
+        ensures further { result.0 ≡ Further → outcome_in self.new ≡ Further }
+        ensures fault { outcome_in self.old ≡ Further → IsFault result.0 → IsMeant self.new result.0 }
         ensures wait { result.1 ≤ LOOK }
         ensures ended { (outcome_in self.old ≡ Further → ⊥) → self.new ≡ self.old }
     {
@@ -393,24 +410,37 @@ impl<D: Disk + Drop, W: Wire + Drop> NodeServer<D, W> {
         if outcome != Outcome::GoesOn {
             return (outcome, 0);
         }
+        let (is_over, rest) = self.take_turn(alloc, most);
+        self.is_over = is_over;
+        (self.left_to_do(is_over), rest)
+    }
+
+    /// One turn of a process that goes on. It answers whether the match is over here and known everywhere, and how long the
+    /// next turn may wait.
+    fn take_turn(&mut self, alloc: Global, most: u64) -> (bool, u64)
+        ensures takes { GoesOnWith D.Disk IsTurn (served_of self.old) (served_of self.new) }
+        ensures over { result.0 ≡ true → IsOverAt D.Disk (look_in self.new).node }
+        ensures known { result.0 ≡ true → IsKnownEverywhere self.new self.new.left }
+        ensures wait { result.1 ≤ LOOK }
+    {
         let begun = self.wait(most);
         self.desk.hear(begun);
         // What beats told is older than what the frames behind them say.
         self.look(begun);
         let is_all = self.take_all(alloc, begun);
         self.note_wrong_tokens(begun);
-        if self.outcome != Outcome::GoesOn {
+        if self.ending() != Outcome::GoesOn {
             self.part();
-            return (self.outcome(), 0);
+            return (false, 0);
         }
         let until_due = self.keep_time();
         let now = self.desk.now();
         self.note_waiting(now);
-        self.answer_askers(alloc, now);
-        self.finish(is_all, now);
+        let is_asked = self.answer_askers(alloc, now);
+        let over = self.finish(is_all, now);
         self.speak(now);
         self.left = now;
-        let rest = if is_all { self.rest(until_due, now) } else { 0 };
-        (self.outcome(), rest)
+        let is_over = self.is_done(over, now);
+        (is_over, self.rest(is_all & !is_asked, until_due, now))
     }
 }

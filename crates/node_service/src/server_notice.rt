@@ -29,6 +29,11 @@ pub enum ServerNotice {
         count: u32,
         fault: PeerFault,
     },
+    /// Dials of a peer have come to nothing for a minute: its address refuses, or nobody answers there. It is told once a minute.
+    Unreached {
+        peer: u8,
+        refuses: bool,
+    },
     /// A bot sits at a seat.
     Seated {
         seat: u8,

@@ -1,6 +1,7 @@
 //! How the node is, for whoever asks.
 
-ghost use Rattle.std.specs.Prelude.{◌≡◌, [], nat_lt, IfOk, Some};
+ghost use Rattle.std.specs.Prelude.{◌≡◌, [], map, nat_lt, IfOk, Some};
+ghost use Rattle.node_status.specs.declared.status.SeatStatus.{SeatStatus as OfSeat};
 
 use crate::limits::SEATS;
 use crate::server::NodeServer;
@@ -14,14 +15,14 @@ use std::alloc::{AllocError, Global};
 impl<D: Disk + Drop, W: Wire + Drop> NodeServer<D, W> {
     ghost use Rattle.node_service.specs.Asking.{IsStatusLine};
     ghost use Rattle.node_service.specs.Going.{Does};
-    ghost use Rattle.node_service.specs.Serving.{served_of, look_in};
+    ghost use Rattle.node_service.specs.Serving.{served_of, look_in, nodes_of};
     ghost use Rattle.node_service.specs.Knowing.{is_there, sits_here, sits_at_peer, sits_below};
 
     /// Whether a peer is there: its connection is open, and it wasn't silent for long.
     pub(crate) fn is_present(&self, view: &View, now: u64) -> bool
-        ensures { result ≡ is_there (Some view.now) now self.now.pace }
+        ensures { result ≡ is_there (Some view.now) now self.now.silence }
     {
-        view.is_open && is_heard(view.heard, now, self.pace)
+        view.is_open && is_heard(view.heard, now, self.silence)
     }
 
     /// Whether a bot sits here at a seat.
@@ -57,9 +58,9 @@ impl<D: Disk + Drop, W: Wire + Drop> NodeServer<D, W> {
 
     /// Whether one does at another node, as far as those that are there have told.
     pub(crate) fn sits_elsewhere(&self, seat: u8, now: u64) -> bool
-        ensures { result ≡ nat_lt 0 (sits_below self.now seat now self.now.nodes) }
+        ensures { result ≡ nat_lt 0 (sits_below self.now seat now (nodes_of self.now)) }
     {
-        self.sits_below(self.nodes, seat, now) > 0
+        self.sits_below(self.nodes(), seat, now) > 0
     }
 
     /// Whether a node where a bot sits at a seat comes before this one: another one does where none sits here, and where one
@@ -75,7 +76,7 @@ impl<D: Disk + Drop, W: Wire + Drop> NodeServer<D, W> {
     /// How the peers are.
     fn peer_statuses(&self, alloc: Global, now: u64) -> Result<Vec<PeerStatus>, AllocError> {
         let mut statuses = Vec::new(alloc);
-        for number in 0..self.nodes {
+        for number in 0..self.nodes() {
             if number == self.desk.member.number() {
                 continue;
             }
@@ -106,7 +107,10 @@ impl<D: Disk + Drop, W: Wire + Drop> NodeServer<D, W> {
     }
 
     /// How the seats are.
-    fn seat_statuses(&self, alloc: Global, now: u64) -> Result<Vec<SeatStatus>, AllocError> {
+    #[tactic(auto, using(crate::proofs::Asking::one_named))]
+    fn seat_statuses(&self, alloc: Global, now: u64) -> Result<Vec<SeatStatus>, AllocError>
+        ensures { IfOk result (λ seats. map (λ (seat : OfSeat). seat.name) seats.items ≡ (look_in self.now).config.setting.names) }
+    {
         let mut statuses = Vec::new(alloc);
         let mut seat = 0u8;
         for name in self.desk.member.station().config().names().as_slice() {
@@ -123,7 +127,7 @@ impl<D: Disk + Drop, W: Wire + Drop> NodeServer<D, W> {
     /// The line that says how the node is.
     #[tactic(auto, using(crate::proofs::Asking::is_status))]
     fn status_line(&self, alloc: Global, now: u64) -> Result<Vec<u8>, AllocError>
-        ensures { IfOk result (λ line. IsStatusLine (look_in self.now).number line.items) }
+        ensures { IfOk result (λ line. IsStatusLine (look_in self.now) line.items) }
     {
         let peers = self.peer_statuses(alloc, now)?;
         let seats = self.seat_statuses(alloc, now)?;
@@ -149,16 +153,18 @@ impl<D: Disk + Drop, W: Wire + Drop> NodeServer<D, W> {
         Ok(line)
     }
 
-    /// Gives the line to those who ask. Without memory for it they wait further.
-    pub(crate) fn answer_askers(&mut self, alloc: Global, now: u64)
+    /// Gives the line to those who ask. It says whether it did: without memory for it they wait further.
+    pub(crate) fn answer_askers(&mut self, alloc: Global, now: u64) -> bool
         ensures { Does D.Disk [] (served_of self.old) (served_of self.new) }
     {
         self.rate.see(self.watch.seen.front, now);
         if !self.desk.is_asked(now) {
-            return;
+            return false;
         }
         if let Ok(line) = self.status_line(alloc, now) {
             self.desk.answer(&line);
+            return true;
         }
+        false
     }
 }

@@ -5,17 +5,17 @@ ghost use Rattle.node_wires.specs.Passages.{Began, Came};
 ghost use Rattle.node_wires.specs.declared.line.Line.TheVariants.{Seat};
 ghost use Rattle.node_service.specs.Arriving.{OfSeat, OfPeer, incoming_of};
 ghost use Rattle.node_service.specs.Telling.{told_of};
+ghost use Rattle.node_service.specs.Company.{TellsLife};
 ghost use Rattle.node_peers.specs.Hearing.{IsTold};
 ghost use Rattle.node_peers.specs.Peering.{own_of, passed_of};
 ghost use Rattle.node_peers.specs.declared.notice.Notice.TheVariants.{Joined};
 
-use crate::limits::CALLS;
+use crate::limits::{CALLS, SEATS};
 use crate::outcome::Outcome;
 use crate::server::NodeServer;
 use crate::server_notice::ServerNotice;
-use dealer_node::NodeFault;
 use dealer_world::Event;
-use node_links::{PeerFault, Whose};
+use node_links::PeerFault;
 use node_peers::Notice;
 use node_seats::SeatNotice;
 use node_wires::Wire;
@@ -37,20 +37,32 @@ pub(crate) enum Taken {
 
 impl<D: Disk + Drop, W: Wire + Drop> NodeServer<D, W> {
     ghost use Rattle.node_service.specs.Desks.{IsKept};
-    ghost use Rattle.node_service.specs.Going.{Does, GoesOnToLife};
+    ghost use Rattle.node_service.specs.Going.{Does, GoesOnWith};
     ghost use Rattle.node_service.specs.Taking.{StopsAtLife, TakesNext};
+    ghost use Rattle.node_service.specs.Turns.{ComeOfPeers, ComeOfSeats, IsNextOf, IsTurn};
     ghost use Rattle.node_service.specs.Serving.{served_of};
 
-    /// Takes what came, one thing after another, until calls have taken their time. It says whether nothing is left.
+    /// Takes what came: first what peers told, and then of each seat one piece at most, so that none that sends without end
+    /// holds up the others. It says whether nothing is left.
     pub(crate) fn take_all(&mut self, alloc: Global, begun: u64) -> bool
-        ensures { GoesOnToLife D.Disk (served_of self.old) (served_of self.new) }
+        ensures { GoesOnWith D.Disk IsTurn (served_of self.old) (served_of self.new) }
+    {
+        if !self.take_all_of_peers(alloc, begun) {
+            return false;
+        }
+        self.take_all_of_seats()
+    }
+
+    /// Takes what peers told, one thing after another, until calls have taken their time. It says whether nothing is left.
+    fn take_all_of_peers(&mut self, alloc: Global, begun: u64) -> bool
+        ensures { GoesOnWith D.Disk ComeOfPeers (served_of self.old) (served_of self.new) }
     {
         for _ in 0..u64::MAX {
             let now = self.desk.now();
-            if self.outcome != Outcome::GoesOn || now.saturating_sub(begun) >= CALLS {
+            if self.ending() != Outcome::GoesOn || now.saturating_sub(begun) >= CALLS {
                 return false;
             }
-            match self.take_next(alloc, now) {
+            match self.take_next(alloc) {
                 Taken::One => (),
                 Taken::Nothing => return true,
                 Taken::Last => return false,
@@ -59,9 +71,8 @@ impl<D: Disk + Drop, W: Wire + Drop> NodeServer<D, W> {
         false
     }
 
-    /// Takes the next thing that came.
-    #[tactic(auto, using(crate::proofs::Going::without_life))]
-    pub(crate) fn take_next(&mut self, alloc: Global, now: u64) -> Taken
+    /// Takes the next thing that peers told.
+    fn take_next(&mut self, alloc: Global) -> Taken
         ensures { TakesNext D.Disk result (served_of self.old) (served_of self.new) }
     {
         if let Some(seat) = self.desk.sittings.first_let_go() {
@@ -70,20 +81,49 @@ impl<D: Disk + Drop, W: Wire + Drop> NodeServer<D, W> {
         }
         match self.desk.next_of_peers() {
             Some(notice) => self.take_notice(alloc, notice),
-            None => self.take_next_of_seats(now),
+            None => Taken::Nothing,
         }
     }
 
-    /// Takes the next thing that came of a seat.
-    fn take_next_of_seats(&mut self, now: u64) -> Taken
-        ensures { TakesNext D.Disk result (served_of self.old) (served_of self.new) }
+    /// Takes what came next of each seat, and of each guest. It says whether nothing is left.
+    fn take_all_of_seats(&mut self) -> bool
+        ensures { GoesOnWith D.Disk ComeOfSeats (served_of self.old) (served_of self.new) }
     {
-        match self.desk.next_of_seats(now) {
-            Some(notice) => {
-                self.take_seat_notice(notice);
-                Taken::One
+        let now = self.desk.now();
+        let mut is_all = true;
+        for at in 0..self.desk.seats.looks() {
+            if self.ending() != Outcome::GoesOn {
+                return false;
             }
-            None => Taken::Nothing,
+            is_all &= self.take_next_of_seat(at, now);
+        }
+        is_all
+    }
+
+    /// Takes what came next of a seat, or of a guest, by its number. It says whether nothing is left of it.
+    fn take_next_of_seat(&mut self, at: u8, now: u64) -> bool
+        ensures { GoesOnWith D.Disk (IsNextOf at) (served_of self.old) (served_of self.new) }
+    {
+        match self.desk.next_of_seats(at, now) {
+            Some(notice) => {
+                let has_more = notice.may_have_more();
+                self.take_seat_notice(notice);
+                self.leave_all();
+                !has_more
+            }
+            None => true,
+        }
+    }
+
+    /// The node is told of all bots that were let go of.
+    fn leave_all(&mut self)
+        ensures { Does D.Disk [] (served_of self.old) (served_of self.new) }
+    {
+        for _ in 0..SEATS {
+            match self.desk.sittings.first_let_go() {
+                Some(seat) => self.leave(seat),
+                None => return,
+            }
         }
     }
 
@@ -95,7 +135,7 @@ impl<D: Disk + Drop, W: Wire + Drop> NodeServer<D, W> {
     {
         match notice {
             Notice::Frame { from, frame } => {
-                self.take_frame(alloc, from, frame.bytes.as_slice());
+                self.take_frame(alloc, from, frame.as_slice());
                 Taken::One
             }
             Notice::Joined { peer, life } => self.take_joined(peer, life),
@@ -115,26 +155,26 @@ impl<D: Disk + Drop, W: Wire + Drop> NodeServer<D, W> {
                 self.tell(ServerNotice::Callers { count, fault });
                 Taken::One
             }
+            Notice::Unreached { peer, refuses } => {
+                self.tell(ServerNotice::Unreached { peer, refuses });
+                Taken::One
+            }
         }
     }
 
     /// A connection to a peer is open. A life that is to be kept is told before frames of its node are taken; where there is
     /// no memory to tell it that ends the process, since nobody would keep it.
-    #[tactic(auto, using(crate::proofs::Telling::stops_there, crate::proofs::Telling::stops_nowhere))]
+    #[tactic(auto, using(crate::proofs::Telling::stops_there, crate::proofs::Telling::stops_nowhere, crate::proofs::Telling::life_told))]
     pub(crate) fn take_joined(&mut self, peer: u8, life: Option<Life>) -> Taken
         requires { IsTold (own_of self.old.desk.company.peers) (passed_of self.old.desk.company.peers) (Joined peer life) }
         ensures kept { IsKept W.Wire self.old.desk self.new.desk }
         ensures stops { StopsAtLife result (told_of (Joined peer life)) }
+        ensures told { TellsLife peer life self.old.desk.company.told.items self.new.desk.company.told.items self.new.desk.company.is_life_lost }
     {
-        let is_told = self.desk.company.tell(ServerNotice::Joined { peer, life });
+        let _ = self.desk.company.tell(ServerNotice::Joined { peer, life });
         match life {
             None => Taken::One,
-            Some(_) => {
-                if !is_told {
-                    self.end(Outcome::Failed(NodeFault::OutOfMemory));
-                }
-                Taken::Last
-            }
+            Some(_) => Taken::Last,
         }
     }
 
@@ -143,9 +183,6 @@ impl<D: Disk + Drop, W: Wire + Drop> NodeServer<D, W> {
     pub(crate) fn note_refused(&mut self, peer: u8, fault: PeerFault, source: Option<IpAddr>)
         ensures { IsKept W.Wire self.old.desk self.new.desk }
     {
-        if fault == PeerFault::StoreReplaced(Whose::Own) {
-            self.end(Outcome::StoreReplaced);
-        }
         self.tell(ServerNotice::Refused {
             peer,
             fault,
@@ -207,10 +244,8 @@ impl<D: Disk + Drop, W: Wire + Drop> NodeServer<D, W> {
         ensures { Does D.Disk [] (served_of self.old) (served_of self.new) }
     {
         let node = self.desk.member.number();
-        match self.call(&Event::Drop { node, seat }) {
-            Some(Ok(())) => self.tell(ServerNotice::Left { seat }),
-            Some(Err(fault)) => self.end(Outcome::Failed(fault)),
-            None => self.end(Outcome::Failed(NodeFault::Down)),
+        if let Some(Ok(())) = self.call(&Event::Drop { node, seat }) {
+            self.tell(ServerNotice::Left { seat });
         }
     }
 }

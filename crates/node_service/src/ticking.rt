@@ -13,7 +13,8 @@ use crate::server::NodeServer;
 use crate::server_notice::ServerNotice;
 use clockwork::limits::{LATEST, LOOK, MOST_PEERS};
 use clockwork::{
-    Awaited, Due, Peer, Watch, away_due, due, has_work, is_behind, is_quorate, pace, rank, replays,
+    Awaited, Due, Peer, Watch, away_due, due, has_work, is_behind, is_quorate, most_silence, rank,
+    replays,
 };
 use dealer_world::Event;
 use node_peers::{Peers, View};
@@ -73,7 +74,8 @@ impl<D: Disk + Drop, W: Wire + Drop> NodeServer<D, W> {
             return None;
         }
         let view = self.desk.company.peers.view(number)?;
-        Some(self.reports.peer(number, &view, self.is_owed(&view)))
+        let is_owed = self.is_owed(&view);
+        Some(self.reports.peer(number, &view, is_owed, self.moment()))
     }
 
     /// All other nodes.
@@ -82,7 +84,7 @@ impl<D: Disk + Drop, W: Wire + Drop> NodeServer<D, W> {
         ensures { listed result ≡ others_of self.now }
     {
         let mut others = Others::new();
-        for number in 0..self.nodes {
+        for number in 0..self.nodes() {
             others.push(self.other(number));
         }
         others
@@ -117,10 +119,10 @@ impl<D: Disk + Drop, W: Wire + Drop> NodeServer<D, W> {
             .watch
             .known(self.desk.member.number(), others.as_slice(), now);
         let (work, behind, quorate) = (has_work(&known), is_behind(&known), is_quorate(&known));
-        self.pace = pace(&known);
+        self.silence = most_silence(&known);
         self.replays = replays(&known);
         self.rank = rank(&known);
-        self.desk.set_silence(self.pace);
+        self.desk.set_silence(self.silence);
         self.watch.stand(work, behind, now);
         self.note_quorum(quorate, now);
     }
@@ -189,10 +191,10 @@ impl<D: Disk + Drop, W: Wire + Drop> NodeServer<D, W> {
         ensures rank { IfSome result (λ found. found.1.rank ≤ MOST) }
         ensures is { IfSome result (λ found. IsAwaited self.now found.0 found.1) }
     {
-        if self.outcome != Outcome::GoesOn {
+        if self.ending() != Outcome::GoesOn {
             return None;
         }
-        let patience = self.turn_timer.most?;
+        let patience = self.desk.member.terms().patience?;
         let seat = seat_to_act(self.desk.member.node().table())?;
         Some((seat, self.awaited_at(seat, patience)))
     }
@@ -236,8 +238,7 @@ impl<D: Disk + Drop, W: Wire + Drop> NodeServer<D, W> {
 
     /// The node is given this: a tick and an order that a seat is played for are of the moment at which they were due.
     pub(crate) fn note_given(&mut self, event: &Event)
-        ensures desk { self.new.desk ≡ self.old.desk }
-        ensures outcome { self.new.outcome ≡ self.old.outcome }
+        ensures { self.new.desk ≡ self.old.desk }
     {
         let moment = self.moment();
         match event {

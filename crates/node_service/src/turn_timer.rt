@@ -28,8 +28,6 @@ impl Seating {
 /// same as long as the process lives.
 #[derive(Clone, Copy)]
 pub(crate) struct TurnTimer {
-    /// How long a seat may hold the table; without it nobody is played for.
-    pub(crate) most: Option<u64>,
     /// The node has a quorum, and since when; where it hadn't one yet, when the process began.
     pub(crate) is_quorate: bool,
     quorate_since: u64,
@@ -43,9 +41,8 @@ impl TurnTimer {
     ghost use Rattle.node_service.specs.Knowing.{since_in, ordered_since};
 
     /// The process begins.
-    pub(crate) fn new(most: Option<u64>, now: u64) -> TurnTimer {
+    pub(crate) fn new(now: u64) -> TurnTimer {
         TurnTimer {
-            most,
             is_quorate: false,
             quorate_since: now,
             seatings: [Seating {

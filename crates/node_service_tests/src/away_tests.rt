@@ -63,16 +63,20 @@ fn wire_of<'a>(rt: &impl Abort, world: &'a mut World, node: usize) -> &'a mut Me
     wire
 }
 
-/// One who asks a node how it is gets this line in the next turn.
+/// Three who ask a node how it is get this line in the next turn.
 fn assert_told(
     rt: &impl Abort,
     world: &mut World,
     node: usize,
     line: &[u8],
 ) -> Result<(), AllocError> {
-    wire_of(rt, world, node).ask();
+    for _ in 0..3u64 {
+        wire_of(rt, world, node).ask();
+    }
     world.step(rt)?;
-    assert_eq!(rt; wire_of(rt, world, node).written(Line::Asker(0)), line);
+    for place in 0..3u8 {
+        assert_eq!(rt; wire_of(rt, world, node).written(Line::Asker(place)), line);
+    }
     Ok(())
 }
 

@@ -1,5 +1,5 @@
 -- What those who ask were given and what is written to them, call by call.
-use Rattle.std.proofs.Common.{◌≡◌, ◌≢◌, ◌⊎◌, inl, inr, ℕ, ◌<◌, ◌≤◌, Bool, true, false, cond, List, [], ◌∷◌, ◌++◌, length, map, take, Result, Ok, Err, eqb, ap, sym, subst, ◌∙◌, arith}
+use Rattle.std.proofs.Common.{◌≡◌, ◌≢◌, ◌⊎◌, inl, inr, ℕ, ◌+◌, ◌<◌, ◌≤◌, Bool, true, false, cond, List, [], ◌∷◌, ◌++◌, length, length-append, map, take, Result, Ok, Err, eqb, refl, ap, sym, subst, ◌∙◌, arith}
 use Rattle.std.proofs.Math.ListN.{get_or-eq_default}
 use Rattle.std.proofs.Math.Seq.{take-nil}
 use Rattle.std.proofs.lemmas.Bool.{cases_lt, ne_eqb}
@@ -10,14 +10,16 @@ use Rattle.node_wires.specs.declared.line.Line.TheVariants.{Asker as AskerAt}
 use Rattle.node_wires.specs.Passages.{Passage, Began, wrote_over}
 use Rattle.node_status.specs.declared.asker.Asker.{Asker}
 use Rattle.node_status.specs.Given.{Given, given_of, given_at, nobody, with_line}
-use Rattle.node_status.specs.Asking.{IsAnswered, AreAnswered, Comes, nobody_came, one_came, Accepts, IsGiven, Gives, Serves}
-use Rattle.node_status.proofs.Passing.{keeps_all, keeps_began, began_here, began_elsewhere}
+use Rattle.node_status.specs.Asking.{IsAnswered, AreAnswered, Comes, Arrivals, Accepts, IsGiven, Gives, Serves}
+use Rattle.node_status.proofs.Passing.{keeps_all, keeps_on, keeps_began, began_here, began_elsewhere}
 
 -- ---- one who comes
 
-pub nobody_accepted : (now : ℕ) (before after : List Asker) (old new : List Passage) → new ≡ old → after ≡ before → Accepts now before after old new
-nobody_accepted now before after old new e f = record {
-  arrival = nobody_came e f;
+pub nobody_accepted : (now : ℕ) (before after : List Asker) (old new : List Passage) → new ≡ old → after ≡ before → (most : ℕ) → Accepts now most before after old new
+nobody_accepted now before after old new e f most = record {
+  places = [];
+  within = omega arith;
+  arrivals = (e, f);
   others = keeps_all old new e;
   answered = λ so_far place. subst (λ (askers : List Asker). IsAnswered new place (given_at askers place)) (sym f) (subst (λ (ps : List Passage). IsAnswered ps place (given_at before place)) (sym e) (so_far place));
 }
@@ -35,11 +37,39 @@ at_one now place q before after old new e comes so_far (inl here) =
 at_one now place q before after old new e comes so_far (inr elsewhere) =
     subst (λ (g : Given). IsAnswered new q g) (sym (comes.others q elsewhere.1)) (began_elsewhere place q old new e elsewhere.1 ∙ so_far q)
 
-pub one_accepted : (now place : ℕ) (before after : List Asker) (old new : List Passage) → new ≡ old ++ Began (AskerAt place) ∷ [] → Comes now place before after → Accepts now before after old new
+pub one_accepted : (now place : ℕ) (before after : List Asker) (old new : List Passage) → new ≡ old ++ Began (AskerAt place) ∷ [] → Comes now place before after → Accepts now 1 before after old new
 one_accepted now place before after old new e comes = record {
-  arrival = one_came place e comes;
+  places = place ∷ [];
+  within = omega arith;
+  arrivals = (after, (comes, (e, refl)));
   others = keeps_began place old new e;
   answered = λ so_far q. at_one now place q before after old new e comes so_far (eqb_tells q place);
+}
+
+-- ---- several
+
+arrivals_on : (now : ℕ) (places more : List ℕ) (one two three : List Asker) (a b c : List Passage) → Arrivals now places one two a b → Arrivals now more two three b c → Arrivals now (places ++ more) one three a c
+arrivals_on now [] more one two three a b c here then_on =
+    subst (λ (askers : List Asker). Arrivals now more askers three a c) here.1 (subst (λ (ps : List Passage). Arrivals now more two three ps c) here.0 then_on)
+arrivals_on now (place ∷ places) more one two three a b c here then_on =
+    (here.0, (here.1.0, arrivals_on now places more here.0 two three (a ++ Began (AskerAt place) ∷ []) b c here.1.1 then_on))
+
+pub accepted_on : (now most : ℕ) (one two three : List Asker) (a b c : List Passage) → Accepts now most one two a b → Accepts now 1 two three b c → Accepts now (most + 1) one three a c
+accepted_on now most one two three a b c first then_on = record {
+  places = first.places ++ then_on.places;
+  within = omega (arith, length-append first.places then_on.places, first.within, then_on.within);
+  arrivals = arrivals_on now first.places then_on.places one two three a b c first.arrivals then_on.arrivals;
+  others = keeps_on a b c first.others then_on.others;
+  answered = λ so_far. then_on.answered (first.answered so_far);
+}
+
+pub accepted_within : (now few most : ℕ) (before after : List Asker) (old new : List Passage) → few ≤ most → Accepts now few before after old new → Accepts now most before after old new
+accepted_within now few most before after old new within accepts = record {
+  places = accepts.places;
+  within = omega (arith, accepts.within);
+  arrivals = accepts.arrivals;
+  others = accepts.others;
+  answered = accepts.answered;
 }
 
 -- ---- a line that is given

@@ -1,7 +1,9 @@
 -- What is at a place where one of the askers is another.
-use Rattle.std.proofs.Common.{◌≡◌, ◌≢◌, ℕ, ◌<◌, List, map, set, get_or, length, subst, sym, ap, ◌∙◌}
+use Rattle.std.proofs.Common.{◌≡◌, ◌≢◌, ℕ, zero, suc, ◌<◌, List, [], ◌∷◌, ◌++◌, map, set, get_or, length, take, refl, subst, sym, ap, ◌∙◌}
 use Rattle.std.proofs.lemmas.List.{get_or-set_same, get_or-set_other, get_or-map, map-set, length-map}
 use Rattle.node_status.specs.declared.asker.Asker.{Asker}
+use Rattle.node_wires.specs.Passages.{Passage}
+use Rattle.node_status.specs.Asking.{IsAnswered, AreAnswered}
 use Rattle.node_status.specs.Given.{Given, given_of, given_at, nobody}
 
 pub given_here : (askers : List Asker) (place : ℕ) (asker : Asker) → place < length askers → given_at (set askers place asker) place ≡ given_of asker
@@ -15,3 +17,14 @@ given_elsewhere askers place other asker differs =
 -- what a place has that was looked up
 pub found_at : (askers : List Asker) (place : ℕ) (asker d : Asker) → place < length askers → asker ≡ get_or askers place d → given_of asker ≡ given_at askers place
 found_at askers place asker d within e = ap given_of e ∙ sym (get_or-map given_of askers place d nobody within)
+
+-- one place more where nobody stands
+pub one_nobody : (askers : List Asker) (one : Asker) → given_of one ≡ nobody → ((place : ℕ) → given_at askers place ≡ nobody) → (place : ℕ) → given_at (askers ++ one ∷ []) place ≡ nobody
+one_nobody [] one is none zero = is
+one_nobody [] one is none (suc place) = refl
+one_nobody (first ∷ askers) one is none zero = none 0
+one_nobody (first ∷ askers) one is none (suc place) = one_nobody askers one is (λ other. none (suc other)) place
+
+-- to nobody nothing was written
+pub nobody_answered : (askers : List Asker) → ((place : ℕ) → given_at askers place ≡ nobody) → AreAnswered [] askers
+nobody_answered askers none place = subst (λ (g : Given). IsAnswered [] place g) (sym (none place)) refl

@@ -43,13 +43,16 @@ pub record Comes (now place : ℕ) (before after : List Asker) : Type 0 where
   pub beyond : length before ≤ place → given_at after place ≡ given_at before place
   pub others : (other : ℕ) → other ≢ place → given_at after other ≡ given_at before other
 
--- nobody came, and all is as it was; or one came
-pub data Arrival (now : ℕ) (before after : List Asker) (old new : List Passage) : Type 0 where
-  nobody_came : new ≡ old → after ≡ before → Arrival now before after old new
-  one_came : (place : ℕ) → new ≡ old ++ Began (AskerAt place) ∷ [] → Comes now place before after → Arrival now before after old new
+-- these came one after another, each to his place, and nothing else changed
+abbrev pub Arrivals : ℕ → List ℕ → List Asker → List Asker → List Passage → List Passage → Type 0
+Arrivals now [] before after old new = (new ≡ old) × (after ≡ before)
+Arrivals now (place ∷ more) before after old new = (between : List Asker) × (Comes now place before between × Arrivals now more between after (old ++ Began (AskerAt place) ∷ []) new)
 
-pub record Accepts (now : ℕ) (before after : List Asker) (old new : List Passage) : Type 0 where
-  pub arrival : Arrival now before after old new
+-- so many came at most
+pub record Accepts (now most : ℕ) (before after : List Asker) (old new : List Passage) : Type 0 where
+  pub places : List ℕ
+  pub within : length places ≤ most
+  pub arrivals : Arrivals now places before after old new
   pub others : KeepsOthers old new
   pub answered : AreAnswered old before → AreAnswered new after
 

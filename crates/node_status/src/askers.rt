@@ -1,6 +1,6 @@
 //! Those who ask how the node is.
 
-ghost use Rattle.std.specs.Prelude.{◌≡◌, ◌<◌, vec_len};
+ghost use Rattle.std.specs.Prelude.{◌≡◌, ◌<◌, ℕ, [], vec_len, IfOk};
 
 use crate::asker::Asker;
 use node_wires::limits::ASKERS;
@@ -18,11 +18,16 @@ pub struct Askers {
 }
 
 impl Askers {
-    ghost use Rattle.node_status.specs.Given.{is_awaited};
-    ghost use Rattle.node_status.specs.Asking.{Comes, Accepts, Gives, Answers, Serves, Flushes};
+    ghost use Rattle.node_wires.specs.declared.limits.TheConstants.{ASKERS as ALL};
+    ghost use Rattle.node_status.specs.Given.{is_awaited, given_at, nobody};
+    ghost use Rattle.node_status.specs.Asking.{AreAnswered, Comes, Accepts, Gives, Answers, Serves, Flushes};
 
     /// Nobody asks.
-    pub fn new(alloc: Global) -> Result<Askers, AllocError> {
+    #[tactic(auto, using(crate::proofs::Places::one_nobody, crate::proofs::Places::nobody_answered))]
+    pub fn new(alloc: Global) -> Result<Askers, AllocError>
+        ensures nobody { IfOk result (λ askers. (place : ℕ) → given_at askers.askers.items place ≡ nobody) }
+        ensures answered { IfOk result (λ askers. AreAnswered [] askers.askers.items) }
+    {
         let mut askers = Vec::with_capacity(alloc, ASKERS)?;
         for _ in 0..ASKERS {
             askers.push(Asker::new(alloc))?;
@@ -44,26 +49,39 @@ impl Askers {
         }
     }
 
-    /// Takes in the next one who asks, if there is one.
+    /// Takes in the next one who asks. False where there is none.
     #[tactic(auto, using(crate::proofs::Asking::nobody_accepted, crate::proofs::Asking::one_accepted))]
-    fn take_in<W: Wire>(&mut self, wire: &mut W, now: u64)
-        ensures { Accepts now self.old.askers.items self.new.askers.items (W.passed wire.old) (W.passed wire.new) }
+    fn take_in<W: Wire>(&mut self, wire: &mut W, now: u64) -> bool
+        ensures { Accepts now 1 self.old.askers.items self.new.askers.items (W.passed wire.old) (W.passed wire.new) }
     {
         let Some(place) = wire.accept_asker() else {
-            return;
+            return false;
         };
         if self.come(place, now) {
-            return;
+            return true;
         }
         wire.close(Line::Asker(place));
+        true
     }
 
-    /// Takes in the next one who asks, if there is one, and says whether anybody waits for a line.
+    /// Takes in those who ask, as many as there are places at most.
+    #[tactic(auto, using(crate::proofs::Asking::nobody_accepted, crate::proofs::Asking::accepted_on, crate::proofs::Asking::accepted_within))]
+    fn take_in_all<W: Wire>(&mut self, wire: &mut W, now: u64)
+        ensures { Accepts now ALL self.old.askers.items self.new.askers.items (W.passed wire.old) (W.passed wire.new) }
+    {
+        for _ in 0..ASKERS {
+            if !self.take_in(wire, now) {
+                return;
+            }
+        }
+    }
+
+    /// Takes in those who ask, as many as there are places at most, and says whether anybody waits for a line.
     pub fn accept<W: Wire>(&mut self, wire: &mut W, now: u64) -> bool
-        ensures accepts { Accepts now self.old.askers.items self.new.askers.items (W.passed wire.old) (W.passed wire.new) }
+        ensures accepts { Accepts now ALL self.old.askers.items self.new.askers.items (W.passed wire.old) (W.passed wire.new) }
         ensures waits { result ≡ is_awaited self.new.askers.items }
     {
-        self.take_in(wire, now);
+        self.take_in_all(wire, now);
         self.is_awaited()
     }
 

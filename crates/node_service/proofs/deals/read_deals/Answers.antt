@@ -1,6 +1,5 @@
-use Rattle.std.proofs.Common.{◌≡◌, ◌<◌, List, length, sym, ◌∙◌, ap, subst, arith}
+use Rattle.std.proofs.Common.{◌≡◌, ◌<◌, length, sym, ◌∙◌, ap, subst, arith}
 use Rattle.std.specs.List.{AllByRecursion}
-use Rattle.slot_log.specs.Hand.{Hand}
 use Rattle.match_log.proofs.Tallies.{older, older_none, older_all}
 use Rattle.node_service.proofs.Dealt.{IsDealt, dealt_of, dealt_on}
 use Rattle.node_service.proofs.deals.read_deals.Goals as goal

@@ -32,6 +32,7 @@ loop-reader-preserved g c =
       told = ap (λ (m : List Passage). m ++ lines_handed (map text_by rest)) c.show-deaf.ensures.told
           ∙ (append_assoc (lines_of now.seats) (line_handed reader text) (lines_handed (map text_by rest))
           ∙ (ap (λ (m : List (Marked Reader)). lines_of now.seats ++ lines_handed (map text_by m)) (sym split) ∙ now.invariant.told));
+      guests = c.show-deaf.ensures.guests ∙ now.invariant.guests;
       lines = lines_on (g.W.Wire.passed c.args.wire.now) (g.W.Wire.passed now.wire) (g.W.Wire.passed new.wire) now.invariant.lines c.show-deaf.ensures.lines;
       said = λ are. c.show-deaf.ensures.said (now.invariant.said are);
     }

@@ -16,6 +16,7 @@ invariant-loop-reader g l = record {
       → LogGains l.fn.log_failed failed (added (map text_by l.fn.made.shown)) (logged_in (g.W.Wire.passed l.fn.wire)) log;
   seats : seats_in (g.W.Wire.passed l.wire) ≡ seats_in (g.W.Wire.passed l.fn.wire);
   told : lines_of l.seats ++ lines_handed (map text_by l.reader-iterator) ≡ lines_of l.fn.seats ++ lines_handed (map text_by l.fn.made.shown);
+  guests : l.seats.guests ≡ l.fn.seats.guests;
   lines : KeepsLines (g.W.Wire.passed l.fn.wire) (g.W.Wire.passed l.wire);
   said : AreSaid (g.W.Wire.passed l.fn.wire) (lines_of l.fn.seats) l.fn.seats.seats.items → AreSaid (g.W.Wire.passed l.wire) (lines_of l.seats) l.seats.seats.items;
 }

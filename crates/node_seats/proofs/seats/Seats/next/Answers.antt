@@ -1,16 +1,19 @@
 use Rattle.node_seats.proofs.Coming.{seats_come, log_stays}
-use Rattle.node_seats.proofs.Others.{keeps_coming}
+use Rattle.node_seats.proofs.Others.{keeps_coming, no_guest_told_coming}
 use Rattle.node_seats.proofs.Telling.{said_coming}
 use Rattle.node_seats.proofs.seats.Seats.next.Goals as goal
 
 pub returns-clause-seats : goal.returns-clause-seats
-returns-clause-seats g c = seats_come c.next_in_turn.result c.args.self.now c.next_in_turn.new.self (g.W.Wire.passed c.args.wire.now) (g.W.Wire.passed c.next_in_turn.new.wire) c.next_in_turn.ensures
+returns-clause-seats g c = seats_come c.look.result c.args.self.now c.look.new.self (g.W.Wire.passed c.args.wire.now) (g.W.Wire.passed c.look.new.wire) c.look.ensures.comes
 
 pub returns-clause-log : goal.returns-clause-log
-returns-clause-log g c = log_stays c.next_in_turn.result c.args.self.now c.next_in_turn.new.self (g.W.Wire.passed c.args.wire.now) (g.W.Wire.passed c.next_in_turn.new.wire) c.next_in_turn.ensures
+returns-clause-log g c = log_stays c.look.result c.args.self.now c.look.new.self (g.W.Wire.passed c.args.wire.now) (g.W.Wire.passed c.look.new.wire) c.look.ensures.comes
 
 pub returns-clause-others : goal.returns-clause-others
-returns-clause-others g c = keeps_coming c.next_in_turn.result c.args.self.now c.next_in_turn.new.self (g.W.Wire.passed c.args.wire.now) (g.W.Wire.passed c.next_in_turn.new.wire) c.next_in_turn.ensures
+returns-clause-others g c = keeps_coming c.look.result c.args.self.now c.look.new.self (g.W.Wire.passed c.args.wire.now) (g.W.Wire.passed c.look.new.wire) c.look.ensures.comes
 
 pub returns-clause-said : goal.returns-clause-said
-returns-clause-said g c = said_coming c.next_in_turn.result c.args.self.now c.next_in_turn.new.self (g.W.Wire.passed c.args.wire.now) (g.W.Wire.passed c.next_in_turn.new.wire) c.next_in_turn.ensures
+returns-clause-said g c = said_coming c.look.result c.args.self.now c.look.new.self (g.W.Wire.passed c.args.wire.now) (g.W.Wire.passed c.look.new.wire) c.look.ensures.comes
+
+pub returns-clause-unsaid : goal.returns-clause-unsaid
+returns-clause-unsaid g c = no_guest_told_coming c.look.result c.args.self.now c.look.new.self (g.W.Wire.passed c.args.wire.now) (g.W.Wire.passed c.look.new.wire) c.look.ensures.comes

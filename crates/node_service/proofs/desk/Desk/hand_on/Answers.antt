@@ -1,4 +1,4 @@
-use Rattle.std.proofs.Common.{◌≡◌, ◌++◌, ℕ, List, inl, refl, sym, ◌∙◌, ap, subst, map}
+use Rattle.std.proofs.Common.{◌≡◌, ◌++◌, List, inl, refl, sym, ◌∙◌, ap, subst, map}
 use Rattle.node_wires.specs.declared.passages.Passages.{Passages}
 use Rattle.node_wires.specs.Passages.{Passage, logged_in, seats_in}
 use Rattle.dealer_world.specs.Recordings.{text_by}
@@ -28,6 +28,7 @@ returns-clause-hands g c =
       told = told;
       seats = c.show_all.ensures.seats ∙ ap seats_in same;
       heard = c.send_all.ensures.heard;
+      guests = c.show_all.ensures.guests;
       hears = c.send_all.ensures.hears;
       asked = λ place within. inl refl;
       carried = λ is.

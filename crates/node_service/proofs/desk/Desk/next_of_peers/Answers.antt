@@ -6,6 +6,7 @@ use Rattle.node_seats.specs.Telling.{lines_of}
 use Rattle.node_service.specs.Crossing.{IsCarried}
 use Rattle.node_service.proofs.Crossing.{heard_now}
 use Rattle.node_service.proofs.Telling.{no_seat_told, told_is_heard}
+use Rattle.node_service.proofs.Welcoming.{hosts_none, let_in_of_peers}
 use Rattle.node_service.proofs.desk.Desk.next_of_peers.Goals as goal
 
 pub returns-clause-takes : goal.returns-clause-takes
@@ -14,6 +15,8 @@ returns-clause-takes g c =
     let lines : passed_of c.next.new.self.peers ≡ passed_of old.company.peers = ap (λ (p : Passages). p.items) c.next.ensures.keeps.1 in
     record {
       look = refl;
+      started = refl;
+      terms = refl;
       log_failed = refl;
       sent = c.next.ensures.frames;
       told = refl;
@@ -21,6 +24,8 @@ returns-clause-takes g c =
       seats = sym (ap (λ (m : List Passage). seats_in (g.W.Wire.passed old.wire) ++ m) (no_seat_told c.next.result) ∙ append-nil (seats_in (g.W.Wire.passed old.wire)));
       heard = c.next.ensures.heard ∙ ap (λ (m : List Passage). heard_of old.company.peers ++ m) (told_is_heard c.next.result);
       were = heard_now (own_of c.next.new.self.peers) (passed_of c.next.new.self.peers) c.next.result c.next.ensures.told;
+      hosts = hosts_none old.seats.guests old.seats.guests refl;
+      let_in = let_in_of_peers old.seats.guests c.next.result;
       sittings = λ seat. inl refl;
       hears = c.next.ensures.hears;
       asked = λ place within. inl refl;

@@ -1,4 +1,4 @@
-use Rattle.std.proofs.Common.{◌≡◌, List, [], ◌++◌, inl, refl, sym, ◌∙◌, ap, subst, append-nil}
+use Rattle.std.proofs.Common.{◌≡◌, List, ◌++◌, inl, refl, sym, ◌∙◌, ap, subst, append-nil}
 use Rattle.node_wires.specs.declared.passages.Passages.{Passages}
 use Rattle.node_wires.specs.Passages.{Passage, seats_in}
 use Rattle.node_peers.specs.Peering.{own_of, passed_of, heard_of}
@@ -7,14 +7,17 @@ use Rattle.node_service.specs.Crossing.{IsCarried}
 use Rattle.node_service.proofs.Hearing.{hears_none}
 use Rattle.node_service.proofs.Crossing.{carried_seated}
 use Rattle.node_service.proofs.Incoming.{passed_is_incoming, no_peer_told, none_of_peers}
+use Rattle.node_service.proofs.Welcoming.{hosts_coming, let_in_coming}
 use Rattle.node_service.proofs.desk.Desk.next_of_seats.Goals as goal
 
-pub returns : goal.returns
-returns g c =
+pub returns-clause-takes : goal.returns-clause-takes
+returns-clause-takes g c =
     let old = c.args.self.now in
     let told : lines_of c.next-notice.new.self ≡ lines_of old.seats = ap (λ (p : Passages). p.items) c.next-notice.ensures.comes.told in
     record {
       look = refl;
+      started = refl;
+      terms = refl;
       log_failed = refl;
       sent = refl;
       told = told;
@@ -22,11 +25,13 @@ returns g c =
       seats = c.next-notice.ensures.seats ∙ ap (λ (m : List Passage). seats_in (g.W.Wire.passed old.wire) ++ m) (passed_is_incoming c.next-notice.result);
       heard = sym (ap (λ (m : List Passage). heard_of old.company.peers ++ m) (no_peer_told c.next-notice.result) ∙ append-nil (heard_of old.company.peers));
       were = none_of_peers (own_of old.company.peers) (passed_of old.company.peers) c.next-notice.result;
+      hosts = hosts_coming c.next-notice.result old.seats c.next-notice.new.self (g.W.Wire.passed old.wire) (g.W.Wire.passed c.next-notice.new.wire) c.next-notice.ensures.comes;
+      let_in = let_in_coming c.next-notice.result old.seats c.next-notice.new.self (g.W.Wire.passed old.wire) (g.W.Wire.passed c.next-notice.new.wire) c.next-notice.ensures.comes;
       sittings = c.note_gone.ensures;
       hears = hears_none _ _ _ _ refl refl;
       asked = λ place within. inl refl;
       carried = λ is.
           subst (λ (m : List Passage). IsCarried (g.W.Wire.passed c.next-notice.new.wire) (passed_of old.company.peers) m c.next-notice.new.self.seats.items old.askers.askers.items) (sym told)
           (carried_seated (g.W.Wire.passed old.wire) (g.W.Wire.passed c.next-notice.new.wire) (passed_of old.company.peers) (lines_of old.seats) old.seats.seats.items c.next-notice.new.self.seats.items old.askers.askers.items c.next-notice.ensures.others
-          c.next-notice.ensures.said is);
+          c.next-notice.ensures.unsaid c.next-notice.ensures.said is);
     }

@@ -11,7 +11,7 @@ pub returns-in-Ok : goal.returns-in-Ok
 returns-in-Ok g c =
     kept_then g.W.Wire c.is_asked.ensures
     (goes_answered g.W.Wire c.deref.result.now c.is_asked.new.self c.answer.new.self
-    (subst (λ (l : List ℕ). IsStatusLine (look_of c.is_asked.new.self.member.station).number l) (sym c.deref.ensures.value) c.in-Ok.ensures) c.answer.ensures)
+    (subst (λ (l : List ℕ). IsStatusLine (look_of c.is_asked.new.self.member.station) l) (sym c.deref.ensures.value) c.in-Ok.ensures) c.answer.ensures)
 
-pub returns-in_default : goal.returns-in_default
-returns-in_default g c = goes_kept g.W.Wire c.is_asked.ensures
+pub returns : goal.returns
+returns g c = goes_kept g.W.Wire c.is_asked.ensures

@@ -1,4 +1,4 @@
-use Rattle.std.proofs.Common.{◌≡◌, ◌≤◌, subst, ap}
+use Rattle.std.proofs.Common.{◌≤◌, subst, ap}
 use Rattle.dealer_kind.specs.Plans.{Plan}
 use Rattle.stations.specs.Looking.{look_of}
 use Rattle.node_service.specs.Logging.{HasOneLog}

@@ -3,11 +3,11 @@ use Rattle.node_service.specs.Desks.{IsKept}
 use Rattle.node_service.proofs.Keeping.{kept_on, as_it_was}
 use Rattle.node_service.proofs.server.NodeServer.part.Goals as goal
 
-pub returns-then-eq : goal.returns-then-eq
-returns-then-eq g c = kept_on g.W.Wire c.now-now.ensures c.speak.ensures
+pub returns-then-is_replaced : goal.returns-then-is_replaced
+returns-then-is_replaced g c = kept_on g.W.Wire c.now-now.ensures c.speak.ensures
 
-pub returns-else-eq : goal.returns-else-eq
-returns-else-eq g c =
+pub returns-else-is_replaced : goal.returns-else-is_replaced
+returns-else-is_replaced g c =
     let desk = c.args.self.now.desk in
     let kept : IsKept g.W.Wire desk desk = as_it_was g.W.Wire refl in
     kept

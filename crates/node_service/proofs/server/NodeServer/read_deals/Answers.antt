@@ -1,4 +1,4 @@
-use Rattle.std.proofs.Common.{◌≡◌, subst, sym, ap}
+use Rattle.std.proofs.Common.{subst, sym, ap}
 use Rattle.dealer_kind.specs.Plans.{Plan, IsSetting}
 use Rattle.node_rules.specs.Standings.{Standing, applied}
 use Rattle.dealer_node.specs.Nodes.{Node}

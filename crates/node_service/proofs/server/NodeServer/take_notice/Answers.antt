@@ -20,7 +20,10 @@ returns-in-Refused-clause-goes g c = rw c.in-Refused.is (goes_kept g.W.Wire c.no
 pub returns-in-Strangers-clause-goes : goal.returns-in-Strangers-clause-goes
 returns-in-Strangers-clause-goes g c = rw c.in-Strangers.is (goes_kept g.W.Wire c.tell-in-Strangers.ensures)
 
+pub returns-in-Unreached-clause-goes : goal.returns-in-Unreached-clause-goes
+returns-in-Unreached-clause-goes g c = rw c.in-Unreached.is (goes_kept g.W.Wire c.tell-in-Unreached.ensures)
+
 pub returns-in-Frame-clause-goes : goal.returns-in-Frame-clause-goes
 returns-in-Frame-clause-goes g c =
     rw c.in-Frame.is
-    (subst (λ (b : List ℕ). Does g.D.Disk (OfPeer c.in-Frame.from b ∷ []) (served_of c.args.self.now) (served_of c.take_frame.new.self)) c.as_slice.ensures.value c.take_frame.ensures)
+    (subst (λ (b : List ℕ). Does g.D.Disk (OfPeer c.in-Frame.from b ∷ []) (served_of c.args.self.now) (served_of c.take_frame.new.self)) c.as_slice.ensures.bytes c.take_frame.ensures)

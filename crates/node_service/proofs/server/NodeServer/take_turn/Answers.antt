@@ -1,0 +1,17 @@
+use Rattle.node_service.specs.Turns.{IsTurn}
+use Rattle.node_service.proofs.Going.{does_with, with_does, does_on}
+use Rattle.node_service.proofs.Keeping.{goes_kept, kept_on, then_kept, as_it_was}
+use Rattle.node_service.proofs.server.NodeServer.take_turn.Goals as goal
+
+pub returns-then-ne-clause-takes : goal.returns-then-ne-clause-takes
+returns-then-ne-clause-takes g c =
+    let first = kept_on g.W.Wire c.wait-begun.ensures (kept_on g.W.Wire c.hear.ensures (as_it_was g.W.Wire c.look.ensures)) in
+    with_does IsTurn (does_with IsTurn (goes_kept g.W.Wire first) c.take_all-is_all.ensures) (goes_kept g.W.Wire (kept_on g.W.Wire c.note_wrong_tokens.ensures c.part.ensures))
+
+pub returns-clause-takes : goal.returns-clause-takes
+returns-clause-takes g c =
+    let first = kept_on g.W.Wire c.wait-begun.ensures (kept_on g.W.Wire c.hear.ensures (as_it_was g.W.Wire c.look.ensures)) in
+    let taken = with_does IsTurn (does_with IsTurn (goes_kept g.W.Wire first) c.take_all-is_all.ensures) (goes_kept g.W.Wire c.note_wrong_tokens.ensures) in
+    let due = then_kept g.W.Wire c.keep_time-until_due.ensures (kept_on g.W.Wire c.now-now.ensures c.note_waiting.ensures) in
+    let last = then_kept g.W.Wire c.answer_askers-is_asked.ensures (kept_on g.W.Wire c.finish-over.ensures c.speak.ensures) in
+    with_does IsTurn taken (does_on due last)
