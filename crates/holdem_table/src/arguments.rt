@@ -64,6 +64,10 @@ pub(crate) enum Made<'a> {
     Store(u8),
     /// The key alone, in the file that this word names.
     Key(&'a str),
+    /// A token for each seat, in the folder that this word names.
+    Tokens(&'a str),
+    /// Seeds, which are printed: one for each node, or one for all.
+    Seeds { is_one_for_all: bool },
 }
 
 /// What `node` is asked for.
@@ -99,7 +103,7 @@ enum Verb {
 }
 
 /// The greatest number of a node that a match may have.
-const GREATEST_NODE: u32 = 6;
+pub(crate) const GREATEST_NODE: u32 = 6;
 
 /// The word that asks for `serve`.
 pub(crate) const SERVE: &str = "serve";
@@ -141,7 +145,7 @@ impl Verb {
             Verb::Hand => "Plays a script of deals and actions, and prints each seat's lines",
             Verb::Play => "Runs all nodes of a match over a script, and prints all they send",
             Verb::Check => "Checks the log of a match against the rules of its game",
-            Verb::Init => "Makes the empty stores of a match's nodes, or its key",
+            Verb::Init => "Makes the empty stores of a match's nodes, its key, tokens or seeds",
             Verb::Serve => "Deals a match to its seats over TCP",
             Verb::Node => "Runs one node of a match in a process of its own",
             Verb::Relay => "Stands between a bot that dials once and the nodes of a match",
@@ -167,7 +171,14 @@ impl Verb {
             Verb::Hand => &[Place::Hands, Place::LogFlag, Place::Game],
             Verb::Check => &[Place::Game, Place::Log],
             Verb::Play => &[Place::Match],
-            Verb::Init => &[Place::Key, Place::Match, Place::OneNode],
+            Verb::Init => &[
+                Place::Key,
+                Place::Tokens,
+                Place::Seeds,
+                Place::SameSeeds,
+                Place::Match,
+                Place::OneNode,
+            ],
             Verb::Serve => &[Place::Times, Place::Match],
             Verb::Node => &[Place::Times, Place::Match, Place::Node],
             Verb::Relay => &[
@@ -206,6 +217,12 @@ enum Place {
     OneNode,
     /// `--key FILE`.
     Key,
+    /// `--tokens DIR`.
+    Tokens,
+    /// `--seeds`.
+    Seeds,
+    /// `--same-seeds`.
+    SameSeeds,
     /// `--port P`.
     Port,
     /// `--listen ADDRESS`.
@@ -293,6 +310,9 @@ fn argument_at<'a>(alloc: Global, place: Place) -> Result<Arg<'a>, AllocError> {
         Place::Node => node_at(alloc, "The node's number, counted from 0").required(true),
         Place::OneNode => node_at(alloc, "The node whose store alone is made, from 0"),
         Place::Key => key_option(alloc)?,
+        Place::Tokens => tokens_option(alloc)?,
+        Place::Seeds => seeds_option(alloc)?,
+        Place::SameSeeds => same_seeds_option(alloc)?,
         Place::Port => port_option(alloc),
         Place::Listen => valued(
             alloc,
@@ -363,10 +383,11 @@ fn hands_parser<'a>() -> ValueParser<'a> {
 
 /// `--log`.
 fn log_option<'a>(alloc: Global) -> Arg<'a> {
-    Arg::new(alloc, "log")
-        .long("log")
-        .action(ArgAction::SetTrue)
-        .help("Prints the match's log too, each line behind L")
+    flag(
+        alloc,
+        "log",
+        "Prints the match's log too, each line behind L",
+    )
 }
 
 /// `--key FILE`.
@@ -376,6 +397,51 @@ fn key_option<'a>(alloc: Global) -> Result<Arg<'a>, AllocError> {
         .value_name("FILE")
         .help("Makes the key alone, in this file")
         .conflicts_with("node")
+}
+
+/// `--tokens DIR`.
+fn tokens_option<'a>(alloc: Global) -> Result<Arg<'a>, AllocError> {
+    valued(
+        alloc,
+        "tokens",
+        "DIR",
+        "Makes a token for each seat, in this folder",
+    )
+    .conflicts_with("key")?
+    .conflicts_with("node")
+}
+
+/// `--seeds`.
+fn seeds_option<'a>(alloc: Global) -> Result<Arg<'a>, AllocError> {
+    flag(
+        alloc,
+        "seeds",
+        "Prints a seed for each node, and makes nothing",
+    )
+    .conflicts_with("tokens")?
+    .conflicts_with("key")?
+    .conflicts_with("node")
+}
+
+/// `--same-seeds`.
+fn same_seeds_option<'a>(alloc: Global) -> Result<Arg<'a>, AllocError> {
+    flag(
+        alloc,
+        "same-seeds",
+        "Prints a seed for all nodes, and makes nothing",
+    )
+    .conflicts_with("seeds")?
+    .conflicts_with("tokens")?
+    .conflicts_with("key")?
+    .conflicts_with("node")
+}
+
+/// An option without a value.
+fn flag<'a>(alloc: Global, name: &'a str, help: &'a str) -> Arg<'a> {
+    Arg::new(alloc, name)
+        .long(name)
+        .action(ArgAction::SetTrue)
+        .help(help)
 }
 
 /// An option with a value.
@@ -417,10 +483,7 @@ fn seconds_parser<'a>() -> ValueParser<'a> {
 
 /// `--stay`.
 fn stay_option<'a>(alloc: Global) -> Arg<'a> {
-    Arg::new(alloc, "stay")
-        .long("stay")
-        .action(ArgAction::SetTrue)
-        .help("Awaits a further bot where one has left")
+    flag(alloc, "stay", "Awaits a further bot where one has left")
 }
 
 /// HOST:PORT of the seat at each node.
@@ -434,10 +497,7 @@ fn nodes_at<'a>(alloc: Global) -> Arg<'a> {
 
 /// `--times`.
 fn times_option<'a>(alloc: Global) -> Arg<'a> {
-    Arg::new(alloc, "times")
-        .long("times")
-        .action(ArgAction::SetTrue)
-        .help("Puts the time (UTC) before each note")
+    flag(alloc, "times", "Puts the time (UTC) before each note")
 }
 
 /// What a command line asks for. The `Err` is `WrongWords`: no command is named, or one with a word missing
@@ -464,15 +524,30 @@ fn named<'a>(name: &str, matches: &ArgMatches<'a>) -> Result<Task<'a>, Ending> {
     }
 }
 
-/// MATCH of `init`, and I or FILE where one is said.
+/// MATCH of `init`, and what it is to make.
 fn init_task<'a>(matches: &ArgMatches<'a>) -> Result<Task<'a>, Ending> {
-    let path = word(matches, "match")?;
-    let made = match (matches.get_str("key"), node(matches)) {
-        (Some(key), _) => Made::Key(key),
-        (None, Some(node)) => Made::Store(node),
-        (None, None) => Made::Stores,
-    };
-    Ok(Task::Init(InitArguments { path, made }))
+    Ok(Task::Init(InitArguments {
+        path: word(matches, "match")?,
+        made: to_make(matches),
+    }))
+}
+
+/// What `init` is to make: at most one of them is asked for.
+fn to_make<'a>(matches: &ArgMatches<'a>) -> Made<'a> {
+    let is_one_for_all = matches.get_flag("same-seeds");
+    if is_one_for_all || matches.get_flag("seeds") {
+        return Made::Seeds { is_one_for_all };
+    }
+    match (
+        matches.get_str("key"),
+        matches.get_str("tokens"),
+        node(matches),
+    ) {
+        (Some(key), _, _) => Made::Key(key),
+        (None, Some(folder), _) => Made::Tokens(folder),
+        (None, None, Some(node)) => Made::Store(node),
+        (None, None, None) => Made::Stores,
+    }
 }
 
 /// MATCH and I of `node`, and what is chosen.

@@ -85,8 +85,9 @@ paths go from the working folder; the game file is read too.
 Made are the files match.kept, which says of which match the stores are, and
 node0.journal, node1.journal and so on in that folder, each written and synced
 before the next is made; then the folder is synced. The folder must be there.
-Nothing is printed on standard output. Standard error has notes, one a line:
-each file that was made, and keys of MATCH that no command reads.
+Standard error has notes, one a line: each file that was made, keys of MATCH
+that no command reads, and seeds below 2^55, which can be guessed. Stores,
+nodeI.kept, the key and tokens can be read by their owner alone.
 
 A store keeps what a node promised, so no store may be thrown away while its
 match is played. Where init ends in the middle (63, 92, or by a signal), no
@@ -101,16 +102,25 @@ Where it ended in the middle, delete nodeI.kept and nodeI.journal and run it
 again.
 
 With --key FILE the key alone is made, for holdem_table node: 32 random bytes
-as 64 hexadecimal digits in FILE, which its owner alone may use. MATCH names
-it by key = \"FILE\", and each machine gets a copy.
+as 64 hexadecimal digits in FILE. MATCH names it by key = \"FILE\", and each
+machine gets a copy.
+
+With --tokens DIR a token for each seat is made, for holdem_table node: 32
+random bytes as 64 hexadecimal digits in DIR/NAME.token. Standard output gets
+the line tokens = [..] for MATCH, with the SHA-256 of each.
+
+With --seeds standard output gets a line seed = N for each node, and with
+--same-seeds one for all: 2^55 to 2^63 - 1, drawn. Nothing is made. With one
+seed for all the cards don't depend on which node leads, and whoever has one
+machine's MATCH knows all of them.
 
 Exit status:
-  0  all was made
+  0  all was made, or printed
   2  the command line is wrong, MATCH is refused (100, 101, 102), MATCH or the
-     game can't be read (104), a store file, match.kept or FILE is there
-     already (103; then nothing was made or touched), match.kept is of another
-     match (109), a file can't be made or written (63), or memory was refused
-     (92)
+     game can't be read (104), a store file, match.kept, FILE or a token is
+     there already (103; then nothing was made or touched), match.kept is of
+     another match (109), a file can't be made or written (63), standard
+     output failed (107), or memory was refused (92)
 The last line of standard error says which; where a file is at fault, the line
 before names it.
 docs/OPERATING.md says how to set up a match, and what to do when it stands
@@ -185,8 +195,9 @@ stores have, and awaits all seats.
 
 Standard error has notes, one a line: ports, who is awaited where, whom all
 wait for, who was seated, is gone or is played for, faults in what seats sent,
-nodes stopped and started, and at the end the score; with --times the time
-(UTC) stands before each. Nothing is printed on standard output.
+nodes stopped and started, and at the end the score; before them seeds that
+can be guessed, and MATCH and stores that others can read. With --times the
+time (UTC) stands before each. Nothing is printed on standard output.
 
 Exit status:
   0  the match is over
@@ -221,7 +232,9 @@ Above the tables may stand
                         and each machine has a copy. Without it hosts must be
                         addresses of this machine or of a private network
   tokens = [\"HEX\", ..]  the SHA-256 of each seat's token; then a bot's first
-                        line is #TOKEN and its token, 64 hexadecimal digits
+                        line is #TOKEN and its token, 64 hexadecimal digits.
+                        Without them whoever reaches a seat's port has it;
+                        init MATCH --tokens DIR makes them
   patience = S          a seat for which all wait S seconds is played for: a
                         number, or a text such as \"2.5\"
 port, outage, away, start and, in a node's table, from aren't used.
@@ -233,21 +246,23 @@ goes on while more than half of the nodes run. A process that was ended, in
 whatever way, is started again by the same command. A bot may dial any node,
 and dials another one where its connection ends.
 
-Standard error has notes, one a line: that no key is named, where the status
-is, which node of which match begins, which peers joined or are gone, faults
-of connections, whether more than half of the nodes are here, when this one
-campaigns, which seats were seated or are gone, came with a wrong token, or
-are played for; with --times the time (UTC) stands before each. Nothing is
-printed on standard output.
+Standard error has notes, one a line: that no key or tokens are named, a seed
+that can be guessed, MATCH, the store and files beside it that others can
+read, where the status is, which node of which match begins, which peers
+joined or are gone, faults of connections, whether more than half of the nodes
+are here, when this one campaigns, which seats were seated or are gone, came
+with a wrong token, or are played for; with --times the time (UTC) stands
+before each. Nothing is printed on standard output.
 
 Exit status:
   0  the match is over, and the other nodes know it
   1  a port can't be bound (105), the log is in use or can't be opened, kept,
      emptied or written (106), or memory was refused (92)
   2  the command line is wrong, MATCH or its key is refused (100, 101, 102),
-     MATCH, its game, match.kept or the store can't be read (104), the store
-     is in use (108), what lies beside the store is of another match, node or
-     source of deals (109), or a peer knows another store of this node (127)
+     MATCH, its game, match.kept or the store can't be read or isn't there
+     (104), the store is in use (108), what lies beside the store is of
+     another match, node or source of deals (109), or a peer knows another
+     store of this node (127)
   3  the store is refused or failed (91), or two commands were chosen at one
      place (95): look at the disk, and restart the machine before the node
 The last line of standard error says which; where an address or a file is at

@@ -4,12 +4,13 @@ ghost use Rattle.std.specs.Prelude.{◌<◌, length};
 
 use crate::kept_match::{kept_path, unread};
 use crate::notes::Notes;
+use crate::open_files::tell_open_file;
 use dealer_kind::Config;
 use match_file::{
     Difference, NodeKept, kept_difference, read_identified, read_node_kept, source_digest,
 };
 use match_runs::{Cause, Unserved};
-use node_runs::node_kept_path;
+use node_runs::{NodeNote, node_kept_path};
 use peer_codes::{Life, MatchDigest};
 use sha2::{Digest, Sha256};
 use std::{fs, io};
@@ -23,8 +24,9 @@ pub(crate) struct Identity {
     pub(crate) life: Life,
 }
 
-/// Reads what lies beside the store of a node in this folder, and refuses what is of another match (109), of no match that
-/// can be told, or was made for another source of deals than the match file says. A note names the file.
+/// Reads what lies beside the store of a node in this folder, and refuses what isn't there (104), is of another match (109), of
+/// no match that can be told, or was made for another source of deals than the match file says. A note names the file, and
+/// `nodeI.kept` where others can read it.
 pub(crate) fn identify(
     rt: &HostRuntime,
     folder: &str,
@@ -68,6 +70,7 @@ fn read_node(
 {
     let path = node_kept_path(rt.alloc(), folder, node)?;
     let text = read_kept(rt, path.as_str(), notes)?;
+    tell_open_file(rt, path.as_str(), notes);
     let Some(kept) = read_node_kept(&text) else {
         return Err(refused(path.as_str(), Difference::Unread, notes));
     };
@@ -78,13 +81,14 @@ fn read_node(
     Ok(kept)
 }
 
-/// What a file beside a store has. Where it isn't there it can't be told of which match the store is (109).
+/// What a file beside a store has, which `init` makes before the store. A note names one that isn't there or can't be read
+/// (104).
 fn read_kept(rt: &HostRuntime, path: &str, notes: &mut Notes<'_>) -> Result<Vec<u8>, Unserved> {
     match fs::read(rt, path) {
         Ok(text) => Ok(text),
         Err(error) if error.kind() == io::ErrorKind::NotFound => {
-            notes.tell_file(path, Cause::NotFound);
-            Err(Unserved::OtherMatch(Difference::Unread))
+            notes.tell_node(&NodeNote::NotMade(path));
+            Err(Unserved::Unreadable)
         }
         Err(error) => Err(unread(path, &error, notes)),
     }

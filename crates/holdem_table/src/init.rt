@@ -1,8 +1,11 @@
 //! What `init` does: the empty stores of a match's nodes, one file for each, beside the file that says of which match
 //! they are.
 
+use crate::arguments::GREATEST_NODE;
 use crate::kept_match::{keep_match, kept_path, unmade_file};
+use crate::made_files::Readers;
 use crate::notes::Notes;
+use crate::seeds::tell_seeds;
 use crate::store_files::cause;
 use dealer_kind::Config;
 use match_file::MatchFile;
@@ -10,6 +13,7 @@ use match_runs::{Cause, store_path};
 use promise_store::{FileDisk, Store, StoreFault};
 use std::alloc::AllocError;
 use std::fs::File;
+use std::io::Write;
 use std::{fs, io};
 use streamed::Ending;
 
@@ -35,7 +39,32 @@ fn make_stores(rt: &HostRuntime, path: &str, notes: &mut Notes<'_>) -> Result<()
     let game = read(rt, file.game()?, notes)?;
     let config = file.config(rt.alloc(), Some(&game))?;
     let folder = file.stores()?;
+    tell_seeds(rt, &config, notes)?;
     make_files(rt, folder, &config, &game, notes)
+}
+
+/// The match of a match file, of which the first six keys are looked at, and its game file. Notes tell the keys that no command
+/// reads.
+pub(crate) fn read_config(
+    rt: &HostRuntime,
+    path: &str,
+    notes: &mut Notes<'_>,
+) -> Result<Config, Ending> {
+    let text = read(rt, path, notes)?;
+    let file = MatchFile::read(rt.alloc(), &text)?;
+    tell_unused(rt, &file, notes)?;
+    let game = read(rt, file.game()?, notes)?;
+    Ok(file.config(rt.alloc(), Some(&game))?)
+}
+
+/// Writes what `init` has for standard output: `StreamFailed` (107) where it can't be written.
+pub(crate) fn print(rt: &HostRuntime, text: &[u8]) -> Result<(), Ending> {
+    let mut output = rt.stdout();
+    match output.write_all(text) {
+        Ok(()) => Ok(()),
+        Err(error) if error.kind() == io::ErrorKind::OutOfMemory => Err(Ending::OutOfMemory),
+        Err(_) => Err(Ending::StreamFailed),
+    }
 }
 
 /// Makes the files in this folder. All places are looked at before a file is made, so that no match gets half of its
@@ -63,7 +92,7 @@ fn make_files(
     sync_folder(rt, folder, notes)
 }
 
-/// Tells the keys of a match file that no command reads.
+/// Tells the keys of a match file that no command reads, and then those in the tables of its nodes.
 pub(crate) fn tell_unused(
     rt: &HostRuntime,
     file: &MatchFile,
@@ -71,6 +100,11 @@ pub(crate) fn tell_unused(
 ) -> Result<(), AllocError> {
     for key in file.unused(rt.alloc())? {
         notes.tell_unused(key);
+    }
+    for node in 0..=GREATEST_NODE as u8 {
+        for key in file.unused_in_node(rt.alloc(), node as usize)? {
+            notes.tell_unused_in_node(node, key);
+        }
     }
     Ok(())
 }
@@ -112,12 +146,9 @@ pub(crate) fn make_store(
     (node, nodes): (u8, u8),
     notes: &mut Notes<'_>,
 ) -> Result<(), Ending> {
-    let file = match File::options()
-        .read(true)
-        .write(true)
-        .create_new(true)
-        .open(rt, path)
-    {
+    let mut options = File::options();
+    options.read(true).write(true).create_new(true);
+    let file = match Readers::Owner.open(rt, &mut options, path) {
         Ok(file) => file,
         Err(error) => return Err(unmade_file(path, &error, notes)),
     };

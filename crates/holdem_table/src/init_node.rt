@@ -7,14 +7,14 @@ use crate::earlier_store::{refuse_logs, refuse_met_peers};
 use crate::identity::difference;
 use crate::init::{make_store, read, refuse_present, sync_folder, tell_unused};
 use crate::kept_match::{kept_path, unmade_file};
-use crate::made_files::put;
+use crate::made_files::{Readers, put};
 use crate::notes::Notes;
 use dealer_kind::Config;
 use match_file::{
     Key, MatchFault, MatchFile, MatchId, NodeKept, identified_text, kept_text, node_kept_text,
     source_digest,
 };
-use match_runs::{Cause, store_path};
+use match_runs::{Cause, is_short, store_path};
 use node_runs::{NodeNote, node_kept_path};
 use std::random::RandomSource;
 use std::{fs, io};
@@ -45,7 +45,11 @@ fn make_node(rt: &HostRuntime, path: &str, node: u8, notes: &mut Notes<'_>) -> R
     let config = file.config(rt.alloc(), Some(&game))?;
     let folder = file.stores()?;
     if node as usize >= config.nodes() {
+        notes.tell_no_such_node(node, config.nodes() as u8);
         return Err(Ending::Match(MatchFault::BadEntry(Key::Node)));
+    }
+    if is_short(config.source(node as usize)) {
+        notes.tell_short_seeds(&[node]);
     }
     let store = store_path(rt.alloc(), folder, node)?;
     refuse_present(rt, store.as_str(), notes)?;
@@ -130,7 +134,7 @@ fn make_identity(
     let id = MatchId { bytes };
     let kept = kept_text(rt.alloc(), config, game)?;
     let text = identified_text(rt.alloc(), &id, &kept)?;
-    put_file(rt, folder, path, &text, notes)
+    put_file(rt, folder, path, &text, Readers::All, notes)
 }
 
 /// Makes `nodeI.kept`, with a life that is drawn here, in place of one that is there.
@@ -148,7 +152,7 @@ fn keep_node(
     let kept = NodeKept { node, life, decks };
     let path = node_kept_path(rt.alloc(), folder, node)?;
     let text = node_kept_text(rt.alloc(), &kept)?;
-    put_file(rt, folder, path.as_str(), &text, notes)
+    put_file(rt, folder, path.as_str(), &text, Readers::Owner, notes)
 }
 
 /// So many random bytes.
@@ -169,9 +173,10 @@ fn put_file(
     folder: &str,
     path: &str,
     text: &[u8],
+    readers: Readers,
     notes: &mut Notes<'_>,
 ) -> Result<(), Ending> {
-    match put(rt, folder, path, text) {
+    match put(rt, folder, path, text, readers) {
         Ok(()) => {
             notes.tell_made(path);
             Ok(())

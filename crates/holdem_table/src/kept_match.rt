@@ -1,6 +1,6 @@
 //! The file `match.kept` beside a match's stores, which says of which match they are.
 
-use crate::made_files::make;
+use crate::made_files::{Readers, make};
 use crate::notes::Notes;
 use dealer_kind::Config;
 use match_file::{Difference, kept_difference, kept_text};
@@ -26,7 +26,7 @@ pub(crate) fn keep_match(
 ) -> Result<(), Ending> {
     let path = kept_path(rt.alloc(), folder)?;
     let text = kept_text(rt.alloc(), config, game)?;
-    match make(rt, path.as_str(), &text) {
+    match make(rt, path.as_str(), &text, Readers::All) {
         Ok(()) => {
             notes.tell_made(path.as_str());
             Ok(())

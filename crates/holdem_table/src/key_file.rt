@@ -1,17 +1,18 @@
 //! The file of a match's key, which all its processes share: read by `node`, and made by `init MATCH --key FILE`.
 
-use crate::init::{read, tell_unused};
+use crate::init::read_config;
 use crate::init_node::drawn;
 use crate::kept_match::unmade_file;
-use crate::made_files::{make_secret, sync};
+use crate::made_files::{Readers, make, sync};
 use crate::notes::Notes;
-use match_file::{Key as Entry, MatchFault, MatchFile};
+use match_file::{Key as Entry, MatchFault};
 use match_runs::{Cause, Unserved};
 use node_runs::{KeyFault, NodeNote, key_text, read_key};
 use peer_codes::Key;
 use std::alloc::AllocError;
-use std::fs::File;
+use std::fs::{File, Metadata};
 use std::io::Read;
+use std::os::unix::fs::MetadataExt;
 use std::path::Path;
 use std::{fs, io};
 use streamed::Ending;
@@ -33,11 +34,11 @@ pub(crate) fn key_at(rt: &HostRuntime, path: &str, notes: &mut Notes<'_>) -> Res
 /// What a file has for a key. It is looked at before it is opened, since whoever opens a pipe waits for its other end, and
 /// once more when it is open, since by then another may stand there.
 fn key_in(rt: &HostRuntime, path: &str) -> io::Result<Result<Key, KeyFault>> {
-    if let Some(fault) = KeyFault::of(&fs::metadata(rt, path)?) {
+    if let Some(fault) = fault_of(&fs::metadata(rt, path)?) {
         return Ok(Err(fault));
     }
     let mut file = File::open(rt, path)?;
-    if let Some(fault) = KeyFault::of(&file.metadata()?) {
+    if let Some(fault) = fault_of(&file.metadata()?) {
         return Ok(Err(fault));
     }
     let mut text = Vec::new(rt.alloc());
@@ -45,6 +46,15 @@ fn key_in(rt: &HostRuntime, path: &str) -> io::Result<Result<Key, KeyFault>> {
     match read_key(&text) {
         Some(key) => Ok(Ok(key)),
         None => Ok(Err(KeyFault::NotDigits)),
+    }
+}
+
+/// Why a file isn't taken for a key's: by its kind, its rights and its length, and then by its owner, who must be the user of
+/// this process.
+fn fault_of(file: &Metadata) -> Option<KeyFault> {
+    match KeyFault::of(file) {
+        None if file.uid() != libc::geteuid() => Some(KeyFault::NotOwned),
+        fault => fault,
     }
 }
 
@@ -62,11 +72,7 @@ pub(crate) fn init_key(rt: &HostRuntime, path: &str, key: &str) -> Ending {
 
 /// The steps of it.
 fn make_key(rt: &HostRuntime, path: &str, key: &str, notes: &mut Notes<'_>) -> Result<(), Ending> {
-    let text = read(rt, path, notes)?;
-    let file = MatchFile::read(rt.alloc(), &text)?;
-    tell_unused(rt, &file, notes)?;
-    let game = read(rt, file.game()?, notes)?;
-    file.config(rt.alloc(), Some(&game))?;
+    read_config(rt, path, notes)?;
     let bytes = drawn(rt, notes)?;
     let digits = key_text(rt.alloc(), &Key { bytes })?;
     match put_key(rt, key, &digits) {
@@ -84,7 +90,7 @@ fn make_key(rt: &HostRuntime, path: &str, key: &str, notes: &mut Notes<'_>) -> R
 
 /// Makes the file of a key, and has it and its name on the disk.
 fn put_key(rt: &HostRuntime, path: &str, digits: &[u8]) -> io::Result<()> {
-    make_secret(rt, path, digits)?;
+    make(rt, path, digits, Readers::Owner)?;
     sync(rt, folder_of(path))
 }
 

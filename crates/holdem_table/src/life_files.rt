@@ -2,8 +2,9 @@
 
 use crate::identity::refused;
 use crate::kept_match::unread;
-use crate::made_files::put;
+use crate::made_files::{Readers, put};
 use crate::notes::Notes;
+use crate::open_files::tell_open_file;
 use dealer_node::NodeFault;
 use match_file::{Difference, life_text, read_life};
 use match_runs::{Cause, Unserved};
@@ -35,7 +36,7 @@ impl<'a> LifeFiles<'a> {
     }
 
     /// What is kept of each node, by number; none of a peer whose file isn't there. `OtherMatch` (109) comes where a file says
-    /// no life. A note names it, and one that can't be read.
+    /// no life. A note names it, and one that can't be read, or that others can read.
     pub(crate) fn read(
         &self,
         nodes: u8,
@@ -53,10 +54,13 @@ impl<'a> LifeFiles<'a> {
     /// The life in the file at this path.
     fn read_at(&self, path: &str, notes: &mut Notes<'_>) -> Result<Option<Life>, Unserved> {
         match fs::read(self.rt, path) {
-            Ok(text) => match read_life(&text) {
-                Some(bytes) => Ok(Some(Life { bytes })),
-                None => Err(refused(path, Difference::Unread, notes)),
-            },
+            Ok(text) => {
+                tell_open_file(self.rt, path, notes);
+                match read_life(&text) {
+                    Some(bytes) => Ok(Some(Life { bytes })),
+                    None => Err(refused(path, Difference::Unread, notes)),
+                }
+            }
             Err(error) if error.kind() == io::ErrorKind::NotFound => Ok(None),
             Err(error) => Err(unread(path, &error, notes)),
         }
@@ -66,7 +70,7 @@ impl<'a> LifeFiles<'a> {
     fn make(&self, peer: u8, life: &Life) -> io::Result<()> {
         let path = life_path(self.rt.alloc(), self.folder, self.node, peer)?;
         let text = life_text(self.rt.alloc(), &life.bytes)?;
-        put(self.rt, self.folder, path.as_str(), &text)
+        put(self.rt, self.folder, path.as_str(), &text, Readers::Owner)
     }
 
     /// Tells the file that couldn't be made, if one couldn't. It says whether there was one.

@@ -3,6 +3,7 @@
 ghost use Rattle.std.specs.Prelude.{◌≤◌};
 
 use crate::locking::locked;
+use crate::made_files::Readers;
 use crate::notes::Notes;
 use match_links::TcpLinks;
 use match_links::limits::NODES;
@@ -73,11 +74,9 @@ fn make_log(
     notes: &mut Notes<'_>,
 ) -> Result<File, Unserved> {
     let path = log_path(rt.alloc(), folder, node)?;
-    let made = File::options()
-        .read(true)
-        .append(true)
-        .create(true)
-        .open(rt, path.as_str());
+    let mut options = File::options();
+    options.read(true).append(true).create(true);
+    let made = Readers::Group.open(rt, &mut options, path.as_str());
     had(rt, made, path.as_str(), notes)
 }
 
@@ -233,11 +232,9 @@ impl LogPlace<'_> {
             Ok(()) => {}
             Err(error) => return Err(no_log(kept.as_str(), &error, notes)),
         }
-        let made = File::options()
-            .read(true)
-            .append(true)
-            .create_new(true)
-            .open(self.rt, path);
+        let mut options = File::options();
+        options.read(true).append(true).create_new(true);
+        let made = Readers::Group.open(self.rt, &mut options, path);
         had(self.rt, made, path, notes)
     }
 }

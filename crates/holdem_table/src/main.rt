@@ -1,5 +1,5 @@
 //! The program `holdem_table`: `hand` runs one dealer over a script, `play` all nodes of a match, `check` checks the log
-//! of a match, `init` makes the stores of a match's nodes, or its key, `serve` deals it to seats over TCP, `node` runs one of its
+//! of a match, `init` makes the stores of a match's nodes, its key, tokens or seeds, `serve` deals it to seats over TCP, `node` runs one of its
 //! nodes in a process of its own, and `relay` stands between these and a bot that dials once.
 #![tactic(auto)]
 
@@ -18,11 +18,14 @@ mod log_files;
 mod made_files;
 mod node;
 mod notes;
+mod open_files;
 mod own_logs;
 mod relay;
 mod relay_notes;
+mod seeds;
 mod serve;
 mod store_files;
+mod token_files;
 mod utc;
 mod whole_file;
 
@@ -36,7 +39,9 @@ use crate::key_file::init_key;
 use crate::late_file::LateFile;
 use crate::node::node;
 use crate::relay::relay;
+use crate::seeds::init_seeds;
 use crate::serve::serve;
+use crate::token_files::init_tokens;
 use crate::whole_file::read_file;
 use clap::error::ErrorKind;
 use clap::{ArgMatches, Error};
@@ -119,13 +124,15 @@ fn run_requested(rt: &HostRuntime, matches: &ArgMatches<'_>) -> ExitCode {
     }
 }
 
-/// Runs `init`: for all nodes, for one, or for the key.
+/// Runs `init`: for all nodes, for one, for the key, for tokens, or for seeds.
 fn make(rt: &HostRuntime, arguments: InitArguments<'_>) -> Ending {
     let InitArguments { path, made } = arguments;
     match made {
         Made::Stores => init(rt, path),
         Made::Store(node) => init_node(rt, path, node),
         Made::Key(key) => init_key(rt, path, key),
+        Made::Tokens(folder) => init_tokens(rt, path, folder),
+        Made::Seeds { is_one_for_all } => init_seeds(rt, path, is_one_for_all),
     }
 }
 

@@ -2,7 +2,8 @@
 
 use crate::utc::Utc;
 use match_runs::{
-    Cause, tell_file, tell_made, tell_not_kept, tell_port, tell_unlocked, tell_unused,
+    Cause, tell_file, tell_made, tell_no_such_node, tell_not_kept, tell_open, tell_port,
+    tell_short_seeds, tell_unlocked, tell_unused, tell_unused_in_node,
 };
 use node_runs::{NodeNote, tell_node_note};
 use std::io;
@@ -40,6 +41,26 @@ impl<'a> Notes<'a> {
     /// Tells a key of the match file that no command reads.
     pub(crate) fn tell_unused(&mut self, key: &str) {
         tell_unused(self.rt.alloc(), key, self);
+    }
+
+    /// Tells a key in the table of a node that no command reads.
+    pub(crate) fn tell_unused_in_node(&mut self, node: u8, key: &str) {
+        tell_unused_in_node(self.rt.alloc(), node, key, self);
+    }
+
+    /// Tells a file that others than its owner may use, though it has what they may not see.
+    pub(crate) fn tell_open(&mut self, path: &str) {
+        tell_open(self.rt.alloc(), path, self);
+    }
+
+    /// Tells the nodes whose seeds are so small that each can be tried.
+    pub(crate) fn tell_short_seeds(&mut self, nodes: &[u8]) {
+        tell_short_seeds(self.rt.alloc(), nodes, self);
+    }
+
+    /// Tells that the match has no node of this number, but so many.
+    pub(crate) fn tell_no_such_node(&mut self, node: u8, nodes: u8) {
+        tell_no_such_node(self.rt.alloc(), node, nodes, self);
     }
 
     /// Tells a file that was made.

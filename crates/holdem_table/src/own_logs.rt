@@ -3,7 +3,7 @@
 use crate::identity::refused;
 use crate::kept_match::unread;
 use crate::log_files::{newest_kept, no_log};
-use crate::made_files::put;
+use crate::made_files::{Readers, put};
 use crate::notes::Notes;
 use match_file::{Difference, LogsKept, logs_kept_text, read_logs_kept};
 use match_runs::{Unserved, kept_log_path};
@@ -68,7 +68,7 @@ impl OwnLogs<'_> {
         let path = logs_kept_path(self.rt.alloc(), self.folder, self.node)?;
         let life = self.life.bytes;
         let text = logs_kept_text(self.rt.alloc(), &LogsKept { life, first })?;
-        match put(self.rt, self.folder, path.as_str(), &text) {
+        match put(self.rt, self.folder, path.as_str(), &text, Readers::All) {
             Ok(()) => Ok(()),
             Err(error) => Err(no_log(path.as_str(), &error, notes)),
         }

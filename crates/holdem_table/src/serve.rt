@@ -8,6 +8,8 @@ use crate::init::tell_unused;
 use crate::kept_match::{compare_kept, unread};
 use crate::log_files::{add_logs, open_logs};
 use crate::notes::Notes;
+use crate::open_files::tell_open_file;
+use crate::seeds::tell_seeds;
 use crate::store_files::{cause, open_stores};
 use dealer_kind::Config;
 use dealer_node::NodeFault;
@@ -36,7 +38,8 @@ type TcpServer<'a> = Server<FileDisk, TcpLinks<'a>>;
 /// `Match`, `Unreadable`, `OtherMatch` or `StoreInUse` (status 2) comes where the match file is refused, where it, its
 /// game or a store file can't be read, where the stores are of another match, or where one is in use; else it is `Done`,
 /// once the match is over. What else comes, want of memory too, is the fault of the server (status 1). Notes go to standard
-/// error, one a line; the one before a fault names its port or file, where it has one.
+/// error, one a line; the one before a fault names its port or file, where it has one. Others name seeds that can be guessed, and
+/// the match file and stores where others can read them.
 pub(crate) fn serve(rt: &HostRuntime, arguments: ServeArguments<'_>) -> Conclusion
     ensures { IsOfServe result }
 {
@@ -50,6 +53,7 @@ pub(crate) fn serve(rt: &HostRuntime, arguments: ServeArguments<'_>) -> Conclusi
 /// The steps of it, up to the first that fails: what is looked at comes before what is changed.
 fn serve_match(rt: &HostRuntime, path: &str, notes: &mut Notes<'_>) -> Result<(), Unserved> {
     let text = read(rt, path, notes)?;
+    tell_open_file(rt, path, notes);
     let file = MatchFile::read(rt.alloc(), &text)?;
     tell_unused(rt, &file, notes)?;
     serve_file(rt, &file, notes)
@@ -59,6 +63,7 @@ fn serve_match(rt: &HostRuntime, path: &str, notes: &mut Notes<'_>) -> Result<()
 /// long as the match is served.
 fn serve_file(rt: &HostRuntime, file: &MatchFile, notes: &mut Notes<'_>) -> Result<(), Unserved> {
     let config = configure(rt, file, notes)?;
+    tell_seeds(rt, &config, notes)?;
     let service = file.service(rt.alloc(), config.nodes())?;
     let (stores, logs) = (service.stores, service.logs);
     let ports = seat_ports(&config, service.port);

@@ -5,6 +5,7 @@ ghost use Rattle.std.specs.Prelude.{◌≡◌, ◌≤◌, IfOk, length};
 use crate::kept_match::unread;
 use crate::locking::{locked, surely_locked};
 use crate::notes::Notes;
+use crate::open_files::tell_open_file;
 use dealer_node::NodeFault;
 use match_links::limits::NODES;
 use match_runs::{Cause, Unserved, store_path};
@@ -82,7 +83,7 @@ fn no_store(path: &str, error: &io::Error, notes: &mut Notes<'_>) -> Unserved {
     unread(path, error, notes)
 }
 
-/// The disk of a file that has a store of this node of so many. A note names one that hasn't.
+/// The disk of a file that has a store of this node of so many. A note names one that hasn't, and one that others can read.
 fn look_at_store(
     rt: &HostRuntime,
     file: File,
@@ -90,6 +91,7 @@ fn look_at_store(
     (node, nodes): (u8, u8),
     notes: &mut Notes<'_>,
 ) -> Result<FileDisk, Unserved> {
+    tell_open_file(rt, path, notes);
     match Store::look(rt.alloc(), FileDisk::new(file), node, nodes) {
         Ok(disk) => Ok(disk),
         Err((_, StoreFault::OutOfMemory)) => Err(Unserved::from(AllocError)),

@@ -1,5 +1,5 @@
 -- The notes and conclusions of `serve`, written out.
-use Rattle.std.proofs.Common.{◌≡◌, ℕ, zero, suc, List, [], ◌∷◌, ◌++◌, inl, inr, refl, sym, subst, arith}
+use Rattle.std.proofs.Common.{◌≡◌, ℕ, zero, suc, ◌+◌, ◌-◌, ◌^◌, List, [], ◌∷◌, ◌++◌, inl, inr, refl, sym, subst, arith}
 use Rattle.std.specs.Prelude.{codes, true, false, Option, Some, None, Ok, Err}
 use Rattle.std.specs.Fmt.{digits}
 use Rattle.std.specs.List.{flat_map}
@@ -13,8 +13,10 @@ use Rattle.serving.specs.declared.serve_fault.ServeFault.TheVariants as serve
 use Rattle.serving.specs.declared.turn.Turn.TheVariants as turn
 use Rattle.serving.specs.declared.turn.Turn.TheVariants.{Over}
 use Rattle.std.specs.declared.io.ErrorKind.TheVariants as kind
-use Rattle.match_runs.specs.declared.cause.Cause.TheVariants.{InUse, NoRoom, Failed, Unknown}
+use Rattle.match_runs.specs.declared.cause.Cause.TheVariants.{InUse, NotHere, NoRoom, Failed, Unknown}
 use Rattle.match_runs.specs.Causes.{cause_of}
+use Rattle.dealer_kind.specs.declared.source.Source.TheVariants.{Seed}
+use Rattle.match_runs.specs.Seeds.{drawn_seed, short_seeds}
 use Rattle.match_runs.specs.declared.note.About.TheVariants.{Seated, Gone, Played, WrongToken, Faulty}
 use Rattle.match_runs.specs.declared.note.Note.TheVariants as note
 use Rattle.match_runs.specs.declared.conclusion.Conclusion.TheVariants.{Ended, Served}
@@ -115,6 +117,25 @@ a_port_is_named_alone = refl
 
 no_match_is_kept : note_text note.NotKept ≡ codes "no match.kept: whether the stores are of this match can't be told"
 no_match_is_kept = refl
+
+there_is_no_such_node : note_text (note.NoSuchNode 3 3) ≡ codes "node 3: the match has 3 nodes, counted from 0"
+unfolding digits
+there_is_no_such_node = refl
+
+no_seed_is_short : short_seeds (Seed (2 ^ 55) ∷ Seed (2 ^ 63 - 1) ∷ []) ≡ []
+no_seed_is_short = refl
+
+two_seeds_are_short : short_seeds (Seed 4711 ∷ Seed (2 ^ 55) ∷ Seed (2 ^ 55 - 1) ∷ []) ≡ 0 ∷ 2 ∷ []
+two_seeds_are_short = refl
+
+the_least_seed : drawn_seed (0 ∷ 0 ∷ 0 ∷ 0 ∷ 0 ∷ 0 ∷ 0 ∷ 0 ∷ 0 ∷ 0 ∷ 0 ∷ 0 ∷ 0 ∷ 0 ∷ 0 ∷ 0 ∷ []) ≡ 2 ^ 55
+the_least_seed = refl
+
+another_seed : drawn_seed (7 ∷ 1 ∷ 0 ∷ 0 ∷ 0 ∷ 0 ∷ 0 ∷ 0 ∷ 0 ∷ 0 ∷ 0 ∷ 0 ∷ 0 ∷ 0 ∷ 0 ∷ 0 ∷ []) ≡ 2 ^ 55 + 263
+another_seed = refl
+
+an_address_is_elsewhere : cause_of kind.AddrNotAvailable ≡ NotHere
+an_address_is_elsewhere = refl
 
 a_lock_is_held : cause_of kind.WouldBlock ≡ InUse
 a_lock_is_held = refl

@@ -7,6 +7,7 @@ pub mod Conclusion
 pub mod Causes
 pub mod Notes
 pub mod SeatLines
+pub mod Seeds
 pub mod Refusals
 pub mod Score
 pub mod Passing

@@ -1,5 +1,6 @@
 -- The notes of `serve`, and what standard error has of one.
 use Rattle.std.specs.Prelude.{◌≡◌, ℕ, zero, suc, ◌+◌, ◌-◌, ◌*◌, ◌%◌, ◌==◌, ◌||◌, nat_lt, Bool, true, false, if◌then◌else◌, List, [], ◌∷◌, ◌++◌, Option, Some, None, codes, decimal, slice_get, get_or}
+use Rattle.std.specs.List.{flat_map}
 use Rattle.std.specs.Io.KnownBytes.{Appends, Keeps}
 use Rattle.seat_session.specs.Fault.{fault_text}
 use Rattle.seat_session.specs.declared.session_fault.SessionFault.{SessionFault}
@@ -94,6 +95,10 @@ note_text (note.Port port cause) = codes "port " ++ decimal port ++ cause_text c
 note_text (note.File path cause) = path.now ++ cause_text cause
 note_text (note.Unlocked path) = path.now ++ codes ": the system gives no locks"
 note_text (note.Unused key) = codes "key " ++ key.now ++ codes " isn't used"
+note_text (note.UnusedInNode node key) = codes "key " ++ key.now ++ codes " of node " ++ decimal node ++ codes " isn't used"
+note_text (note.Open path) = path.now ++ codes ": open to others than its owner"
+note_text (note.ShortSeeds nodes) = codes "seeds below 2^55 can be guessed from one hand: of node" ++ flat_map port_text nodes.now
+note_text (note.NoSuchNode node nodes) = codes "node " ++ decimal node ++ codes ": the match has " ++ decimal nodes ++ codes " nodes, counted from 0"
 note_text (note.Made path) = codes "made " ++ path.now
 note_text note.NotKept = codes "no match.kept: whether the stores are of this match can't be told"
 note_text (note.Score line) = line.now

@@ -8,6 +8,8 @@ use std::io::ErrorKind;
 pub enum Cause {
     /// The address is taken, or another process holds a lock on the file.
     InUse,
+    /// The address is none of this machine.
+    NotHere,
     /// There is no such file or folder.
     NotFound,
     /// This user may not have it.
@@ -31,6 +33,7 @@ impl Cause {
     {
         match kind {
             ErrorKind::AddrInUse | ErrorKind::WouldBlock => Cause::InUse,
+            ErrorKind::AddrNotAvailable => Cause::NotHere,
             ErrorKind::NotFound => Cause::NotFound,
             ErrorKind::PermissionDenied => Cause::NoPermission,
             ErrorKind::StorageFull | ErrorKind::QuotaExceeded => Cause::NoRoom,
@@ -46,6 +49,7 @@ impl Cause {
     {
         match self {
             Cause::InUse => ": in use",
+            Cause::NotHere => ": not an address of this machine",
             Cause::NotFound => ": not found",
             Cause::NoPermission => ": no permission",
             Cause::NoRoom => ": no room",

@@ -1,8 +1,9 @@
-//! The notes of files and ports. A program tells them that makes a match's stores, or serves it.
+//! The notes of files, ports and the match file. A program tells them that makes a match's stores, or serves it.
 
 ghost use Rattle.std.specs.Prelude.{◌++◌, ◌∷◌, [], codes, decimal};
+ghost use Rattle.std.specs.List.{flat_map};
 ghost use Rattle.match_runs.specs.Causes.{cause_text};
-ghost use Rattle.match_runs.specs.Notes.{IsNoted, note_line};
+ghost use Rattle.match_runs.specs.Notes.{IsNoted, note_line, port_text};
 ghost use Rattle.match_runs.specs.declared.note.Note.TheVariants.{NotKept};
 
 use crate::cause::Cause;
@@ -36,6 +37,34 @@ pub fn tell_unused<W: Write>(alloc: Global, key: &str, notes: &mut W)
     ensures { IsNoted ((codes "key " ++ key.now ++ codes " isn't used") ++ 10 ∷ []) (W.contents notes.old) (W.contents notes.new) }
 {
     tell_note(alloc, notes, &Note::Unused(key));
+}
+
+/// Tells a key in the table of a node that no command reads.
+pub fn tell_unused_in_node<W: Write>(alloc: Global, node: u8, key: &str, notes: &mut W)
+    ensures { IsNoted ((codes "key " ++ key.now ++ codes " of node " ++ decimal node ++ codes " isn't used") ++ 10 ∷ []) (W.contents notes.old) (W.contents notes.new) }
+{
+    tell_note(alloc, notes, &Note::UnusedInNode(node, key));
+}
+
+/// Tells a file that others than its owner may use, though it has what they may not see.
+pub fn tell_open<W: Write>(alloc: Global, path: &str, notes: &mut W)
+    ensures { IsNoted ((path.now ++ codes ": open to others than its owner") ++ 10 ∷ []) (W.contents notes.old) (W.contents notes.new) }
+{
+    tell_note(alloc, notes, &Note::Open(path));
+}
+
+/// Tells that the seeds of these nodes are so small that each can be tried.
+pub fn tell_short_seeds<W: Write>(alloc: Global, nodes: &[u8], notes: &mut W)
+    ensures { IsNoted ((codes "seeds below 2^55 can be guessed from one hand: of node" ++ flat_map port_text nodes.now) ++ 10 ∷ []) (W.contents notes.old) (W.contents notes.new) }
+{
+    tell_note(alloc, notes, &Note::ShortSeeds(nodes));
+}
+
+/// Tells that the match has no node of this number, but so many.
+pub fn tell_no_such_node<W: Write>(alloc: Global, node: u8, nodes: u8, notes: &mut W)
+    ensures { IsNoted ((codes "node " ++ decimal node ++ codes ": the match has " ++ decimal nodes ++ codes " nodes, counted from 0") ++ 10 ∷ []) (W.contents notes.old) (W.contents notes.new) }
+{
+    tell_note(alloc, notes, &Note::NoSuchNode { node, nodes });
 }
 
 /// Tells a file that was made.

@@ -1,6 +1,7 @@
 //! The notes of `serve`: what standard error gets while a match is served, one line each.
 
 ghost use Rattle.std.specs.Prelude.{◌≡◌, ◌++◌, codes, decimal, OnOk};
+ghost use Rattle.std.specs.List.{flat_map};
 ghost use Rattle.dealer_node.specs.FaultText.{fault_text};
 ghost use Rattle.match_runs.specs.Notes.{IsNoted, seat_text, port_text, ports_text, place_text, node_text, faulty_text, played_text, refused_text, late_text, there_text, times_text, about_text, note_text, note_line};
 ghost use Rattle.match_runs.specs.Causes.{cause_text};
@@ -99,6 +100,17 @@ pub enum Note<'a> {
     Unlocked(&'a str),
     /// A key of the match file that no command reads.
     Unused(&'a str),
+    /// A key in the table of a node that no command reads.
+    UnusedInNode(u8, &'a str),
+    /// A file that others than its owner may use, though it has what they may not see.
+    Open(&'a str),
+    /// The seeds of these nodes are so small that each can be tried.
+    ShortSeeds(&'a [u8]),
+    /// The match has so many nodes, and none of the number that was asked for.
+    NoSuchNode {
+        node: u8,
+        nodes: u8,
+    },
     /// This file was made.
     Made(&'a str),
     /// There are stores, and nothing beside them says of which match they are.
@@ -133,8 +145,8 @@ fn put_line(out: &mut Vec<u8>, note: &Note<'_>) -> Result<(), AllocError>
     out.extend_from_slice(b"\n")
 }
 
-/// Appends a note.
-fn put_note(out: &mut Vec<u8>, note: &Note<'_>) -> Result<(), AllocError>
+/// Appends a note, without a line feed. Without memory a beginning of it may stand there.
+pub fn put_note(out: &mut Vec<u8>, note: &Note<'_>) -> Result<(), AllocError>
     ensures { OnOk result (out.new.items ≡ out.old.items ++ note_text note.now) }
 {
     match note {
@@ -168,6 +180,10 @@ fn put_note(out: &mut Vec<u8>, note: &Note<'_>) -> Result<(), AllocError>
         Note::File(path, cause) => put_both(out, path, cause.text()),
         Note::Unlocked(path) => put_both(out, path, ": the system gives no locks"),
         Note::Unused(key) => put_unused(out, key),
+        Note::UnusedInNode(node, key) => put_unused_in_node(out, *node, key),
+        Note::Open(path) => put_both(out, path, ": open to others than its owner"),
+        Note::ShortSeeds(nodes) => put_short_seeds(out, nodes),
+        Note::NoSuchNode { node, nodes } => put_no_such_node(out, *node, *nodes),
         Note::Made(path) => put_both(out, "made ", path),
         Note::NotKept => out.extend_from_slice(
             b"no match.kept: whether the stores are of this match can't be told",
@@ -245,6 +261,50 @@ fn put_unused(out: &mut Vec<u8>, key: &str) -> Result<(), AllocError>
     out.extend_from_slice(b"key ")?;
     out.extend_from_slice(key.as_bytes())?;
     out.extend_from_slice(b" isn't used")
+}
+
+/// Appends that a key of a node's table isn't used.
+fn put_unused_in_node(out: &mut Vec<u8>, node: u8, key: &str) -> Result<(), AllocError>
+    ensures { OnOk result (out.new.items ≡ out.old.items ++ (codes "key " ++ key.now ++ codes " of node " ++ decimal node ++ codes " isn't used")) }
+{
+    put_both(out, "key ", key)?;
+    put_unused_of(out, node)
+}
+
+/// Appends that what stands in front isn't used of a node.
+fn put_unused_of(out: &mut Vec<u8>, node: u8) -> Result<(), AllocError>
+    ensures { OnOk result (out.new.items ≡ out.old.items ++ (codes " of node " ++ decimal node ++ codes " isn't used")) }
+{
+    let text = format!(in *out.allocator(); " of node {node} isn't used")?;
+    out.extend_from_slice(text.as_bytes())
+}
+
+/// Appends that a match has no node of this number, but so many.
+fn put_no_such_node(out: &mut Vec<u8>, node: u8, nodes: u8) -> Result<(), AllocError>
+    ensures { OnOk result (out.new.items ≡ out.old.items ++ (codes "node " ++ decimal node ++ codes ": the match has " ++ decimal nodes ++ codes " nodes, counted from 0")) }
+{
+    let text = format!(in *out.allocator();
+        "node {node}: the match has {nodes} nodes, counted from 0"
+    )?;
+    out.extend_from_slice(text.as_bytes())
+}
+
+/// Appends that the seeds of these nodes are short.
+fn put_short_seeds(out: &mut Vec<u8>, nodes: &[u8]) -> Result<(), AllocError>
+    ensures { OnOk result (out.new.items ≡ out.old.items ++ (codes "seeds below 2^55 can be guessed from one hand: of node" ++ flat_map port_text nodes.now)) }
+{
+    out.extend_from_slice(b"seeds below 2^55 can be guessed from one hand: of node")?;
+    put_numbers(out, nodes)
+}
+
+/// Appends numbers, each behind a space.
+fn put_numbers(out: &mut Vec<u8>, numbers: &[u8]) -> Result<(), AllocError>
+    ensures { OnOk result (out.new.items ≡ out.old.items ++ flat_map port_text numbers.now) }
+{
+    for number in numbers {
+        put_port(out, *number as u32)?;
+    }
+    Ok(())
 }
 
 /// Appends one text behind another.

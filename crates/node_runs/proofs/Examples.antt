@@ -7,7 +7,7 @@ use Rattle.std.specs.declared.net.ip_addr.IpAddr.TheVariants.{V4}
 use Rattle.std.specs.declared.net.ipv4_addr.Ipv4Addr.{Ipv4Addr}
 use Rattle.std.specs.Fs.{metadata_len, metadata_mode}
 use Rattle.std.specs.declared.fs.attrs.Metadata.{Metadata}
-use Rattle.hex.specs.Hex.{decode_pairs}
+use Rattle.hex.specs.Hex.{decode_pairs, encode_with}
 use Rattle.hex.specs.declared.error.FromHexError.TheVariants.{InvalidHexCharacter, InvalidStringLength, OddLength}
 use Rattle.peer_codes.specs.declared.fault.RecordFault.TheVariants.{BadHello, BadLength}
 use Rattle.node_links.specs.declared.peer_fault.PeerFault.TheVariants.{Record, AlreadyHere, StoreReplaced as NotTheStore}
@@ -23,8 +23,13 @@ use Rattle.node_runs.specs.BesideStore.{node_kept_name, life_name, logs_kept_nam
 use Rattle.node_runs.specs.KeyFiles.{fault_of, keyed}
 use Rattle.node_runs.specs.KeptLogs.{BeginsWell, ArePrintable, GoesOn}
 use Rattle.node_runs.specs.NodeNotes.{note_text, note_line}
+use Rattle.node_runs.specs.Tokens.{tokens_line}
 use Rattle.node_runs.specs.NodeEnds.{status_of, end_text}
+use Rattle.node_runs.specs.NoteGroups.{group_of, most_of, others}
+use Rattle.node_runs.specs.NoteLimits.{IsAtMost, is_of, lines_within, sum_of}
 use Rattle.node_runs.specs.ServerNotes.{notice_lines}
+use Rattle.node_runs.specs.declared.note_limits.Count.{Count}
+use Rattle.seat_session.specs.declared.session_fault.SessionFault.TheVariants.{LineTooLong}
 use Rattle.node_runs.specs.declared.key_file.KeyFault.TheVariants as key
 use Rattle.node_runs.specs.declared.node_end.NodeEnd.{NodeEnd}
 use Rattle.node_runs.specs.declared.node_end.NodeEnd.TheVariants as end
@@ -112,6 +117,15 @@ three_callers : note_text (note.Callers 3 (Record BadLength)) ≡ codes "caller:
 unfolding digits
 three_callers = refl
 
+a_token_is_known : note_text (note.KnownToken 1) ≡ codes "token of seat 1 is an example's: draw another"
+unfolding digits
+a_token_is_known = refl
+
+-- two digests stand in quotes, with a comma between them
+two_tokens : tokens_line ((16 ∷ 175 ∷ []) ∷ (1 ∷ []) ∷ []) ≡ codes "tokens = [\"10af\", \"01\"]\n"
+unfolding encode_with
+two_tokens = refl
+
 -- ---- kept logs
 
 -- the line of a hand begins well, and one of blanks doesn't; a byte 0 isn't printable, a blank is
@@ -189,3 +203,49 @@ bob_is_waited_for = refl
 -- of a seat that there isn't nothing is told
 no_seat_2 : notice_lines names 1 7010 (told.Left 2) ≡ []
 no_seat_2 = refl
+
+-- ---- groups
+
+wrong_lines_of_bob : group_of (told.Faulty 1 LineTooLong) ≡ 11
+wrong_lines_of_bob = refl
+
+last_seat : group_of (told.Ordered 9) ≡ 99
+last_seat = refl
+
+no_seat_10 : group_of (told.Seated 10) ≡ others
+no_seat_10 = refl
+
+callers_by_120 : group_of (told.Callers 3 (Record BadLength)) ≡ 100
+callers_by_120 = refl
+
+callers_by_128 : group_of (told.Callers 1 AlreadyHere) ≡ 108
+callers_by_128 = refl
+
+gone_peer_6 : group_of (told.Gone 6) ≡ 123
+gone_peer_6 = refl
+
+-- ten lines a second of refused answers, one of lines that are none
+ten_of_85 : most_of 15 ≡ 10
+ten_of_85 = refl
+
+one_of_82 : most_of 12 ≡ 1
+one_of_82 = refl
+
+-- ---- how many notes are told
+
+abbrev a_line : ℕ → ℕ → Count
+a_line time group = record { time = time; group = group; count = 1 }
+
+-- two lines of one group that lie a second apart are in no second together, and two that lie less apart are
+a_second_apart : lines_within 5 (is_of 1) (a_line 5 1 ∷ a_line 1000005 1 ∷ []) ≡ 1
+a_second_apart = refl
+
+less_apart : lines_within 5 (is_of 1) (a_line 5 1 ∷ a_line 1000004 1 ∷ []) ≡ 2
+less_apart = refl
+
+twice_in_a_second : ¬ (IsAtMost 1 (is_of 1) (a_line 5 1 ∷ a_line 1000004 1 ∷ []))
+twice_in_a_second few = let e = few 5 in omega (arith, e)
+
+-- what came of a group, and of no other
+five_of_group_1 : sum_of 1 (record { time = 5; group = 1; count = 2 } ∷ record { time = 5; group = 2; count = 9 } ∷ record { time = 6; group = 1; count = 3 } ∷ []) ≡ 5
+five_of_group_1 = refl

@@ -4,3 +4,5 @@ pub mod Feeds
 pub mod Runs
 pub mod CountedLines
 pub mod OneLog
+pub mod Counting
+pub mod Accounts

@@ -13,9 +13,10 @@ use Rattle.stations.specs.Stations.{Look}
 use Rattle.match_runs.specs.Notes.{AreNoted}
 use Rattle.node_service.specs.Going.{GoesOn as WentOn, TurnsAreOne}
 use Rattle.node_service.specs.Served.{Served}
-use Rattle.node_service.specs.Ending.{is_well, IsOverAt}
+use Rattle.node_service.specs.Ending.{is_well, IsFault, IsOverAt}
+use Rattle.node_service.specs.Meaning.{IsMeant, IsKnownEverywhere}
 use Rattle.node_service.specs.Company.{IsShown, AreShown, ShownStays}
-use Rattle.node_service.specs.Serving.{served_of, told_in}
+use Rattle.node_service.specs.Serving.{served_of, told_in, outcome_in}
 use Rattle.node_service.specs.declared.outcome.Outcome.{Outcome}
 use Rattle.node_service.specs.declared.outcome.Outcome.TheVariants as leaves
 use Rattle.node_service.specs.declared.server.NodeServer.{NodeServer}
@@ -88,12 +89,13 @@ module _ {D W : Type 0} {disk : Ghosts D} {wire : OfWire W} where
     pub log : is_well outcome ≡ true → (served_of now).log_failed ≡ false
     pub over : outcome ≡ leaves.Over → IsOverAt disk (served_of now).look.node
     pub shown : AreShown (served_of now).own (served_of now).lines told
+    pub further : outcome ≡ leaves.GoesOn → outcome_in now ≡ leaves.GoesOn
 
   module _ {K : Type 0} (kept : K → ℕ → Life → K → Type 0) (port : ℕ) (started : NodeServer D W disk wire) (first : Outcome) (start : Option (List ℕ)) (lives_first : K) where
     -- nothing is done yet
     pub begun : (is_well first ≡ true → (served_of started).log_failed ≡ false) → (first ≡ leaves.Over → IsOverAt disk (served_of started).look.node)
-        → SoFar kept port started first start lives_first started first 0 start lives_first
-    begun log over = record {
+        → (first ≡ leaves.GoesOn → outcome_in started ≡ leaves.GoesOn) → SoFar kept port started first start lives_first started first 0 start lives_first
+    begun log over further = record {
       count = 0;
       told = [];
       last = started;
@@ -107,14 +109,15 @@ module _ {D W : Type 0} {disk : Ghosts D} {wire : OfWire W} where
       log = log;
       over = over;
       shown = tt;
+      further = further;
     }
 
     -- one thing more was told
     pub told_one : ShownStays → (now next : NodeServer D W disk wire) (outcome : Outcome) (steps : ℕ) (thing : ServerNotice) (held held_after : Option (List ℕ)) (lives lives_after : K)
         → SoFar kept port started first start lives_first now outcome steps held lives → told_in now ≡ thing ∷ told_in next → served_of next ≡ served_of now
-        → TellsOne kept (served_of next).look port thing held held_after lives lives_after → IsShown (served_of now).own (served_of now).lines thing
+        → outcome_in next ≡ outcome_in now → TellsOne kept (served_of next).look port thing held held_after lives lives_after → IsShown (served_of now).own (served_of now).lines thing
         → SoFar kept port started first start lives_first next outcome (steps + 1) held_after lives_after
-    told_one law now next outcome steps thing held held_after lives lives_after so is same one shown = record {
+    told_one law now next outcome steps thing held held_after lives lives_after so is same stays one shown = record {
       count = so.count;
       told = so.told ++ thing ∷ [];
       last = so.last;
@@ -132,6 +135,7 @@ module _ {D W : Type 0} {disk : Ghosts D} {wire : OfWire W} where
       over = λ ends. subst (λ (s : Served (Node D)). IsOverAt disk s.look.node) (sym same) (so.over ends);
       shown = subst (λ (s : Served (Node D)). AreShown s.own s.lines (so.told ++ thing ∷ [])) (sym same)
           (law.and_one (served_of now).own (served_of now).lines so.told thing so.shown shown);
+      further = λ on. stays ∙ so.further on;
     }
 
     -- one turn more was taken
@@ -139,8 +143,10 @@ module _ {D W : Type 0} {disk : Ghosts D} {wire : OfWire W} where
         → SoFar kept port started first start lives_first now before steps held lives → end_of before ≡ None → told_in now ≡ [] → served_of emptied ≡ served_of now
         → WentOn disk [] (served_of emptied) (served_of next) → (is_well outcome ≡ true → (served_of next).log_failed ≡ false)
         → (outcome ≡ leaves.Over → IsOverAt disk (served_of next).look.node)
-        → SoFar kept port started first start lives_first next outcome (steps + 1) held lives
-    turned law shown now emptied next before outcome steps held lives so on is same goes log over =
+        → outcome_in emptied ≡ outcome_in now → (outcome ≡ leaves.GoesOn → outcome_in next ≡ leaves.GoesOn) → (outcome_in emptied ≡ leaves.GoesOn → outcome ≡ leaves.Over → IsKnownEverywhere next next.left)
+        → (outcome_in emptied ≡ leaves.GoesOn → IsFault outcome → IsMeant next outcome) → SoFar kept port started first start lives_first next outcome (steps + 1) held lives
+    turned law shown now emptied next before outcome steps held lives so on is same goes log over stays further known fault =
+        let going : outcome_in emptied ≡ leaves.GoesOn = stays ∙ so.further (goes_on_only before on) in
         let onwards : WentOn disk [] (served_of now) (served_of next) = subst (λ (s : Served (Node D)). WentOn disk [] s (served_of next)) same goes in
         record {
           count = so.count + 1;
@@ -150,7 +156,7 @@ module _ {D W : Type 0} {disk : Ghosts D} {wire : OfWire W} where
               (subst (λ (o : Outcome). Turns started first so.count so.told o so.last) (goes_on_only before on)
               (subst (λ (l : List ServerNotice). Turns started first so.count l before so.last) (append-nil so.told)
               (subst (λ (l : List ServerNotice). Turns started first so.count (so.told ++ l) before so.last) is so.turns)))
-              (subst (λ (s : Served (Node D)). WentOn disk [] s (served_of next)) so.served onwards);
+              (subst (λ (s : Served (Node D)). WentOn disk [] s (served_of next)) so.served onwards) (record { known = known going; fault = fault going });
           served = refl;
           noted = so.noted;
           counted = let counted = so.counted in omega (arith, counted);
@@ -160,6 +166,7 @@ module _ {D W : Type 0} {disk : Ghosts D} {wire : OfWire W} where
           log = log;
           over = over;
           shown = shown.on (served_of now).own (served_of next).own (served_of now).lines (served_of next).lines so.told onwards.hears so.shown;
+          further = further;
         }
 
     -- how it ends: by a turn

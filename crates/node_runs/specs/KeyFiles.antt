@@ -5,7 +5,7 @@ use Rattle.std.specs.declared.fs.attrs.Metadata.{Metadata}
 use Rattle.hex.specs.Hex.{decode_sized}
 use Rattle.hex.specs.declared.error.FromHexError.{FromHexError}
 use Rattle.node_runs.specs.declared.key_file.KeyFault.{KeyFault}
-use Rattle.node_runs.specs.declared.key_file.KeyFault.TheVariants.{NotAFile, NotSecret, NotDigits}
+use Rattle.node_runs.specs.declared.key_file.KeyFault.TheVariants.{NotAFile, NotSecret, NotOwned, NotDigits}
 
 -- why a file is none of a key: it is no regular file, its group or others have a right, or it is longer than 64 digits and a line feed
 abbrev pub fault_of : Metadata → Option KeyFault
@@ -28,4 +28,5 @@ keyed text = decode_sized (without_feed text) 32
 abbrev pub fault_line : KeyFault → List ℕ
 fault_line NotAFile = codes ": not a regular file"
 fault_line NotSecret = codes ": open to others than its owner"
+fault_line NotOwned = codes ": of another user"
 fault_line NotDigits = codes ": not 64 hexadecimal digits"

@@ -3,6 +3,10 @@ pub mod KeyFiles
 pub mod KeptLogs
 pub mod NodeNotes
 pub mod NodeEnds
+pub mod NoteGroups
+pub mod NoteLimits
+pub mod NoteSteps
 pub mod ServerNotes
 pub mod Running
 pub mod OneLog
+pub mod Tokens

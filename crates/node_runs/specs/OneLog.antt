@@ -1,5 +1,5 @@
 -- What the log of a node's process gets.
-use Rattle.std.specs.Prelude.{◌≡◌, ℕ, List, ◌++◌}
+use Rattle.std.specs.Prelude.{◌≡◌, ◌⊎◌, ℕ, List, [], ◌++◌}
 use Rattle.promise_store.specs.declared.disk.Disk.{Ghosts}
 use Rattle.match_log.specs.Check.{IsMatchLog}
 use Rattle.node_rules.specs.Standings.{Standing}
@@ -10,7 +10,7 @@ use Rattle.stations.specs.Deeds.{Deed}
 use Rattle.stations.specs.Stations.{LeavesFile, known_place}
 use Rattle.node_service.specs.Logging.{IsLogAt}
 use Rattle.node_service.specs.Served.{Served}
-use Rattle.node_service.specs.Showing.{LogGains}
+use Rattle.node_service.specs.Showing.{shown_log, LogGains}
 
 module _ {D : Type 0} (g : Ghosts D) where
   -- the process was begun on what its node's earlier processes left, which did these
@@ -24,6 +24,10 @@ module _ {D : Type 0} (g : Ghosts D) where
     pub whole : List ℕ
     pub log : IsLogAt new.look.config.setting s whole
     pub written : LogGains old.log_failed new.log_failed whole (logged_in old.passed) (logged_in new.passed)
+
+  -- so it is; or the node showed nothing to its log, since it couldn't be started, and the log got nothing
+  abbrev pub WritesItsLog : Served (Node D) → Served (Node D) → Type 0
+  WritesItsLog old new = ∥ WritesOneLog old new ∥₁ ⊎ ((shown_log new.look.deeds ≡ []) × (logged_in new.passed ≡ logged_in old.passed))
 
 -- the log got a text that `check` accepts
 pub record WritesAcceptedLog {D : Type 0} (old new : Served (Node D)) : Type 0 where

@@ -16,7 +16,9 @@ use Rattle.node_wires.specs.Passages.{Passage}
 use Rattle.node_service.specs.Company.{IsShown, AreShown}
 use Rattle.node_service.specs.Going.{GoesOn as WentOn}
 use Rattle.node_service.specs.Served.{Served}
-use Rattle.node_service.specs.Serving.{served_of, told_in}
+use Rattle.node_service.specs.Ending.{IsFault}
+use Rattle.node_service.specs.Meaning.{IsMeant, IsKnownEverywhere}
+use Rattle.node_service.specs.Serving.{served_of, told_in, outcome_in}
 use Rattle.node_service.specs.declared.outcome.Outcome.{Outcome}
 use Rattle.node_service.specs.declared.outcome.Outcome.TheVariants as leaves
 use Rattle.node_service.specs.declared.server.NodeServer.{NodeServer}
@@ -90,11 +92,21 @@ module _ {D : Type 0} (disk : Ghosts D) where
   GoesOnTo here there = (before : Served (Node D)) → WentOn disk [] before here → WentOn disk [] before there
 
 module _ {D W : Type 0} {disk : Ghosts D} {wire : OfWire W} where
+  -- what a turn left to do is that for its reason: the match is over and known everywhere, or a fault is meant
+  pub record HasReason (next : NodeServer D W disk wire) (outcome : Outcome) : Type 0 where
+    pub known : outcome ≡ leaves.Over → IsKnownEverywhere next next.left
+    pub fault : IsFault outcome → IsMeant next outcome
+
+  -- and what a start left to do: by it no match is over
+  pub record HasFirstReason (started : NodeServer D W disk wire) (first : Outcome) : Type 0 where
+    pub known : first ≡ leaves.Over → ⊥
+    pub fault : IsFault first → IsMeant started first
+
   -- so many turns after one another since the node was started, which left this to do: all that start and turns had to tell, and what the last turn left to do
   pub data Turns (started : NodeServer D W disk wire) (first : Outcome) : ℕ → List ServerNotice → Outcome → NodeServer D W disk wire → Type 0 where
     none : Turns started first 0 (told_in started) first started
     one : (count : ℕ) (waiting : List ServerNotice) (before next : NodeServer D W disk wire) (outcome : Outcome) → Turns started first count waiting leaves.GoesOn before
-        → WentOn disk [] (served_of before) (served_of next) → Turns started first (count + 1) (waiting ++ told_in next) outcome next
+        → WentOn disk [] (served_of before) (served_of next) → HasReason next outcome → Turns started first (count + 1) (waiting ++ told_in next) outcome next
 
   -- turns were taken and told until it ended so; the keeper is as it was when the last thing was told, unless a life couldn't be kept then; each life is one that its node showed
   pub record Went {K : Type 0} (kept : K → ℕ → Life → K → Type 0) (port : ℕ) (started : NodeServer D W disk wire) (first : Outcome) (answer : Result (Unit {0}) NodeEnd)
@@ -118,6 +130,7 @@ module _ {D W : Type 0} {disk : Ghosts D} {wire : OfWire W} where
     pub started : NodeServer D W disk wire
     pub first : Outcome
     pub begins : WentOn disk [] (served_of old) (served_of started)
+    pub left : outcome_in old ≡ leaves.GoesOn → HasFirstReason started first
     pub between : Option (List ℕ)
     pub begun : IsNoted (begin_line (served_of started).look) held between
     pub went : Went kept port started first answer new between held_after lives lives_after

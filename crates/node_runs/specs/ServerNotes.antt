@@ -17,6 +17,7 @@ notice_lines names node first (told.Joined peer life) = note_line (note.Joined p
 notice_lines names node first (told.Gone peer) = note_line (note.Gone peer) ∷ []
 notice_lines names node first (told.Refused peer fault source) = note_line (note.Refused peer fault source) ∷ []
 notice_lines names node first (told.Callers count fault) = note_line (note.Callers count fault) ∷ []
+notice_lines names node first (told.Unreached peer refuses) = note_line (note.Unreached peer refuses) ∷ []
 notice_lines names node first (told.Seated seat) = seat_lines names seat (about_text (about.Seated node))
 notice_lines names node first (told.Left seat) = seat_lines names seat (about_text (about.Gone node))
 notice_lines names node first (told.Faulty seat fault) = seat_lines names seat (about_text (about.Faulty node fault))

@@ -21,6 +21,8 @@ pub enum KeyFault {
     NotAFile,
     /// Its group or others may read, write or run it.
     NotSecret,
+    /// It is of another user than the process.
+    NotOwned,
     /// It has something else than 64 hexadecimal digits, behind which one line feed may stand.
     NotDigits,
 }
@@ -51,6 +53,7 @@ impl fmt::Display for KeyFault {
         f.write_str(match self {
             KeyFault::NotAFile => ": not a regular file",
             KeyFault::NotSecret => ": open to others than its owner",
+            KeyFault::NotOwned => ": of another user",
             KeyFault::NotDigits => ": not 64 hexadecimal digits",
         })
     }

@@ -31,6 +31,8 @@ pub enum NodeNote<'a> {
     PassedOver(&'a str),
     /// The file that the machine of node 0 has, and this one hasn't.
     NotCopied(&'a str),
+    /// A file that `init` makes isn't there.
+    NotMade(&'a str),
     /// A file that a lost store of the node left, in whose place none is made.
     NotReplaced(&'a str),
     /// The hand whose line would have differed in a log from that of a kept one: the log, and the kept one.
@@ -41,6 +43,10 @@ pub enum NodeNote<'a> {
     },
     /// No key is named: whoever has a trusted address speaks for a node or a seat.
     NoKey,
+    /// The match file has no tokens: whoever reaches a seat's port sits there.
+    NoTokens,
+    /// The token of a seat is one that an example has, so that everybody knows it.
+    KnownToken(u8),
     /// The file of the key can't be one.
     BadKey(&'a str, KeyFault),
     /// Who connects there gets a line that says how the node is.
@@ -59,6 +65,11 @@ pub enum NodeNote<'a> {
     Callers {
         count: u32,
         fault: PeerFault,
+    },
+    /// Dials of a peer have come to nothing for a minute: its address refuses, or nobody answers there.
+    Unreached {
+        peer: u8,
+        refuses: bool,
     },
     /// More than half of the nodes are here, this one among them.
     Quorum,
@@ -104,6 +115,7 @@ fn put_note(out: &mut Vec<u8>, note: &NodeNote<'_>) -> Result<(), AllocError>
         NodeNote::NotCopied(path) => {
             put_both(out, path, ": not found: copy it from the machine of node 0")
         }
+        NodeNote::NotMade(path) => put_both(out, path, ": not found: run init here first"),
         NodeNote::NotReplaced(path) => {
             put_both(
                 out,
@@ -115,6 +127,12 @@ fn put_note(out: &mut Vec<u8>, note: &NodeNote<'_>) -> Result<(), AllocError>
         NodeNote::NoKey => {
             out.extend_from_slice(b"no key: peers and seats are trusted by their addresses")
         }
+        NodeNote::NoTokens => {
+            out.extend_from_slice(
+                b"no tokens: whoever reaches a seat's port gets its cards and acts",
+            )
+        }
+        NodeNote::KnownToken(seat) => put_known_token(out, *seat),
         NodeNote::BadKey(path, fault) => put_key_fault(out, path, fault),
         NodeNote::Status(address) => put_status(out, address),
         NodeNote::Joined(peer) => put_peer(out, *peer, "joined"),
@@ -125,6 +143,14 @@ fn put_note(out: &mut Vec<u8>, note: &NodeNote<'_>) -> Result<(), AllocError>
             source,
         } => put_refused(out, *peer, fault, source),
         NodeNote::Callers { count, fault } => put_callers(out, *count, fault),
+        NodeNote::Unreached {
+            peer,
+            refuses: true,
+        } => put_peer(out, *peer, "its address refuses"),
+        NodeNote::Unreached {
+            peer,
+            refuses: false,
+        } => put_peer(out, *peer, "answers no dial"),
         NodeNote::Quorum => out.extend_from_slice(b"quorum"),
         NodeNote::QuorumLost => out.extend_from_slice(b"quorum lost"),
         NodeNote::Campaigns(ballot) => put_campaign(out, ballot),
@@ -146,6 +172,14 @@ fn put_passed_over(out: &mut Vec<u8>, key: &str) -> Result<(), AllocError>
     ensures { OnOk result (out.new.items ≡ out.old.items ++ (codes "key " ++ key.now ++ codes " isn't used by node")) }
 {
     let text = format!(in *out.allocator(); "key {key} isn't used by node")?;
+    out.extend_from_slice(text.as_bytes())
+}
+
+/// Appends that the token of a seat is known.
+fn put_known_token(out: &mut Vec<u8>, seat: u8) -> Result<(), AllocError>
+    ensures { OnOk result (out.new.items ≡ out.old.items ++ (codes "token of seat " ++ decimal seat ++ codes " is an example's: draw another")) }
+{
+    let text = format!(in *out.allocator(); "token of seat {seat} is an example's: draw another")?;
     out.extend_from_slice(text.as_bytes())
 }
 

@@ -4,11 +4,11 @@ ghost use Rattle.std.specs.Prelude.{◌≡◌, List, [], true, false, OnErr, OnO
 ghost use Rattle.stations.specs.Deeds.{Deed};
 ghost use Rattle.stations.specs.Looking.{look_of};
 ghost use Rattle.node_service.specs.Going.{GoesOn};
-ghost use Rattle.node_service.specs.Serving.{served_of, look_in};
+ghost use Rattle.node_service.specs.Serving.{served_of, look_in, outcome_in};
 ghost use Rattle.node_service.specs.Ending.{is_well, IsOverAt};
-ghost use Rattle.node_service.specs.Logging.{StartedOnce};
-ghost use Rattle.node_runs.specs.OneLog.{IsLeftBy, WritesOneLog, WritesAcceptedLog};
-ghost use Rattle.node_service.specs.declared.outcome.Outcome.TheVariants.{Over as IsOver};
+ghost use Rattle.node_service.specs.Logging.{IsFresh};
+ghost use Rattle.node_runs.specs.OneLog.{IsLeftBy, WritesItsLog, WritesAcceptedLog};
+ghost use Rattle.node_service.specs.declared.outcome.Outcome.TheVariants.{GoesOn as Further, Over as IsOver};
 ghost use Rattle.match_runs.specs.Notes.{IsNoted};
 ghost use Rattle.node_runs.specs.Running.{Ran, Went, GoesOnTo, TellsOne, KeepsLife, HasLife, begin_line, end_of};
 
@@ -37,9 +37,10 @@ use std::io::Write;
 ///
 /// What is promised of turns holds of all of them together: the node did its own deeds, and the log has what it showed to it,
 /// all of it where the run ends well; and then the match is over at the node. Over an honest disk that the node's earlier
-/// processes left, what a node that was started once showed to its log is the dealer's log after the commands that it has
-/// applied; where the run ends well the log got a text that `match_log::check` accepts, whatever the peers sent. A life that is kept is one that its node showed:
-/// the one of a Hello by which it opened a connection, with a key behind its proof.
+/// processes left, what a node that was down showed to its log is the dealer's log after the commands that it has applied, or
+/// nothing where it couldn't be started; where the run ends well the log got a text that `match_log::check` accepts, whatever
+/// the peers sent. A life that is kept is one that its node showed: the one of a Hello by which it opened a connection, with a
+/// key behind its proof.
 /// The `Err` is that of the last turn, or that a life couldn't be kept.
 pub fn node_run<D: Disk + Drop, W: Wire + Drop, L: LifeKeeper, N: Write>(
     alloc: Global,
@@ -52,8 +53,8 @@ pub fn node_run<D: Disk + Drop, W: Wire + Drop, L: LifeKeeper, N: Write>(
     ensures whole { GoesOn D.Disk [] (served_of server.old) (served_of server.new) }
     ensures log { OnOk result ((served_of server.new).log_failed ≡ false) }
     ensures over { OnOk result (IsOverAt D.Disk (look_in server.new).node) }
-    ensures one_log { (look_in server.old).deeds ≡ [] → StartedOnce (look_in server.new).deeds → IsTrue D.is_honest → (before : List Deed) → IsLeftBy D.Disk (served_of server.old) before → ∥ WritesOneLog D.Disk (served_of server.old) (served_of server.new) ∥₁ }
-    ensures accepted { (look_in server.old).deeds ≡ [] → StartedOnce (look_in server.new).deeds → IsTrue D.is_honest → (before : List Deed) → IsLeftBy D.Disk (served_of server.old) before → OnOk result (WritesAcceptedLog (served_of server.old) (served_of server.new)) }
+    ensures one_log { IsFresh (look_in server.old) → IsTrue D.is_honest → (before : List Deed) → IsLeftBy D.Disk (served_of server.old) before → WritesItsLog D.Disk (served_of server.old) (served_of server.new) }
+    ensures accepted { IsFresh (look_in server.old) → IsTrue D.is_honest → (before : List Deed) → IsLeftBy D.Disk (served_of server.old) before → OnOk result (WritesAcceptedLog (served_of server.old) (served_of server.new)) }
 {
     let first = server.start();
     tell_begin(alloc, server.station(), notes);
@@ -74,6 +75,7 @@ fn take_turns<D: Disk + Drop, W: Wire + Drop, L: LifeKeeper, N: Write>(
 ) -> Result<(), NodeEnd>
     requires log { is_well first ≡ true → (served_of server.old).log_failed ≡ false }
     requires over { first ≡ IsOver → IsOverAt D.Disk (look_in server.old).node }
+    requires further { first ≡ Further → outcome_in server.old ≡ Further }
     ensures went { Went L.kept port server.old first result server.new (N.contents notes.old) (N.contents notes.new) lives.old lives.new }
     ensures whole { GoesOnTo D.Disk (served_of server.old) (served_of server.new) }
     ensures log { OnOk result ((served_of server.new).log_failed ≡ false) }

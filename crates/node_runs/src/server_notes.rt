@@ -45,6 +45,10 @@ pub(crate) fn tell_notice<W: Write>(
             let (count, fault) = (*count, *fault);
             tell_node_note(alloc, notes, &NodeNote::Callers { count, fault });
         }
+        ServerNotice::Unreached { peer, refuses } => {
+            let (peer, refuses) = (*peer, *refuses);
+            tell_node_note(alloc, notes, &NodeNote::Unreached { peer, refuses });
+        }
         ServerNotice::Seated { seat } => tell_seat(
             alloc,
             config,

@@ -1,10 +1,14 @@
-use Rattle.std.proofs.Common.{refl, sym, ◌∙◌, arith}
+use Rattle.std.proofs.Common.{refl, sym, subst, ◌∙◌, arith}
+use Rattle.dealer_node.specs.Nodes.{Node}
+use Rattle.node_service.specs.Served.{Served}
+use Rattle.node_service.specs.Serving.{served_of}
+use Rattle.node_runs.specs.Running.{GoesOnTo}
 use Rattle.node_runs.proofs.Runs.{begun, told_one, turned, ended, stopped, spent, well_ended}
 use Rattle.node_runs.proofs.running.take_turns.Goals as goal
 use Rattle.node_runs.proofs.running.take_turns.Goals.{in-Some+in_default-tell, in_default+in_default-end_of}
 
 pub loop-steps-init : goal.loop-steps-init
-loop-steps-init g c = begun g.L.LifeKeeper.kept c.args.port c.args.server.now c.args.first (g.N.Write.contents c.args.notes.now) c.args.lives.now c.requires.log c.requires.over
+loop-steps-init g c = begun g.L.LifeKeeper.kept c.args.port c.args.server.now c.args.first (g.N.Write.contents c.args.notes.now) c.args.lives.now c.requires.log c.requires.over c.requires.further
 
 pub returns-in-Some-end_of-clause-went : goal.returns-in-Some-end_of-clause-went
 returns-in-Some-end_of-clause-went g c =
@@ -30,10 +34,16 @@ loop-steps-preserved g c = elim c.match-notice.branch [
   | in-Some+in_default-tell w ↦
       rw (w.server-is, w.outcome-is, w.notes-is, w.lives-is)
       (told_one g.L.LifeKeeper.kept c.args.port c.args.server.now c.args.first _ c.args.lives.now c.lives_stay_shown.ensures c.loop-steps.server c.notice.new.self c.loop-steps.outcome c.loop-steps.steps w.in-Some.told _ _ _ _
-      c.loop-steps.invariant w.in-Some.ensures.next c.notice.ensures.same (rw w.station.ensures at w.in_default-tell.ensures.told) w.in-Some.ensures.shown)
+      c.loop-steps.invariant w.in-Some.ensures.next c.notice.ensures.same c.notice.ensures.outcome (rw w.station.ensures at w.in_default-tell.ensures.told) w.in-Some.ensures.shown)
   | in_default+in_default-end_of w ↦
       rw (w.server-is, w.outcome-is, w.notes-is, w.lives-is)
       (turned g.L.LifeKeeper.kept c.args.port c.args.server.now c.args.first _ c.args.lives.now c.turns_are_one.ensures c.lives_stay_shown.ensures c.loop-steps.server c.notice.new.self w.turn.new.self c.loop-steps.outcome
       w.turn.result.0 c.loop-steps.steps _ _ c.loop-steps.invariant (sym w.end_of.ensures ∙ w.in_default-end_of.is) (w.in_default.ensures.none refl) c.notice.ensures.same w.turn.ensures.goes
-      w.turn.ensures.log w.turn.ensures.over)
+      w.turn.ensures.log w.turn.ensures.over c.notice.ensures.outcome w.turn.ensures.further w.turn.ensures.known w.turn.ensures.fault)
 ]
+
+pub returns-in-Err-clause-whole : goal.returns-in-Err-clause-whole
+returns-in-Err-clause-whole g c = subst (λ (s : Served (Node _)). GoesOnTo g.D.Disk (served_of c.args.server.now) s) (sym c.notice.ensures.same) c.loop-steps.invariant.whole
+
+pub returns-in-Some-end_of-clause-whole : goal.returns-in-Some-end_of-clause-whole
+returns-in-Some-end_of-clause-whole g c = subst (λ (s : Served (Node _)). GoesOnTo g.D.Disk (served_of c.args.server.now) s) (sym c.notice.ensures.same) c.loop-steps.invariant.whole

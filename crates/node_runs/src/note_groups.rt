@@ -1,0 +1,123 @@
+//! In which groups the notes of a turn are limited, and how many lines a group may have.
+
+ghost use Rattle.std.specs.Prelude.{◌≡◌, ◌<◌, ◌≤◌};
+ghost use Rattle.node_runs.specs.NoteGroups.{seat_group, caller_group, peer_group, group_of, weight_of, most_of, room_of};
+
+use node_service::ServerNotice;
+
+/// How many groups there are: ten of each of ten seats, those of callers by their faults and for want of a place, two of
+/// each of seven peers, and one of all other notes.
+pub const GROUPS: usize = 125;
+
+/// The group of callers for whom there was no place.
+pub const NO_PLACE: usize = 109;
+
+/// The group of notes that have no group of their own.
+pub const OTHERS: usize = 124;
+
+/// The groups of callers by their faults begin here, less the number of the first fault.
+const CALLERS: usize = 20;
+
+/// The groups of seats and of callers end here.
+const LOW: usize = 110;
+
+/// The groups of peers that join begin here, and those of peers that are gone.
+const JOINED: usize = 110;
+
+const GONE: usize = 117;
+
+/// So many lines of one group may be told in a second where each says something of its own.
+const SEVERAL: usize = 10;
+
+/// A seat's notes of one kind.
+fn seat_group(seat: u8, kind: u8) -> usize
+    ensures value { result ≡ seat_group seat kind }
+    ensures within { result < 125 }
+{
+    if seat < 10 && kind < 10 {
+        10 * seat as usize + kind as usize
+    } else {
+        OTHERS
+    }
+}
+
+/// The notes of callers by a fault.
+fn caller_group(code: u8) -> usize
+    ensures value { result ≡ caller_group code }
+    ensures within { result < 125 }
+{
+    if 120 <= code && code <= 128 {
+        code as usize - CALLERS
+    } else {
+        OTHERS
+    }
+}
+
+/// A peer's notes of one kind, whose groups begin there.
+fn peer_group(first: usize, peer: u8) -> usize
+    requires { first ≤ 117 }
+    ensures value { result ≡ peer_group first peer }
+    ensures within { result < 125 }
+{
+    if peer < 7 {
+        first + peer as usize
+    } else {
+        OTHERS
+    }
+}
+
+/// The group of a notice.
+pub fn group_of(notice: &ServerNotice) -> usize
+    ensures value { result ≡ group_of notice.now }
+    ensures within { result < 125 }
+{
+    match notice {
+        ServerNotice::Faulty { seat, fault } => seat_group(*seat, fault.code().saturating_sub(80)),
+        ServerNotice::Seated { seat } => seat_group(*seat, 6),
+        ServerNotice::Left { seat } => seat_group(*seat, 7),
+        ServerNotice::WrongToken { seat, count: _ } => seat_group(*seat, 8),
+        ServerNotice::Ordered { seat } => seat_group(*seat, 9),
+        ServerNotice::Callers { count: _, fault } => caller_group(fault.code()),
+        ServerNotice::Joined { peer, life: _ } => peer_group(JOINED, *peer),
+        ServerNotice::Gone { peer } => peer_group(GONE, *peer),
+        _ => OTHERS,
+    }
+}
+
+/// How many events a notice tells.
+pub fn weight_of(notice: &ServerNotice) -> u64
+    ensures { result ≡ weight_of notice.now }
+{
+    match notice {
+        ServerNotice::Callers { count, fault: _ } => *count as u64,
+        ServerNotice::WrongToken { seat: _, count } => *count as u64,
+        _ => 1,
+    }
+}
+
+/// How many lines of a group may be told in a second.
+pub fn most_of(group: usize) -> usize
+    ensures { result ≡ most_of group }
+{
+    if group < 100 {
+        let kind = group % 10;
+        if kind == 4 || kind == 5 || kind == 9 {
+            SEVERAL
+        } else {
+            1
+        }
+    } else if group < LOW {
+        1
+    } else if group < OTHERS {
+        SEVERAL
+    } else {
+        50
+    }
+}
+
+/// A line of a group may be told where fewer than so many were told in the last second, of all groups.
+pub fn room_of(group: usize) -> usize
+    ensures { result ≡ room_of group }
+{
+    if group < LOW { 40 } else { 50 }
+}
