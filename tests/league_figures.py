@@ -154,6 +154,34 @@ def opponents_who_were_not_met():
 
 
 @test
+def opponents_weigh_alike_in_an_unfinished_league():
+    """a has five groups of 10 against b and three of -30 against c: M of a is -10, and not -5, the mean of all eight groups.
+    The table says so while groups are missing, and no longer when none is."""
+    league, text = three(5, ab=[1] * 5, ac=[-3] * 3), "a mean weighs all opponents that the player met alike"
+    near(standing(league.figures(status=1), "a")["mean"], -10, "M of a")
+    want(text in league.table(status=1), f"the table is {league.table(status=1)}")
+    page = (league.does("page"), (league.kept / "page.html").read_text())[1]
+    want(text in page, "the page doesn't say it")
+    whole = three(1, ab=[1], ac=[-3], bc=[1]).table()
+    want(text not in whole and "± ? stands behind one result alone" in whole, f"the table is {whole}")
+
+
+@test
+def one_of_each_is_told_in_the_singular():
+    """One match of one hand, which is one group and gives one cell."""
+    league = League({"a": CALLS, "b": CALLS}, hands=1, duplicate=False)
+    begun = league.does("plan")[0]
+    want("l: 1 match of 1 hand in 1 group of 1\n0 matches and 0 groups are finished\n" in begun, f"the plan is {begun}")
+    league.invent({"a.b.1.0": [5]})
+    text, ended = league.table(), league.does("plan")[0]
+    want("2 players, 1 hand a match" in text and "1 of 1 match and 1 of 1 group are finished\n" in text, f"the table is {text}")
+    want("misses the true value in 1 of 20 leagues. " in text and "cells" not in text, f"the table is {text}")
+    want("1 match and 1 group are finished" in ended, f"the plan is {ended}")
+    rest = League({"a": CALLS, "b": CALLS}, hands=1).table(status=1)
+    want("0 of 2 matches and 0 of 1 group are finished; 1 group with an unfinished match doesn't count" in rest, f"the table is {rest}")
+
+
+@test
 def neighbours_who_met_different_opponents():
     """a met b (x 10 30) and c (3000 3070, m 3035, v 1225), b and c met a alone: apart from each other a met c and b nobody, b
     and c the same. D of a and b is 1527.5 - -20, V = 1225 / 4 + (1/2 + 1/1)^2 x 100 = 531.25, nu = 531.25^2 / (306.25^2 +
@@ -214,7 +242,7 @@ def groups_with_an_unfinished_part_do_not_count():
     figures, text = league.figures(status=1), league.table(status=1)
     want(figures["groups"] == {"planned": 6, "finished": 1} and figures["matches"] == {"planned": 12, "finished": 3}, "other counts")
     near(cell(figures, "a", "b")["mean"], 20, "the mean of the finished group")
-    want("5 groups with an unfinished part don't count" in text, f"the table says {text}")
+    want("5 groups with an unfinished match don't count" in text, f"the table says {text}")
     found = [(it["player"], it["mean"], it["rank"], it["run_off"]) for it in figures["standings"]]
     want(found == [("a", 20.0, 1, 1), ("b", -20.0, 2, 2), ("c", None, None, None)], f"the standings are {found}")
 
@@ -234,6 +262,30 @@ def three_at_a_table():
     near(figures["neighbours"][0]["mean"], 20, "D of a and b")
     near(figures["neighbours"][0]["half"], 508.248, "its interval")
     want([(it["player"], it["run_off"]) for it in figures["standings"]] == [("a", 1), ("b", 2), ("c", 3)], "another order")
+
+
+@test
+def sets_of_three_in_an_unfinished_league():
+    """a b c met twice: a +6 +2, b 0 +4, c -6 -6 chips of a blind of 100; a b d twice: a +2 +6, b -4 -12, d +2 +6; the other two
+    sets never. So k of a and b is 2, of c and d 1. M are 40, -30, -60, 40. D of a and d: x is a / 2 - d with d, -10 -30, v 100,
+    and a / 2 without, 30 10, v 100: D = 0, V = 200, nu = 2, 4.3027 x 14.1421 = 60.8494. D of d and b: d - b / 2 is 40 120, v
+    1600, -b / 2 is 0 -20, v 100: D = 70, nu = 1700^2 / (1600^2 + 100^2) = 1.1245, 12.7062 x 41.2311 = 523.8901. D of b and c:
+    b / 2 - c is 60 80, v 100, b / 2 is -20 -60, v 400: D = 30, nu 1.4706, 12.7062 x 22.3607 = 284.1193."""
+    league = League(dict.fromkeys("abcd", CALLS), game=NOLIMIT_3P, hands=1, meetings=2)
+    league.does("plan")
+    chips = {("a", "b", "c"): ((6, 0, -6), (2, 4, -6)), ("a", "b", "d"): ((2, -4, 2), (6, -12, 6))}
+    results = {(players, meeting): dict(zip(players, it)) for players, found in chips.items() for meeting, it in enumerate(found, start=1)}
+    lines = [line.split(" ") for line in league.plan()]
+    known = [(name, people[3:], results.get((tuple(people[:3]), int(meeting)))) for name, meeting, *people in lines]
+    league.invent({name: [[found[it] for it in seats]] for name, seats, found in known if found})
+    figures, text = league.figures("--unit", "group", status=1), league.table("--unit", "group", status=1)
+    found = [(it["player"], it["mean"], it["met"], it["planned"]) for it in figures["standings"]]
+    want(found == [("a", 40, 2, 3), ("d", 40, 1, 3), ("b", -30, 2, 3), ("c", -60, 1, 3)], f"the standings are {found}")
+    for it, (mean, half) in zip(figures["neighbours"], ((0, 60.8494), (70, 523.8901), (30, 284.1193))):
+        near(it["mean"], mean, "D")
+        near(it["half"], half, "its interval")
+        want(not it["same_opponents"], f"the same opponents: {it}")
+    want("24 of 48 matches and 4 of 8 groups are finished; 4 groups with an unfinished match don't count" in text, f"the table is {text}")
 
 
 def drawn(dice, names, means, meetings, hands=1000):

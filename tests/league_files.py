@@ -1,6 +1,8 @@
 """Tests of a league's file, its plan, its deals and its page."""
+import contextlib
 import hashlib
 import hmac
+import io
 import re
 import subprocess
 import sys
@@ -199,7 +201,51 @@ def the_page_leads_to_what_is_there():
     if (TOP / "tools/replay").exists():
         hands = [it for it in links.to if it.startswith("revealed/")]
         want(hands == [f"revealed/{pair}.1.html#{place}/0" for pair in ("a.b", "a.c") for place in (1, 2)], f"hands are at {hands}")
-    want(text.count("not yet") == 1 and "1 group with an unfinished part" in text, "the unfinished meeting is revealed, or isn't told")
+    want(text.count("not yet") == 1 and "1 group with an unfinished match does" in text, "the unfinished meeting is revealed, or isn't told")
     want(text.count(">notes</a>") == 3 and "A log has all cards" in text, "notes without a word are linked, or nobody is warned of logs")
     found = re.findall(r'notes">([\w.]+)</a></th><td class="left">(\w)</td><td>0</td><td>0</td><td>(\d)</td>', text)
     want(sorted(found) == [("a.b.1.0", "b", "1"), ("a.b.1.1", "b", "1"), ("b.c.1.0", "b", "1")], f"incidents are {found}")
+
+
+@test
+def the_making_of_pages_is_told():
+    """Three pages of hands of half a second each: with something told each tenth of a second, the first line comes before any
+    page is made, and the later ones say how long the rest takes. A page that can't be made is named, and has no link. Nothing
+    is told where all pages are there."""
+    sys.path.insert(0, str(TOP / "tools"))
+    from league_parts import groups, league_file, plan, progress, replays
+    from league_parts.standings import Standings
+
+    league = League(dict.fromkeys("ab", CALLS), hands=1, meetings=3, duplicate=False)
+    league.invent({"a.b.1.0": [1], "a.b.2.1": [1], "a.b.3.0": [1]})
+    maker = league.folder / "maker"
+    maker.write_text("import sys, time\ntime.sleep(0.5)\nif '.2.' in sys.argv[-1]: sys.exit('no room')\nopen(sys.argv[-1], 'w')\n")
+    read = league_file.read(league.file)
+    planned = plan.planned(read)
+    standings = Standings(read, planned, groups.played(read, planned))
+    with replaced(replays, REPLAY=maker), replaced(progress, ON_TERMINAL=0.1, ELSEWHERE=0.1):
+        addresses, said = told(lambda: replays.make_replays(standings, False))
+        want(set(addresses) == {"a.b.1.0", "a.b.3.0"}, f"the addresses are {addresses}")
+        want(said[0] == "league: made 0 of 3 pages of hands" and "league: no page of hands a.b.2.html: no room" in said, f"it says {said}")
+        want(re.fullmatch(r"league: made 2 of 3 pages of hands, about \d+ s left", said[-1]), f"it says {said}")
+        (read.folder / "replays/a.b.2.html").write_text("")
+        addresses, said = told(lambda: replays.make_replays(standings, False))
+        want(len(addresses) == 3 and not said, f"the addresses are {addresses}; it says {said}")
+
+
+@contextlib.contextmanager
+def replaced(module, **values):
+    """Other values of a module's names for a while."""
+    kept = {name: getattr(module, name) for name in values}
+    vars(module).update(values)
+    try:
+        yield
+    finally:
+        vars(module).update(kept)
+
+
+def told(work):
+    """What some work comes to, and the lines that it said of errors and of how far it is. Other tests say nothing there."""
+    with contextlib.redirect_stderr(io.StringIO()) as said:
+        value = work()
+    return value, said.getvalue().splitlines()

@@ -72,6 +72,21 @@ def stale(edit):
     return None if pairs else "it has no pair of lines 'old:' and 'new:'"
 
 
+def applied(edit, crate):
+    """Applies an edit that isn't stale to a copy of its crate. The texts of the files that it changed, as they were."""
+    before, path, old = {}, None, None
+    for line in text_of(edit).split("\n"):
+        if line.startswith("file: "):
+            path = line[len("file: ") :].strip()
+            before.setdefault(path, (crate / path).read_text(encoding="utf-8"))
+        elif line.startswith("old: "):
+            old = line[len("old: ") :]
+        elif line.startswith("new:"):
+            text = (crate / path).read_text(encoding="utf-8")
+            (crate / path).write_text(text.replace(old, re.sub("^ ", "", line[len("new:") :])), encoding="utf-8")
+    return before
+
+
 def faults(folder):
     """The files in a folder of a crate's refused edits that can't be applied or are no edits, each with why."""
     for file in sorted(folder.iterdir()) if folder.is_dir() else []:

@@ -236,7 +236,7 @@ def match_rows(folder, pool):
     kinds = {
         ("play", "", ""): [*changed(LISTED, LISTED_ROWS), *NO_MATCHES],
         ("serve", "", "104 Unreadable,105 LinkFailed"): [*changed(SERVED, SERVED_ROWS)],
-        ("node", "0", "109 OtherMatch match.kept"): [*changed(REACHED, REACHED_ROWS), *changed(KEYED, KEYED_ROWS)],
+        ("node", "0", "104 Unreadable"): [*changed(REACHED, REACHED_ROWS), *changed(KEYED, KEYED_ROWS)],
     }
     for (command, number, later), inputs in kinds.items():
         texts = [text for text, _ in inputs]

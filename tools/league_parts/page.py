@@ -9,7 +9,8 @@ from . import deals
 from .files import write_whole
 from .replays import make_replays
 from .standings import FEWEST_GROUPS, INCIDENTS
-from .table import BY_HANDS, counted, half, head, marks, neighbour_marks, place, shown, trust
+from .table import BY_HANDS, half, head, marks, neighbour_marks, place, shown, trust
+from .words import counted
 
 HERE = Path(__file__).resolve().parent
 PAGE = """<!DOCTYPE html>

@@ -9,6 +9,7 @@ from typing import NamedTuple, Tuple
 from . import deals
 from .faults import Unfinished, Wrong
 from .files import put_once
+from .words import counted, in_words
 
 
 class Planned(NamedTuple):
@@ -142,16 +143,11 @@ def told(league, matches, jobs):
     """How many matches there are, and how long the rest takes by the speed so far, as lines of text."""
     finished = [it for it in matches if is_finished(league, it)]
     groups, whole = count_groups(league, matches)
-    yield f"{league.name}: {len(matches)} matches of {league.hands} hands in {whole} groups of {group_size(league)}"
-    yield f"{len(finished)} matches and {groups} groups are finished"
+    all_matches, of_hands = counted(len(matches), "match", "matches"), counted(league.hands, "hand")
+    yield f"{league.name}: {all_matches} of {of_hands} in {counted(whole, 'group')} of {group_size(league)}"
+    yield f"{counted(len(finished), 'match', 'matches')} and {counted(groups, 'group')} are finished"
     seconds, left = seconds_a_match(league, finished), len(matches) - len(finished)
     if seconds is None:
         yield "how long they take is known when one is finished"
     elif left:
         yield f"the rest takes about {in_words(seconds * left / jobs)}: {seconds:.1f} s a match so far, {jobs} at a time"
-
-
-def in_words(seconds):
-    """A time for a reader."""
-    hours, rest = divmod(int(seconds), 3600)
-    return f"{hours} h {rest // 60} min" if hours else f"{rest // 60} min {rest % 60} s" if rest >= 60 else f"{rest} s"

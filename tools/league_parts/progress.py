@@ -1,20 +1,21 @@
-"""How far long work is, as a line on standard error: each second on a terminal, each minute elsewhere."""
+"""How far long work is, as a line on standard error: each second on a terminal, more seldom elsewhere."""
 import sys
 import time
 
-ON_TERMINAL, ELSEWHERE = 1, 60
+from .words import printable
+
+# How often it is told on a terminal; elsewhere, of work that may be short and of work that is long, in seconds.
+ON_TERMINAL, ELSEWHERE, OF_LONG_WORK = 1, 10, 60
 
 
 class Progress:
-    """A line that is written anew on a terminal, and line below line elsewhere."""
+    """A line that is written anew on a terminal, and line below line elsewhere. Long work is told of at once, other work when
+    a second has gone by."""
 
-    def __init__(self, is_told_at_once=False):
+    def __init__(self, is_long=False):
         self.is_terminal, self.width = sys.stderr.isatty(), 0
-        self.next = time.monotonic() + (0 if is_told_at_once else self.every)
-
-    @property
-    def every(self):
-        return ON_TERMINAL if self.is_terminal else ELSEWHERE
+        self.every = ON_TERMINAL if self.is_terminal else OF_LONG_WORK if is_long else ELSEWHERE
+        self.next = time.monotonic() + (0 if is_long else ON_TERMINAL)
 
     def tell(self, text):
         """Shows how far it is, if that wasn't shown just before. `text` is called for it."""
@@ -27,12 +28,12 @@ class Progress:
             print(f"\r{text:{self.width}}", end="", file=sys.stderr, flush=True)
             self.width = len(text)
         else:
-            print(f"league: {text}", file=sys.stderr, flush=True)
+            print(printable(f"league: {text}"), file=sys.stderr, flush=True)
 
     def note(self, text):
         """Tells something that isn't progress."""
         self.clear()
-        print(f"league: {text}", file=sys.stderr, flush=True)
+        print(printable(f"league: {text}"), file=sys.stderr, flush=True)
 
     def clear(self):
         """Takes the line away."""

@@ -9,8 +9,9 @@ from collections import Counter
 
 from .faults import Interrupted, Unfinished
 from .one_match import end_by_signals, is_locked, lock
-from .plan import in_words, is_finished
+from .plan import is_finished
 from .progress import Progress
+from .words import in_words, of_all
 
 # How often the matches are looked at, and those that other processes play, in seconds.
 LOOK, LOOK_AT_OTHERS = 0.02, 0.5
@@ -42,7 +43,7 @@ class Run:
         self.whole, self.begun = len(plan), time.monotonic()
         self.finished = self.before = len(plan) - len(self.waiting)
         self.running, self.others, self.attempts, self.failed = {}, [], Counter(), []
-        self.progress, self.looked = Progress(is_told_at_once=True), 0.0
+        self.progress, self.looked = Progress(is_long=True), 0.0
 
     def play(self):
         """Plays all that can be played; whether all matches are finished now."""
@@ -61,7 +62,7 @@ class Run:
     def text(self):
         """How far the run is."""
         seconds, new = time.monotonic() - self.begun, self.finished - self.before
-        text = f"{self.finished} of {self.whole} matches finished, {len(self.running)} running"
+        text = f"{of_all(self.finished, self.whole, 'match', 'matches')} finished, {len(self.running)} running"
         text += f", {len(self.others)} played by others" if self.others else ""
         if new:
             text += f", {3600 * new / seconds:.0f} an hour, {in_words(seconds / new * (self.whole - self.finished))} left"

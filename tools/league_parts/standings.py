@@ -5,6 +5,7 @@ from typing import Dict, NamedTuple, Optional, Tuple
 
 from .estimates import Estimate, Interval, combined, estimate, estimate_of_sums, mean_of
 from .groups import grouped
+from .words import of_all
 
 # With fewer groups than this the unit is the hand.
 FEWEST_GROUPS = 5
@@ -67,7 +68,7 @@ class Standings:
         self.samples = {}
         for players, found in self.groups.items():
             self.samples[players] = Sample(self, players, found)
-            tell(lambda: f"read the matches of {len(self.samples)} of {len(self.groups)} tables")
+            tell(lambda: f"read the logs of {of_all(len(self.samples), len(self.groups), 'set', 'sets')} of players")
         self.cells = {name: [sample.cell(name) for sample in self.samples.values() if name in sample.players] for name in league.players}
         self.standings = self.ranked()
         self.neighbours = [self.side_by_side(*pair) for pair in zip(self.standings, self.standings[1:]) if pair[1].interval]

@@ -3,12 +3,14 @@ import csv
 import io
 import json
 
+from .words import counted, of_all
+
 BY_HANDS = "by hands: too small where bots learn"
-TRUST = (
-    "Each interval behind a mean, by itself, misses the true value in 1 of 20 leagues; of {cells} cells (a player against "
-    "opponents) about {misses} miss."
-)
+TRUST = "Each interval behind a mean, by itself, misses the true value in 1 of 20 leagues"
+TRUST_OF_CELLS = "; of {cells} cells (a player against opponents) about {misses} miss"
 TRUST_BY_HANDS = " Intervals by hands miss more often where bots learn or fail."
+ALONE = " ± ? stands behind one result alone, which has no interval."
+UNFINISHED = " Groups are missing: a mean weighs all opponents that the player met alike, however many groups against each are finished."
 
 
 def shown(interval):
@@ -42,19 +44,16 @@ def columns(rows, right):
         yield "  ".join(cells).rstrip()
 
 
-def counted(count, what):
-    return f"{count} {what}" if count == 1 else f"{count} {what}s"
-
-
 def head(standings):
     league = standings.league
     kind = "duplicate" if league.duplicate else "no duplicates"
-    lines = [f"{league.name}: {counted(len(league.players), 'player')}, {league.hands} hands a match, {kind}, in mbb/hand"]
+    lines = [f"{league.name}: {counted(len(league.players), 'player')}, {counted(league.hands, 'hand')} a match, {kind}, in mbb/hand"]
     open_groups = standings.planned_groups - standings.finished_groups
-    counts = f"{len(standings.matches)} of {standings.planned} matches and "
-    counts += f"{standings.finished_groups} of {standings.planned_groups} groups are finished"
-    lines.append(f"{counts}; {counted(open_groups, 'group')} with an unfinished part don't count" if open_groups else counts)
-    return lines
+    counts = f"{of_all(len(standings.matches), standings.planned, 'match', 'matches')} and "
+    counts += f"{of_all(standings.finished_groups, standings.planned_groups, 'group')} are finished"
+    if open_groups:
+        counts += f"; {counted(open_groups, 'group')} with an unfinished match {'does' if open_groups == 1 else 'do'}n't count"
+    return [*lines, counts]
 
 
 def standing_rows(standings):
@@ -99,8 +98,12 @@ def cell_rows(standings):
 
 
 def trust(standings):
+    """How far the intervals may be trusted, and what the means of an unfinished league weigh."""
     cells = sum(map(len, standings.cells.values())) // (2 if standings.league.seats == 2 else 1)
-    return TRUST.format(cells=cells, misses=f"{cells / 20:.1f}") + (TRUST_BY_HANDS if standings.is_by_hands else "")
+    of_cells = TRUST_OF_CELLS.format(cells=cells, misses=f"{cells / 20:.1f}") if cells > 1 else ""
+    is_alone = any(it.interval.half is None for found in standings.cells.values() for it in found)
+    notes = (TRUST_BY_HANDS, standings.is_by_hands), (ALONE, is_alone), (UNFINISHED, not standings.is_whole)
+    return f"{TRUST}{of_cells}." + "".join(note for note, is_so in notes if is_so)
 
 
 def text(standings):

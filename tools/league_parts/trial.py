@@ -9,7 +9,7 @@ from .bots import Keeper
 from .faults import Unfinished
 from .league_file import Player
 from .one_match import Table, end_by_signals, lock, play, settings_of
-from .table import counted
+from .words import counted, printable
 
 HANDS = 20
 CALLER = TOP / "examples/bots/caller"
@@ -68,7 +68,7 @@ def try_all(league):
                 why, seen = try_player(league, player, keeper)
             except Unfinished as fault:
                 why, seen = str(fault), None
-            print(f"{player.name}: {'failed: ' + why if why else seen}", flush=True)
+            print(printable(f"{player.name}: {'failed: ' + why if why else seen}"), flush=True)
             status = 1 if why else status
     finally:
         keeper.close()
