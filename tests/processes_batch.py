@@ -3,21 +3,24 @@ BATCHES = {}
 
 
 class Batch:
-    """So many seeds of a world with these options, which the function sets up, and what each seed is to come to."""
+    """So many seeds of a world with these options, which the function sets up, and what each seed is to come to; with `--long`
+    more seeds, where the batch has some."""
 
-    def __init__(self, seeds, setup, options, bounds):
-        self.seeds, self.setup, self.options, self.bounds = seeds, setup, options, bounds
+    def __init__(self, seeds, more, setup, options, bounds):
+        self.seeds, self.more, self.setup, self.options, self.bounds = seeds, more, setup, options, bounds
 
 
-def batch(seeds, most_ticks=None, most_gap=None, most_wait=None, most_time=None, is_long=False, **options):
+def batch(seeds, most_ticks=None, most_gap=None, most_wait=None, most_time=None, fastest=None, most_rounds=8, is_long=False, more=None, **options):
     """A batch by the function that sets a world's faults up; in each seed at most so many ticks for each hundred commands,
     and ten, at most so long from one command to the next, and at most so long in all; and in nine of ten faults at most so
-    long to the next one. Long ones are run by `--long` alone, or by their name."""
+    long to the next one. Where the fastest possible round is given, the gaps between commands are told in such rounds too;
+    half of them take one and a half at most, and each so many, where that is given. Long ones are run by `--long` alone, or by
+    their name."""
 
     def taken(function):
         name = function.__name__.replace("_", "-")
-        bounds = {"ticks": most_ticks, "gap": most_gap, "wait": most_wait, "time": most_time, "is_long": is_long}
-        BATCHES[name] = Batch(seeds, function, options, bounds)
+        bounds = {"ticks": most_ticks, "gap": most_gap, "wait": most_wait, "time": most_time, "fastest": fastest, "rounds": most_rounds, "is_long": is_long}
+        BATCHES[name] = Batch(seeds, more or seeds, function, options, bounds)
         return function
 
     return taken

@@ -5,6 +5,7 @@ import re
 import shutil
 import socket
 import subprocess
+import threading
 import time
 
 from serving import NAMES, TOP, loaded, patience, want, waited
@@ -234,3 +235,11 @@ def table_of_statuses(seed, is_long):
         "1     37     4     no    yes        4.0       no     yes     0:37:campaigns,2:gone  alice:seated,bob:away  no       0,812    412/s",
         "1     not reached",
     ], f"the table is {rows}")
+    words = [word for pair in zip(status.COLUMNS, ["1", *["x"] * (len(status.COLUMNS) - 1)]) for word in pair]
+    for text, said in (("x", words[1::2]), ("\x1b]0;x\x07", "something else answers there"), ("x\b\b", "something else answers there")):
+        with socket.create_server(("127.0.0.1", 0)) as server:
+            asked = threading.Thread(target=lambda line: server.accept()[0].sendall(line), args=(" ".join([*words[:-1], text]).encode() + b"\n",))
+            asked.start()
+            found = status.row(1, f"127.0.0.1:{server.getsockname()[1]}")
+            asked.join()
+        want(found == said, f"of {text!r} the row is {found}")

@@ -33,11 +33,16 @@ PORTS = [10000, 32000]
 TESTS = {}
 
 
-def test(seeds=1, long_seeds=None):
+# The tests that are run only where they are named: what they look for isn't there yet.
+BY_NAME = set()
+
+
+def test(seeds=1, long_seeds=None, by_name=False):
     """A test by its name, and by how many seeds it goes; a function of a seed, and whether this is the long form."""
 
     def taken(function):
         TESTS[function.__name__] = (seeds, long_seeds or seeds, function)
+        BY_NAME.update({function.__name__} if by_name else {})
         return function
 
     return taken
@@ -58,6 +63,14 @@ def claim_ports(counter, jobs):
         place, counter.value = counter.value % jobs, counter.value + 1
     first, width = PORTS[0], (PORTS[1] - PORTS[0]) // jobs
     PORTS[:] = [first + place * width, first + (place + 1) * width]
+
+
+def make_noise(connection, noise):
+    """Sends what isn't an answer, if there is something. Where the other end is gone or takes too long, what follows is late."""
+    try:
+        connection.sendall(noise)
+    except OSError:
+        pass
 
 
 class Bot(threading.Thread):
@@ -90,6 +103,7 @@ class Bot(threading.Thread):
                     count += 1
                     action = self.take(line)
                     if action is not None:
+                        make_noise(connection, self.match.noise(self.seat, line))
                         send(connection, f"{line}:{action}")
                     connection.settimeout(None if action is None else PATIENT)
         return count > 1
@@ -112,12 +126,14 @@ class Match:
     program = TOP / "crates/holdem_table/out/holdem_table"
     made = []
 
-    def __init__(self, count=3, hands=120, game="l2.game", proxied=False, on_hosts=False, pace=0.0, place=FAST):
-        self.hosts = Hosts(count) if on_hosts else None
+    def __init__(self, count=3, hands=120, game="l2.game", proxied=False, on_hosts=False, pace=0.0, place=FAST, hosts=None):
+        self.hosts = Hosts(count) if on_hosts else hosts
         self.folder = Path(tempfile.mkdtemp(prefix="processes.", dir=place))
         self.made.append(self)
         self.count, self.hands, self.word, self.game = count, hands, game, (TOP / "examples" / game).read_text()
-        self.players = Game(self.game).players
+        rules = Game(self.game)
+        # What bots choose, by their seat and a line; they call if nothing else is said.
+        self.players, self.choice = rules.players, lambda seat, line: "c" if turn_of(rules, line) else None
         self.processes, self.bots, self.others, self.has_ended = [None] * count, [], [], threading.Event()
         # Bots think for so long, and act while they may; in the last hand only when all else was done.
         self.pace, self.may_act, self.may_end = pace, threading.Event(), threading.Event()
@@ -125,7 +141,7 @@ class Match:
         self.seen, self.times, self.hand, self.stop_at = set(), [], 0, None
         self.may_act.set()
         self.take_ports()
-        self.ways = Ways(self.ports) if proxied else None
+        self.ways = Ways(self.ports) if proxied else self.hosts.ways_to(self.ports) if self.hosts else None
         self.homes = [self.folder / f"machine{node}" for node in range(count)]
         for node in range(count):
             self.furnish(node)
@@ -140,9 +156,17 @@ class Match:
     def address(self, node):
         return self.hosts.address(node) if self.hosts else "127.0.0.1"
 
+    def peer_address(self, node):
+        """Where the other nodes dial a node, which may be at another address than its seats."""
+        return self.hosts.peer_address(node) if self.hosts else self.address(node)
+
     def token(self, seat):
         """What the bot of a seat shows first."""
         return None
+
+    def noise(self, seat, line):
+        """What a bot sends before its answer to a line."""
+        return b""
 
     def entries(self):
         """What more the match file says of the match."""
@@ -170,7 +194,7 @@ class Match:
         rows += ['stores = "stores"', 'logs = "logs"', *self.entries()]
         for other in range(self.count):
             peers = self.ways.doors[node, other] if self.ways and other != node else self.ports[other]
-            rows += ["[[node]]", f"seed = {seeds.get(other, other)}", f'peers = "{self.address(other)}:{peers}"']
+            rows += ["[[node]]", f"seed = {seeds.get(other, other)}", f'peers = "{self.peer_address(other)}:{peers}"']
             rows += [f'seats = "{self.address(other)}:{self.seats[other]}"', *self.node_entries(other)]
         (self.home(node) / "m.toml").write_text("\n".join(rows) + "\n")
 
@@ -190,8 +214,7 @@ class Match:
         """Makes all stores, starts these nodes, or all, and lets the bots come. They call, or choose by a function of seat
         and line."""
         self.set_up(*nodes)
-        game = Game(self.game)
-        self.choice = choice or (lambda seat, line: "c" if turn_of(game, line) else None)
+        self.choice = choice or self.choice
         self.let_bots_come()
         return self
 

@@ -2,8 +2,8 @@
 from processes_batch import batch
 from processes_world import Bot
 
-# How long a seat may hold the table, in milliseconds.
-PATIENCE = 3000.0
+# How long a seat may hold the table, and the fastest possible round of quick disks and ways, in milliseconds.
+PATIENCE, FASTEST = 3000.0, 1.7
 
 
 class Silent(Bot):
@@ -40,10 +40,10 @@ def holds(name, players, least, most):
                 return f"{world.orders} orders for {world.applied} commands"
             return None if world.longest >= least else f"played for after {world.longest:.0f} ms"
 
-        world.why_not = wrong
+        world.why_not, world.on_progress = wrong, lambda front: world.steps.append(world.now)
 
     setup.__name__ = name
-    batch(2, most_wait=most, hands=3, patience=PATIENCE, players=players)(setup)
+    batch(2, most_wait=most, fastest=FASTEST, most_rounds=None, hands=3, patience=PATIENCE, players=players)(setup)
 
 
 def silent(length, nodes):

@@ -27,14 +27,87 @@ nodes = module_of("nodes")
 
 # What a process does and waits for, in milliseconds.
 BEAT, HANGUP, REPEAT, TURN = 50.0, 300.0, 100.0, 20.0
-CALL, REDIAL, CONNECT, ASK_AGAIN, FORWARD_AGAIN = 0.02, 20.0, 500.0, 20.0, 20.0
-END_READ, UNHEARD = 10.0, 10_000.0
+CALL, REDIAL, ASK_AGAIN, FORWARD_AGAIN = 0.02, 20.0, 20.0, 20.0
+END_READ = 10.0
+# After so long a system that wasn't answered asks again for a connection, as Linux does once in two seconds.
+ASK_FOR_IT = 1000.0
+# What is measured counts for two such parts of time at least.
+PART = 30_000.0
 # How many frames wait for a connection.
 WAITING_FRAMES = 16
 
 
 def micros(moment):
     return int(moment * 1000)
+
+
+class Longest:
+    """The longest of what was measured in the last minute, as `Longest` of the crate has it; in whole microseconds there."""
+
+    def __init__(self, begun=0, newest=0, middle=0, oldest=0, part=PART):
+        self.begun, self.newest, self.middle, self.oldest, self.part = begun, newest, middle, oldest, part
+
+    def move_on(self, now):
+        """Parts that have ended move on, and the oldest is forgotten."""
+        passed = int(max(0, now - self.begun) // self.part)
+        if passed >= 3:
+            self.begun, self.newest, self.middle, self.oldest = now, 0, 0, 0
+        for _ in range(passed if passed < 3 else 0):
+            self.begun += self.part
+            self.newest, self.middle, self.oldest = 0, self.newest, self.middle
+
+    def note(self, length, now):
+        self.move_on(now)
+        self.newest = max(self.newest, length)
+
+    def lately(self, now):
+        self.move_on(now)
+        return max(self.newest, self.middle, self.oldest)
+
+
+class Measures:
+    """What is measured of a peer, over all connections to it, as a process of the program does: ways there and back, and
+    silences. One that goes on tells beats also while its way is cut: they come all at once, and such a silence doesn't count."""
+
+    def __init__(self, limits):
+        self.limits, self.counted, self.closings = limits, Longest(), Longest()
+        # The last way, and the last long silence: its length, when it ended, and the number of the beat before it.
+        self.way, self.silence = None, None
+
+    def settle(self, number, heard, now):
+        """The last long silence counts where the peer stood in it: it told fewer than half of the beats that one tells that goes
+        on, which came all at once behind it, before those of the time since then."""
+        if self.silence is not None:
+            length, ended, before = self.silence
+            if 2 * BEAT * (number - before) < length + 2 * (heard - ended):
+                self.counted.note(length, now)
+        self.silence = None
+
+    def hear(self, heard, number, now):
+        """Something came of a peer that was heard last then, with the last beat of this number; whether it was silent for
+        long."""
+        length = now - heard
+        is_long = length > self.limits.a_silence
+        if is_long or self.silence is not None and now - self.silence[1] > self.limits.a_silence:
+            self.settle(number, heard, now)
+        if is_long:
+            self.silence = length, now, number
+        return is_long
+
+    def go_there_and_back(self, passed, now):
+        """Of two ways in a row the shorter one counts: one alone may have been cut."""
+        if self.way is not None:
+            self.counted.note(min(self.way, passed), now)
+        self.way = passed
+
+    def close(self, silent, now):
+        """A connection is closed by such a silence: whether the peer stood isn't known."""
+        self.closings.note(silent, now)
+
+    def closing(self, silence, now):
+        """How long a peer is silent until its connection is closed, where one that is present is silent for so long at most."""
+        times = self.limits.silences
+        return max(times * silence, self.counted.lately(now), times * self.closings.lately(now))
 
 
 class Stored(dict):
@@ -96,20 +169,22 @@ class Wire:
 class Peer:
     """What a process knows of another."""
 
-    def __init__(self, number, now):
+    def __init__(self, number, now, limits):
         self.number, self.accepted, self.over = number, None, False
         self.wire, self.since, self.heard_ever = None, now, now
         self.last, self.repeated, self.asked = None, -1e9, (None, -1e9)
         self.forwarded, self.forwarded_at = None, -1e9
         self.waiting, self.owed, self.lost = [], None, None
-        self.dialled = None
+        self.dialled, self.unanswered_dials = None, 0
+        self.measures = Measures(limits)
         self.clear()
 
     def clear(self):
         self.opened = self.heard = 0.0
         self.trip, self.beat, self.unanswered = None, None, None
         self.number_sent = self.number_got = 0
-        self.sent_at, self.seats = {}, set()
+        # The beat whose answer is awaited, and when it was told.
+        self.probe, self.seats = None, set()
 
 
 class Process:
@@ -126,12 +201,12 @@ class Process:
             return
         now = self.world.now
         self.up, self.life = True, self.life + 1
-        self.peers = {j: Peer(j, now) for j in range(self.world.count) if j != self.number}
+        self.peers = {j: Peer(j, now, self.world.limits) for j in range(self.world.count) if j != self.number}
         self.inbox, self.backlog, self.busy, self.paused = [], [], False, False
         self.wake, self.moved, self.promised_since, self.began = None, now, now, now
         self.work_since = self.behind_since = None
-        self.ticked, self.in_vain, self.last_call = None, 0, 0.0
-        self.was_led, self.unquorate, self.over_since, self.pace = False, None, None, 1000.0
+        self.ticked, self.in_vain, self.calls = None, 0, Longest()
+        self.was_led, self.unquorate, self.over_since, self.silence = False, None, None, 1000.0
         self.quorate_since, self.replays, self.seated, self.ordered = now, False, {}, None
         self.next_beat, self.turn_began = now, now
         self.log = []
@@ -149,7 +224,7 @@ class Process:
         for peer in self.peers.values():
             if peer.wire is not None:
                 peer.wire.close(self.number)
-            if peer.dialled is not None and peer.dialled is not True:
+            if isinstance(peer.dialled, Wire):
                 peer.dialled.close(self.number)
         for bot in self.world.bots:
             bot.drop_at(self.number)
@@ -232,7 +307,7 @@ class Process:
         promised, stored, front, was_idle = node.promised, node.accepted.count, node.front, node.state == "idle"
         answer = body()
         stores = (node.promised, node.accepted.count) != (promised, stored)
-        cost = CALL + (2 * self.world.sync() if stores else 0.0) + self.world.slowness(self.number)
+        cost = CALL + (2 * self.world.sync(self.number) if stores else 0.0) + self.world.slowness(self.number)
         self.busy = True
         has_ended = self.world.tells_ends and node.state == "idle" and not was_idle
         self.world.after(cost, self.called, self.life, answer, promised, front, cost, has_ended)
@@ -244,7 +319,8 @@ class Process:
             self.world.after(1.0, self.called, life, answer, promised, front, cost, has_ended)
             return
         now, node = self.world.now, self.node
-        self.busy, self.last_call = False, cost
+        self.busy = False
+        self.calls.note(cost, now)
         self.discount(cost)
         if node.front != front:
             self.moved, self.in_vain = now, 0
@@ -330,43 +406,65 @@ class Process:
         peer = self.peers.get(j)
         if not self.up or life != self.life or peer.wire is not None or peer.dialled is not None:
             return
-        peer.dialled = True
-        world, other = self.world, self.world.processes[j]
-        if world.is_cut(self.number, j) or world.is_cut(j, self.number):
-            world.after(CONNECT, self.redial, j, life)
-        elif not other.up:
-            world.after(2 * world.way() + REDIAL, self.redial, j, life)
-        else:
-            world.after(2 * world.way(), self.connected, j, life)
+        peer.dialled = attempt = ("attempt", self.world.now)
+        waits = self.world.limits.connect_wait(peer.unanswered_dials)
+        for after in range(0, int(waits), int(ASK_FOR_IT)):
+            self.world.after(float(after), self.ask_for_it, j, life, attempt)
+        self.world.after(waits, self.not_answered, j, life, attempt)
 
-    def redial(self, j, life):
-        if self.up and life == self.life:
+    def ask_for_it(self, j, life, attempt):
+        """The system asks the other one for a connection, at once and again while nothing is answered."""
+        world, other = self.world, self.world.processes[j]
+        if not self.up or life != self.life or self.peers[j].dialled != attempt or world.is_cut(self.number, j) or world.is_cut(j, self.number):
+            return
+        if other.up:
+            world.after(2 * world.way(), self.connected, j, life, attempt)
+        else:
+            world.after(2 * world.way() + REDIAL, self.redial, j, life, attempt)
+
+    def not_answered(self, j, life, attempt):
+        if self.up and life == self.life and self.peers[j].dialled == attempt:
+            self.peers[j].unanswered_dials += 1
+            self.redial(j, life, attempt)
+
+    def redial(self, j, life, attempt):
+        """Dials again, unless this dial came to something else."""
+        if self.up and life == self.life and self.peers[j].dialled == attempt:
             self.peers[j].dialled = None
             self.dial(j, life)
 
-    def connected(self, j, life):
-        if not self.up or life != self.life:
+    def connected(self, j, life, attempt):
+        if not self.up or life != self.life or self.peers[j].dialled != attempt:
             return
         peer = self.peers[j]
         wire = Wire(self.world, self.number, j)
         self.world.wires.append(wire)
         peer.dialled = wire
         wire.send(self.number, ("hello", self.life))
-        self.world.after(4 * self.pace, self.give_up, j, life, wire)
+        self.world.after(self.world.limits.greet, self.give_up, j, life, wire)
+        other = self.world.processes[j]
+        self.world.after(self.world.limits.stranger, other.let_go, self.number, other.life, wire)
 
     def give_up(self, j, life, wire):
         """A Hello that isn't answered."""
         if self.up and life == self.life and self.peers[j].dialled is wire:
             wire.close(self.number)
-            self.redial(j, life)
+            self.redial(j, life, wire)
+
+    def let_go(self, j, life, wire):
+        """One who dialled and whose Hello hasn't come."""
+        if self.up and life == self.life and self.number not in wire.closed and self.peers[j].wire is not wire and not self.busy and not self.paused:
+            wire.close(self.number)
 
     def on_hello(self, peer, wire, life):
+        if self.number in wire.closed:
+            return
         if peer.number < self.number:
             if peer.dialled is wire:
                 peer.dialled = None
                 self.open(peer, wire)
             return
-        if peer.wire is not None and self.world.now - peer.heard < self.pace:
+        if peer.wire is not None and self.world.now - peer.heard < self.silence:
             wire.send(self.number, ("refused",))
             wire.close(self.number)
             return
@@ -378,7 +476,7 @@ class Process:
     def on_refused(self, peer, wire):
         if peer.dialled is wire:
             wire.close(self.number)
-            self.world.after(REDIAL, self.redial, peer.number, self.life)
+            self.world.after(REDIAL, self.redial, peer.number, self.life, wire)
 
     def open(self, peer, wire):
         now = self.world.now
@@ -394,6 +492,7 @@ class Process:
     def close(self, peer):
         """The connection has ended, or is given up: what was sent and isn't answered may be lost."""
         peer.wire.close(self.number)
+        peer.measures.settle(peer.number_got, peer.heard, self.world.now)
         peer.wire, peer.since = None, self.world.now
         peer.lost, peer.unanswered = peer.owed, None
         if peer.number < self.number:
@@ -404,7 +503,7 @@ class Process:
             self.close(peer)
         elif peer.dialled is wire:
             wire.close(self.number)
-            self.world.after(REDIAL, self.redial, peer.number, self.life)
+            self.world.after(REDIAL, self.redial, peer.number, self.life, wire)
         else:
             wire.close(self.number)
 
@@ -412,11 +511,11 @@ class Process:
         if peer.wire is not wire:
             return
         now = self.world.now
-        peer.heard = peer.heard_ever = now
+        self.hear(peer)
         peer.number_got, peer.seats = number, seats
-        if got in peer.sent_at:
-            peer.trip = now - peer.sent_at[got]
-            peer.sent_at = {k: when for k, when in peer.sent_at.items() if k > got}
+        if peer.probe is not None and peer.probe[0] <= got:
+            peer.trip, peer.probe = now - peer.probe[1], None
+            peer.measures.go_there_and_back(peer.trip, now)
         beat = peer.beat or {"below": now, "told": now, "front": front, "campaigns": campaigns}
         if beat["front"] != front or front >= self.node.front:
             beat["below"] = now
@@ -428,11 +527,18 @@ class Process:
     def on_frame(self, peer, wire, message):
         if peer.wire is not wire:
             return
-        peer.heard = peer.heard_ever = self.world.now
+        self.hear(peer)
         if peer.owed is not None and message[0] in (nodes.PROMISE, nodes.ACCEPTED, nodes.REFUSE):
             if message[1:3] == peer.owed[1:3]:
                 peer.owed = peer.lost = peer.unanswered = None
         self.backlog.append(lambda: self.node.call(lambda: self.node.frame(peer.number, message)))
+
+    def hear(self, peer):
+        """Something came of a peer. No way is measured over a long silence, which is measured itself."""
+        now = self.world.now
+        if peer.measures.hear(peer.heard, peer.number_got, now):
+            peer.probe = None
+        peer.heard = peer.heard_ever = now
 
     # What is done by time.
 
@@ -441,7 +547,8 @@ class Process:
         for peer in self.peers.values():
             if peer.wire is None:
                 self.dial(peer.number, self.life) if peer.number < self.number and peer.dialled is None else None
-            elif now - peer.heard > 4 * self.pace:
+            elif now - peer.heard >= peer.measures.closing(self.silence, now):
+                peer.measures.close(now - peer.heard, now)
                 self.close(peer)
             elif peer.beat and peer.beat["front"] < self.node.front and now - peer.repeated >= REPEAT:
                 self.repeat(peer)
@@ -460,7 +567,8 @@ class Process:
 
     def beat(self, peer):
         peer.number_sent += 1
-        peer.sent_at[peer.number_sent] = self.world.now
+        if peer.probe is None:
+            peer.probe = peer.number_sent, self.world.now
         state = (self.node.front, self.node.state != "idle", self.is_over(), self.seats())
         peer.wire.send(self.number, ("beat", peer.number_sent, peer.number_got, *state))
 
@@ -482,16 +590,17 @@ class Process:
         words += [int(node.state != "idle"), int(self.was_led), int(self.is_over())]
         words += [int(table.runs()), int(node.pending is not None), int(node.front in node.accepted)]
         words += [micros(self.work_since or 0.0), micros(self.behind_since or 0.0)]
-        words += ["-" if self.ticked is None else micros(self.ticked), self.in_vain, micros(self.last_call)]
+        words += ["-" if self.ticked is None else micros(self.ticked), self.in_vain, micros(self.calls.lately(self.world.now))]
         for peer in self.peers.values():
             words += self.known_of(peer)
         return words
 
     def known_of(self, peer):
         words = [peer.number, "-" if peer.accepted is None else peer.accepted]
+        longest = micros(peer.measures.counted.lately(self.world.now))
         if peer.wire is None:
-            return [*words, 0, micros(peer.since), *[0] * 9]
-        words += [1, micros(peer.opened), micros(peer.heard), "-" if peer.trip is None else micros(peer.trip), int(self.owes(peer))]
+            return [*words, 0, micros(peer.since), 0, longest, *[0] * 7]
+        words += [1, micros(peer.opened), micros(peer.heard), longest, int(self.owes(peer))]
         if peer.beat is None:
             return [*words, *[0] * 6]
         beat = peer.beat
@@ -500,12 +609,12 @@ class Process:
     def tick_if_due(self):
         """Asks what is due; whether the node ticks."""
         now = self.world.now
-        until, work, behind, self.replays, quorate, self.pace = self.world.clock.ask(self.known())
+        until, work, behind, self.replays, quorate, self.silence = self.world.clock.ask(self.known())
         is_new = (work and not behind) != (self.work_since is not None) or behind != (self.behind_since is not None)
         if is_new:
             self.work_since = (self.work_since or now) if work and not behind else None
             self.behind_since = (self.behind_since or now) if behind else None
-            until, work, behind, self.replays, quorate, self.pace = self.world.clock.ask(self.known())
+            until, work, behind, self.replays, quorate, self.silence = self.world.clock.ask(self.known())
         self.until = until if until is not None else now
         self.hang_up(quorate)
         if self.ends():
@@ -535,13 +644,13 @@ class Process:
 
     def sits_at(self, peer, seat):
         """Whether a present peer has told that the seat sits there."""
-        return peer.wire is not None and peer.beat is not None and self.world.now - peer.heard < self.pace and seat in peer.seats
+        return peer.wire is not None and peer.beat is not None and self.world.now - peer.heard < self.silence and seat in peer.seats
 
     def awaited(self, seat):
         """A line for the program."""
         now, here = self.world.now, seat in self.seats()
         others = [peer.number for peer in self.peers.values() if self.sits_at(peer, seat)]
-        present = [p.number for p in self.peers.values() if p.wire is not None and p.beat is not None and now - p.heard < self.pace]
+        present = [p.number for p in self.peers.values() if p.wire is not None and p.beat is not None and now - p.heard < self.silence]
         rank = sum(number < self.number for number in (others if here else present))
         since = max(micros(self.moved), micros(self.quorate_since), self.seated.get(seat, 0))
         ordered = "-" if self.ordered is None or self.ordered < self.moved else micros(self.ordered)
@@ -584,4 +693,4 @@ class Process:
             self.world.on_end()
             self.beat_all()
         is_read = now - self.over_since >= END_READ
-        return is_read and all(p.over or now - p.heard_ever >= UNHEARD for p in self.peers.values())
+        return is_read and all(p.over or now - p.heard_ever >= self.world.unheard for p in self.peers.values())

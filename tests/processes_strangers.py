@@ -1,15 +1,21 @@
-"""Those of tests/processes who dial a match and aren't of it, and who change what its nodes say to each other."""
+"""Those of tests/processes who dial a match and aren't of it, who flood it with a seat's token, and who change what its nodes
+say to each other."""
 import contextlib
 import hashlib
 import random
+import shutil
 import socket
+import subprocess
+import tempfile
 import threading
 import time
+from pathlib import Path
 
-from serving import want, waited
+from serving import FAST, want, waited
 
 from processes_keys import League
 from processes_match import PACE, Match, meanwhile, random_bytes, said, test
+from processes_nets import Besieged, Loopback, Sink, SlowLoopback, asking, dialling, dialling_seats, flooding, showing, slow_hosts
 
 
 def record(kind, body):
@@ -221,3 +227,327 @@ def turned_back(seed, is_long):
     waited(lambda: joined(match, 2, 0) > count, "node 0 at node 2 again", match.last_notes)
     match.goes_on(20)
     match.ends()
+
+
+# How long a way between two nodes takes, in seconds, by the seed; and how many hands a match has by that, so that it lasts
+# through an attack and ends soon behind it.
+WAYS = [0.0, 0.025, 0.05]
+HANDS = {0.0: 350, 0.025: 45, 0.05: 25}
+# The commands of a hand of two who call, and how long bots think.
+COMMANDS, THOUGHT = 9, 0.005
+# Within so long a process has joined that is started under attack, and for so long it is waited for, in seconds.
+SOON, LATE = 1.0, 8.0
+# The most notes of a process a second, and their mean length.
+NOTES, NOTE_BYTES = 50, 100
+
+
+def besieged(seed, net=slow_hosts, **more):
+    """A match with ways of so long, and that way."""
+    delay = WAYS[(seed - 1) % len(WAYS)]
+    words = {"hands": HANDS[delay], "pace": THOUGHT, **more}
+    return Besieged(net(3), delay, **words), delay
+
+
+def hands_a_second(match, seconds):
+    """How fast a match goes on, for so long."""
+    count = len(match.seen)
+    time.sleep(seconds)
+    match.is_alive()
+    return (len(match.seen) - count) / COMMANDS / seconds
+
+
+def notes_bytes(match):
+    """How many bytes of notes all processes have made."""
+    return sum((match.home(node) / "notes").stat().st_size for node in range(match.count))
+
+
+def are_few(match, before, seconds):
+    """Whether no more notes were made in so long than processes make at most."""
+    return notes_bytes(match) - before <= match.count * NOTES * NOTE_BYTES * (seconds + 1)
+
+
+def time_to_join(match, node):
+    """Kills a process and starts it again; how long it takes until it hears all others, and does so for a second. None where
+    that is too long."""
+    match.kill(node)
+    begun, since = time.monotonic(), None
+    match.start(node)
+    while time.monotonic() - begun < LATE + 1:
+        told, now = match.asked(node), time.monotonic()
+        is_here = told.get("quorum") == "yes" and "gone" not in told["peers"]
+        since = (since or now) if is_here else None
+        if since and now - since >= 1:
+            return since - begun
+        time.sleep(0.01)
+    return None
+
+
+def told(seconds):
+    """How long that took, in words."""
+    return f"not in {LATE:.0f} s" if seconds is None else f"in {seconds:.2f} s"
+
+
+def withstands(match, delay, rate, *nodes):
+    """Strangers dial nodes that often: the match goes on at a third of its speed at least, and a process that dials all
+    others, and one that all others dial, join soon when they are started again."""
+    calm, before = hands_a_second(match, 2), notes_bytes(match)
+    begun = time.monotonic()
+    with dialling(match, rate, *nodes) as them:
+        during = hands_a_second(match, 4)
+        joins = [time_to_join(match, node) for node in (2, 0)]
+        after = hands_a_second(match, 3)
+    seconds = time.monotonic() - begun
+    figures = f"{1000 * delay:.0f} ms a way, {them.told.split()[0]} strangers in {seconds:.0f} s: {calm:.1f} hands a second before, {during:.1f} and {after:.1f} meanwhile, nodes 2 and 0 join {' and '.join(map(told, joins))}, {notes_bytes(match) - before} bytes of notes"
+    want(min(during, after) >= calm / 3 and all(it is not None and it <= SOON for it in joins), figures)
+    want(are_few(match, before, seconds), figures)
+    match.ends()
+    return figures
+
+
+@test(seeds=3, long_seeds=6)
+def silent_strangers(seed, is_long):
+    """Strangers of 64 addresses dial two nodes a thousand times a second each, and say nothing; in the long form five
+    thousand times."""
+    match, delay = besieged(seed)
+    match.begin().goes_on(20)
+    return withstands(match, delay, 10000 if seed > 3 else 2000, 0, 1)
+
+
+class OnOneMachine(Besieged):
+    """Nodes that dial from an address which isn't at `peers`, and say so."""
+
+    source = "127.0.0.1"
+
+    def node_entries(self, node):
+        return [*super().node_entries(node), f'from = ["{self.source}"]']
+
+
+@test()
+def strangers_on_one_machine(seed, is_long):
+    """The same where the nodes are at three loopback addresses of one machine, which dials all of them from 127.0.0.1."""
+    match = OnOneMachine(Loopback(3), hands=HANDS[0.0], pace=THOUGHT).begin()
+    match.goes_on(20)
+    return withstands(match, 0.0, 2000, 0, 1)
+
+
+@test(seeds=2)
+def strangers_and_a_proxy(seed, is_long):
+    """The same where nodes dial each other through a proxy, which has an address of its own, and slow ways."""
+    delay = WAYS[seed]
+    match = OnOneMachine(SlowLoopback(3, source=lambda node: OnOneMachine.source), delay, hands=HANDS[delay], pace=THOUGHT).begin()
+    match.goes_on(20)
+    return withstands(match, delay, 2000, 0, 1)
+
+
+def time_to_be_seated(match, seat, node):
+    """Comes to a seat's port with its token; how long it takes until a line comes. None where that is too long."""
+    begun = time.monotonic()
+    while time.monotonic() - begun < LATE:
+        try:
+            with socket.create_connection((match.address(node), match.seats[node] + seat), timeout=LATE) as bot:
+                bot.sendall(f"#TOKEN {match.token(seat)}\r\nVERSION:2.0.0\r\n".encode())
+                if bot.recv(4096):
+                    return time.monotonic() - begun
+        except OSError:
+            pass
+    return None
+
+
+@test(long_seeds=3)
+def strangers_at_seats(seed, is_long):
+    """Strangers dial the ports of a seat two thousand times a second, and say nothing: the match goes on, and who has the
+    token gets a line soon."""
+    match, delay = besieged(seed)
+    match.begin().goes_on(20)
+    calm = hands_a_second(match, 2)
+    with dialling_seats(match, 2000, 0, 0, 1, 2) as them:
+        during = hands_a_second(match, 3)
+        times = [time_to_be_seated(match, 0, node) for node in (0, 1, 2)]
+    figures = f"{1000 * delay:.0f} ms a way, {them.told.split()[0]} strangers: {calm:.1f} hands a second before, {during:.1f} meanwhile, a line comes {', '.join(map(told, times))}, {notes_bytes(match)} bytes of notes"
+    want(during >= calm / 3 and all(it is not None and it <= 2 * SOON for it in times), figures)
+    match.ends()
+    return figures
+
+
+@test(seeds=3, by_name=True)
+def flooding_seat(seed, is_long):
+    """A seat's client with its token sends a million empty lines a second to each node, and answers rightly."""
+    match, delay = besieged(seed)
+    match.set_up()
+    match.let_bots_come([1])
+    with flooding(match, 0, 0, 0, 1, 2):
+        match.goes_on(20)
+        calm = hands_a_second(match, 2)
+    before, begun = notes_bytes(match), time.monotonic()
+    with flooding(match, 1_000_000, 0, 0, 1, 2) as flood:
+        match.goes_on(1)
+        during = hands_a_second(match, 5)
+        notes, seconds = notes_bytes(match) - before, time.monotonic() - begun
+        is_quiet = are_few(match, before, seconds)
+        join = time_to_join(match, 2)
+    figures = f"{1000 * delay:.0f} ms a way, {int(flood.told.split()[1]) // 1000} KB of empty lines: {calm:.1f} hands a second before, {during:.1f} meanwhile, node 2 joins {told(join)}, {notes} bytes of notes in {seconds:.0f} s"
+    want(during >= calm / 3 and join is not None and join <= SOON and is_quiet, figures)
+    match.let_bots_come([0])
+    match.ends()
+    return figures
+
+
+class Room:
+    """A small disk that all of a match is on, where the system lets one be mounted."""
+
+    def __init__(self, size):
+        self.folder = Path(tempfile.mkdtemp(prefix="processes.", dir=FAST))
+        words = ["mount", "-t", "tmpfs", "-o", f"size={size}", "none", self.folder]
+        self.is_there = shutil.which("mount") is not None and subprocess.run(words, capture_output=True).returncode == 0
+
+    def __enter__(self):
+        return self
+
+    def free(self):
+        return shutil.disk_usage(self.folder).free
+
+    def __exit__(self, *_):
+        while Match.made:
+            Match.made.pop().remove()
+        if self.is_there:
+            subprocess.run(["umount", "-l", self.folder], capture_output=True)
+        shutil.rmtree(self.folder, ignore_errors=True)
+
+
+@test(by_name=True)
+def notes_and_a_small_disk(seed, is_long):
+    """Stores, logs and notes are on one disk with 20 MB free, and the flood is on: no process ends. In the long form for ten
+    minutes."""
+    with Room("20m") as room:
+        want(room.is_there, "no disk could be mounted")
+        match = Besieged(Loopback(3), hands=10_000, pace=THOUGHT, place=room.folder)
+        match.set_up()
+        match.let_bots_come([1])
+        free, before, begun = room.free(), notes_bytes(match), time.monotonic()
+        with flooding(match, 1_000_000, 0, 0, 1, 2):
+            until = begun + (570 if is_long else 15)
+            while time.monotonic() < until and room.free() > 0 and match.is_alive():
+                time.sleep(0.1)
+            seconds, left = time.monotonic() - begun, room.free()
+            figures = f"{left >> 20} of {free >> 20} MB are free after {seconds:.0f} s, {notes_bytes(match) - before} bytes of notes, {len(match.seen)} commands"
+            want(left > 0 and are_few(match, before, seconds), figures)
+            match.goes_on(20)
+        return figures
+
+
+@test(seeds=2, by_name=True)
+def lines_before_answers(seed, is_long):
+    """A bot sends a thousand empty lines before each right answer; another answers the first line of its match 9,300 times
+    before it answers the newest one: the match goes on."""
+    match, begun = Besieged(Loopback(3), hands=40, pace=THOUGHT), time.monotonic()
+    first, old = [], []
+
+    def empty_lines(seat, line):
+        return b"\n" * 1000 if seat == 0 else b""
+
+    def old_lines(seat, line):
+        first.extend([] if first else [line])
+        old.extend([] if old or len(match.seen) < 30 else [line])
+        return (first[0] + ":c\r\n").encode() * 9300 if old == [line] else b""
+
+    match.noise = empty_lines if seed == 1 else old_lines
+    match.begin().goes_on(90)
+    seconds = time.monotonic() - begun
+    figures = f"90 commands in {seconds:.1f} s, {notes_bytes(match)} bytes of notes"
+    is_quiet = are_few(match, 0, seconds)
+    want(seconds <= 10 and is_quiet, figures)
+    match.ends()
+    return figures
+
+
+@test(seeds=3)
+def shown_again(seed, is_long):
+    """A seat's token is shown anew each 0.7 s, at one node after another, by somebody who never acts: no act takes longer
+    than (nodes + 1) times the patience."""
+    match, delay = besieged(seed, wait=1, hands=12)
+    match.set_up()
+    match.let_bots_come([1])
+    with showing(match, 0.7, 0, 0, 1, 2):
+        match.goes_on(2)
+        until, times = time.monotonic() + (60 if is_long else 12), []
+        while time.monotonic() < until:
+            count, begun = len(match.seen), time.monotonic()
+            waited(lambda: len(match.seen) > count, "a command", match.last_notes)
+            times.append(time.monotonic() - begun)
+    match.let_bots_come([0])
+    match.ends()
+    figures = f"{1000 * delay:.0f} ms a way: an act takes {max(times):.1f} s at most, {notes_bytes(match)} bytes of notes"
+    want(max(times) <= match.count + 1 + SOON, figures)
+    return figures
+
+
+@test(seeds=3, by_name=True)
+def shown_without_end(seed, is_long):
+    """The same as fast as can be, while the seat's bot plays: it and the one who shows the token part each other, and the
+    notes that tell of it are few."""
+    match, delay = besieged(seed, wait=1)
+    match.begin().goes_on(20)
+    before, begun = notes_bytes(match), time.monotonic()
+    with showing(match, 0.0, 0, 0, 1, 2) as shown:
+        during = hands_a_second(match, 4)
+        join = time_to_join(match, 2)
+    seconds = time.monotonic() - begun
+    figures = f"{1000 * delay:.0f} ms a way, {shown.told.split()[0]} tokens in {seconds:.0f} s: {during:.1f} hands a second, node 2 joins {told(join)}, {notes_bytes(match) - before} bytes of notes"
+    want(are_few(match, before, seconds) and during > 0 and join is not None and join <= SOON, figures)
+    match.ends()
+    return figures
+
+
+def time_to_line(match, node):
+    """How long a node takes to say how it is, in seconds."""
+    begun = time.monotonic()
+    with socket.create_connection((match.address(node), match.statuses[node]), timeout=60) as asker:
+        want(asker.recv(4096).startswith(b"node "), "something else than a status came")
+    return time.monotonic() - begun
+
+
+@test(seeds=3)
+def many_askers(seed, is_long):
+    """2,000 ask a node how it is, at a table where nobody acts and while a match goes on; one behind them has his line
+    soon."""
+    match, delay = besieged(seed)
+    match.begin().goes_on(20)
+    calm, before = hands_a_second(match, 2), notes_bytes(match)
+    times = []
+    for is_idle in (False, True):
+        if is_idle:
+            match.may_act.clear()
+            time.sleep(0.5)
+        with asking(match, 2000, 0) as them:
+            them.program.stdout.readline()
+            times.append(time_to_line(match, 0))
+            during = hands_a_second(match, 2) if not is_idle else during
+        match.may_act.set()
+    figures = f"{1000 * delay:.0f} ms a way: a line comes after {times[0]:.2f} s, at an idle table after {times[1]:.2f} s; {calm:.1f} hands a second before, {during:.1f} meanwhile"
+    is_quiet = are_few(match, before, 3)
+    want(max(times) <= 1 and during >= calm / 3 and is_quiet, figures)
+    match.ends()
+    return figures
+
+
+@test(by_name=True)
+def besieged_match(seed, is_long):
+    """A match from its first hand to its last while strangers dial two nodes and a seat floods them: at no less than a third
+    of its speed where the same programs have others to attack. In the long form it has 10,000 hands."""
+    hands, speeds = 10_000 if is_long else 300, []
+    for is_attacked in (False, True):
+        match = Besieged(slow_hosts(3), hands=hands if is_attacked else 300)
+        match.set_up()
+        sink = Sink(match)
+        with sink, dialling(match if is_attacked else sink, 2000, 0, 1), flooding(match if is_attacked else sink, 333_000, 0, 0, 1, 2):
+            begun = time.monotonic()
+            match.let_bots_come([1] if is_attacked else [0, 1])
+            until = begun + (480 if is_long else 40)
+            while time.monotonic() < until and match.hand < match.hands - 1 and match.is_alive():
+                time.sleep(0.01)
+            speeds.append((match.hand + 1) / (time.monotonic() - begun))
+        want(match.hand == match.hands - 1 and speeds[-1] >= speeds[0] / 3, f"{match.hand} of {match.hands} hands: {speeds} a second")
+        match.let_bots_come([0])
+        match.ends()
+        Match.made.pop().remove()
+    return f"{hands} hands: {speeds[0]:.1f} a second beside others who are attacked, {speeds[1]:.1f} under attack"

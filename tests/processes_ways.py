@@ -58,8 +58,11 @@ class Ways(threading.Thread):
     """A proxy for each ordered pair of nodes: at whose ports the first node finds the second. Ways of nodes may be silent,
     and all of them slow; what goes over one may be changed, and who speaks over one may hear himself."""
 
-    def __init__(self, ports):
+    def __init__(self, ports, addresses=None, source=lambda node: "127.0.0.1"):
+        """`addresses` are those of the nodes, all the same if none are given; a proxy dials from that of the first node by
+        `source`."""
         super().__init__(daemon=True)
+        self.addresses, self.source = addresses or ["127.0.0.1"] * len(ports), source
         self.silent, self.turned, self.delay, self.ended = set(), set(), 0.0, threading.Event()
         # What a piece is changed to, and all ways so far, the newest last.
         self.change, self.begun = lambda way, piece: piece, []
@@ -69,7 +72,7 @@ class Ways(threading.Thread):
         self.start()
 
     def door(self, pair, port):
-        listener = socket.create_server(("127.0.0.1", 0))
+        listener = socket.create_server((self.addresses[pair[1]], 0))
         self.selector.register(listener, selectors.EVENT_READ, lambda: self.let_in(pair, listener, port))
         return listener.getsockname()[1]
 
@@ -83,7 +86,7 @@ class Ways(threading.Thread):
     def let_in(self, pair, listener, port):
         caller, _ = listener.accept()
         try:
-            called = socket.create_connection(("127.0.0.1", port), timeout=1)
+            called = socket.create_connection((self.addresses[pair[1]], port), timeout=1, source_address=(self.source(pair[0]), 0))
         except OSError:
             caller.close()
             return
@@ -142,13 +145,17 @@ class Hosts:
         ip("-n", self.switch, "addr", "add", self.address(99) + "/24", "dev", "bridge")
         ip("-n", self.switch, "link", "set", "bridge", "up")
         for node, name in enumerate(self.nodes):
-            ip("-n", self.switch, "link", "add", f"port{node}", "type", "veth", "peer", "name", "eth0", "netns", name)
-            ip("-n", self.switch, "link", "set", f"port{node}", "master", "bridge", "up")
+            self.join_switch(f"port{node}", name)
             ip("-n", name, "addr", "add", self.address(node) + "/24", "dev", "eth0")
-            ip("-n", name, "link", "set", "eth0", "up")
         with open(f"/run/netns/{self.switch}") as switch:
             self.go_to(switch.fileno())
         self.is_there = True
+
+    def join_switch(self, port, name):
+        """A network has a port of the switch from now on, whose other end is its eth0."""
+        ip("-n", self.switch, "link", "add", port, "type", "veth", "peer", "name", "eth0", "netns", name)
+        ip("-n", self.switch, "link", "set", port, "master", "bridge", "up")
+        ip("-n", name, "link", "set", "eth0", "up")
 
     def go_to(self, network):
         """This thread, and those that it starts, go to another network."""
@@ -157,6 +164,14 @@ class Hosts:
 
     def address(self, node):
         return f"10.77.0.{node + 1}"
+
+    def peer_address(self, node):
+        """Where the other nodes dial a node."""
+        return self.address(node)
+
+    def ways_to(self, ports):
+        """Proxies between the nodes at these ports: none, since each network has ways of its own."""
+        return None
 
     def starter(self, node):
         """The words before a program that is to run on a node's host."""

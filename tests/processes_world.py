@@ -9,15 +9,28 @@ import subprocess
 
 from processes_process import TOP, Process, nodes
 
-# What bots take, in milliseconds, where a run doesn't say otherwise: a line's way, and how long they await one.
-LOCAL, BOT_PATIENCE = 0.05, 2000.0
-# A run fails where nothing goes on for so long.
-STUCK = 90_000.0
+# How long a line's way to a bot is, in milliseconds.
+LOCAL = 0.05
+# Where a run doesn't say otherwise: how long bots await a line; how long nothing goes on in a run that fails; and how long a
+# peer isn't heard for which nobody waits once the match is over.
+BOT_PATIENCE, STUCK, UNHEARD = 2000.0, 90_000.0, 10_000.0
 
 
 def until_of(answer):
     """Until when nothing is due by an answer's words; None where it is."""
     return None if answer[0] == b"tick" else int(answer[1]) / 1000
+
+
+class Limits:
+    """How processes keep connections, as the program says: lengths of time in milliseconds, and counts."""
+
+    def __init__(self, times, dials, silences):
+        self.connect, self.long_connect, self.greet, self.stranger, self.a_silence = times
+        self.dials, self.silences = dials, silences
+
+    def connect_wait(self, unanswered):
+        """How long a dial waits behind so many that weren't answered: one of some waits long."""
+        return self.long_connect if unanswered % self.dials == self.dials - 1 else self.connect
 
 
 class Clock:
@@ -26,11 +39,17 @@ class Clock:
     def __init__(self, program):
         self.program = subprocess.Popen([program], stdin=subprocess.PIPE, stdout=subprocess.PIPE)
 
+    def limits(self):
+        """What the program says of its connections."""
+        *times, dials, silences = map(int, self.answer(["limits"]))
+        return Limits([time / 1000 for time in times], dials, silences)
+
     def ask(self, words):
-        """When to tick, None for now; whether there is work, the node is behind, replays, is quorate; its pace."""
+        """When to tick, None for now; whether there is work, the node is behind, replays, is quorate; how long a present peer
+        is silent at most."""
         answer = self.answer(words)
-        *flags, pace = answer[-5:]
-        return until_of(answer), *(flag == b"1" for flag in flags), int(pace) / 1000
+        *flags, _, silence = answer[-6:]
+        return until_of(answer), *(flag == b"1" for flag in flags), int(silence) / 1000
 
     def ask_away(self, words):
         """When to order that the seat to act is played for, None for now."""
@@ -134,7 +153,7 @@ class Bot:
         if self.is_at(life):
             self.give(body)
             if not self.stays:
-                self.world.after(BOT_PATIENCE, self.doubt, life, self.answered)
+                self.world.after(self.world.bot_patience, self.doubt, life, self.answered)
 
     def doubt(self, life, answered):
         """No line follows an answer: elsewhere."""
@@ -148,8 +167,9 @@ class Bot:
 class World:
     """All of a run. `options` are what a batch says of it, `faults` is called as the match goes on."""
 
-    def __init__(self, clock, seed, count=3, hands=20, way=0.05, sync=0.4, think=0.05, at=(0, 0), stays=False, tells_ends=False, by_beats=False, busy=0.0, patience=None, votes=0, players=None, verbose=False):
+    def __init__(self, clock, seed, count=3, hands=20, way=0.05, sync=0.4, think=0.05, at=(0, 0), stays=False, tells_ends=False, by_beats=False, busy=0.0, patience=None, votes=0, players=None, bot_patience=BOT_PATIENCE, stuck=STUCK, unheard=UNHEARD, verbose=False):
         self.clock, self.random, self.count = clock, random.Random(seed), count
+        self.limits, self.bot_patience, self.stuck, self.unheard = clock.limits(), bot_patience, stuck, unheard
         self.now, self.queue, self.events = 0.0, [], 0
         self.way_ms, self.sync_ms, self.think_ms, self.verbose = way, sync, think, verbose
         # Each end of a campaign is told at once, so that others know of it before the next campaign begins.
@@ -172,6 +192,8 @@ class World:
         self.fault_at, self.gaps, self.faults = None, [], 0
         self.on_progress, self.on_end, self.writes = (lambda front: None), (lambda: None), (lambda process, receiver, message: True)
         self.held_until = 0.0
+        # When commands were applied, where a run keeps that, and how soon one came once all was well.
+        self.steps, self.well_after = [], None
 
     def fill(self, votes):
         """All nodes were killed after so many commands: each has its votes of them, and knows none as chosen."""
@@ -191,7 +213,8 @@ class World:
     def waits(self):
         return self.busy * self.random.random() if self.busy and self.random.random() < 0.02 else 0.0
 
-    def sync(self):
+    def sync(self, number):
+        """How long a sync takes now at a node."""
         return self.sync_ms
 
     def think(self):
@@ -278,7 +301,7 @@ class World:
         while self.queue and not self.is_done() and not self.is_enough():
             self.now, _, what, arguments = heapq.heappop(self.queue)
             what(*arguments)
-            if self.now - self.last_applied > STUCK:
+            if self.now - self.last_applied > self.stuck:
                 return self.state()
         self.enough_at = self.now if self.is_enough() else None
         return None if self.is_done() or self.enough_at is not None else self.state()

@@ -33,6 +33,8 @@ END = [None]
 # Where nothing waits for a disk, if there is such a place.
 FAST = "/dev/shm" if os.access("/dev/shm", os.W_OK) else None
 NAMES = ["alice", "bob", "carol", "dave", "erin", "frank", "grace", "heidi", "ivan", "judy"]
+# Match files and stores that others can read are told: the files of tests can't be.
+os.umask(0o077)
 # The players of tests go home soon after a match; those of examples/bots, run by their commands, take their time.
 player.PAUSE, player.GIVE_UP = 0.01, 0.1
 

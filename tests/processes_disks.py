@@ -1,0 +1,95 @@
+"""Tests of tests/processes on slow disks: a library that is loaded into a process lengthens each sync. It needs a C compiler."""
+import os
+import subprocess
+import time
+
+from processes_match import Match, test
+from serving import want
+
+# Each sync takes as many microseconds longer as the file says that SLOW_SYNC names, while there is one.
+SLOWER = r"""
+#define _GNU_SOURCE
+#include <stdio.h>
+#include <stdlib.h>
+#include <sys/syscall.h>
+#include <unistd.h>
+
+static void wait_longer(void) {
+    const char *name = getenv("SLOW_SYNC");
+    FILE *file = name ? fopen(name, "r") : NULL;
+    long microseconds = 0;
+    if (!file) return;
+    if (fscanf(file, "%ld", &microseconds) == 1)
+        for (; microseconds > 0; microseconds -= 100000) usleep(microseconds < 100000 ? microseconds : 100000);
+    fclose(file);
+}
+
+int fsync(int file) { wait_longer(); return (int)syscall(SYS_fsync, file); }
+int fdatasync(int file) { wait_longer(); return (int)syscall(SYS_fdatasync, file); }
+"""
+# How long a sync takes, in seconds. With two such disks of three a command takes two syncs, in the fastest possible round.
+SYNC = 2.1
+ROUND = 2 * SYNC
+# So long the first command may take, since each node first keeps what it meets; and three more once all disks are quick again.
+FIRST, SOON = 75, ROUND + 10
+# In rounds: the gap between commands in the median, and each. Ballots, and connections that open behind the first command.
+MEDIAN, LONGEST, BALLOTS, JOINED = 1.5, 8, 10, 4
+
+
+def slower_in(folder):
+    """The library, made in a folder."""
+    source, library = folder / "slower.c", folder / "slower.so"
+    source.write_text(SLOWER)
+    subprocess.run([os.environ.get("CC", "cc"), "-O2", "-shared", "-fPIC", "-o", library, source], check=True)
+    return library
+
+
+class SlowMatch(Match):
+    """A match in which the disks of nodes 0 and 1 are slow while a file is there."""
+
+    def set_up(self, *nodes):
+        self.library, self.file = slower_in(self.folder), self.folder / "slow"
+        self.file.write_text(str(int(SYNC * 1_000_000)))
+        super().set_up(*nodes)
+
+    def start(self, *nodes, before=None):
+        for node in nodes:
+            super().start(node, before=self.load if node < 2 else before)
+
+    def load(self):
+        """In a process that is to become the program."""
+        os.environ.update(LD_PRELOAD=str(self.library), SLOW_SYNC=str(self.file))
+
+    def comes_to(self, commands, seconds):
+        """Waits until so many commands were seen, for so long at most."""
+        until = time.monotonic() + seconds
+        while len(self.seen) < commands and self.is_alive():
+            want(time.monotonic() < until, f"{len(self.seen)} commands and not {commands}: {self.last_notes()}")
+            time.sleep(0.01)
+
+
+def told(match, text):
+    """How often notes have told this."""
+    return sum(text in note for node in range(match.count) for note in match.notes(node))
+
+
+@test()
+def two_slow_disks(seed, is_long):
+    """Each sync takes 2.1 s at two of three nodes: the match goes on by rounds of two syncs, by few ballots, and behind the
+    first command hardly a connection is closed. Once all disks are quick it goes on at once."""
+    match, goal = SlowMatch(hands=60).begin(), 20 if is_long else 6
+    begun = time.monotonic()
+    match.comes_to(1, FIRST)
+    first, joined = time.monotonic() - begun, told(match, "joined")
+    match.comes_to(goal, LONGEST * ROUND * goal)
+    times = match.times[:goal]
+    rounds = sorted((after - before) / ROUND for before, after in zip(times, times[1:]))
+    median, longest = rounds[len(rounds) // 2], rounds[-1]
+    ballots, joined = told(match, "campaigns"), told(match, "joined") - joined
+    want(median <= MEDIAN and longest <= LONGEST, f"{median:.2f} rounds to the next command in the median, {longest:.2f} at most")
+    want(ballots <= BALLOTS, f"{ballots} ballots")
+    want(joined <= JOINED, f"connections opened {joined} times behind the first command")
+    match.file.unlink()
+    match.comes_to(len(match.seen) + 3, SOON)
+    match.ends()
+    return f"F {ROUND:g} s, first command after {first:.0f} s, median {median:.2f} F, longest {longest:.2f} F, {ballots} ballots"
