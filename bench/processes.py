@@ -167,11 +167,16 @@ class Processes:
         for words in [["--key", "match.key"]] * has_key + [[str(node)] for node in range(nodes)]:
             subprocess.run([self.program, "init", "m.toml", *words], cwd=self.folder, check=True, capture_output=True)
 
+    def starter(self, node):
+        """The words before the program where a node's process starts."""
+        return []
+
     def begin(self, node):
         """Starts the process of a node."""
         with open(self.folder / f"notes{node}", "ab") as notes:
             self.running[node] = subprocess.Popen(
-                [self.program, "node", "m.toml", str(node)], cwd=self.folder, stdin=subprocess.DEVNULL, stdout=subprocess.DEVNULL, stderr=notes,
+                [*self.starter(node), self.program, "node", "m.toml", str(node)], cwd=self.folder, stdin=subprocess.DEVNULL,
+                stdout=subprocess.DEVNULL, stderr=notes,
             )
 
     def kill(self, node):
