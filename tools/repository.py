@@ -1,4 +1,6 @@
-"""What the scripts know of the crates: what they use, where their mutants are, and the minutes that they take."""
+"""What the scripts know of the crates: what they use, where their mutants are and what came of them, and the minutes that they take."""
+import functools
+import hashlib
 import os
 import re
 from pathlib import Path
@@ -7,6 +9,8 @@ TOP = Path(__file__).resolve().parent.parent
 PAGE = TOP / "bench/RESULTS.md"
 TIMES = TOP / "out/times.md"
 BESIDE = TOP / "wrong-bodies"
+# What the last try of each mutant beside the gate came to, a line each: the crate and the edit, a sum of what it was tried on, the verdict.
+TRIED = BESIDE / "TRIED"
 # The pages that are written by hand.
 PAGES = ["README.md", "CONTRIBUTING.md", "docs/*.md", "bench/RESULTS.md", "crates/*/README.md"]
 TABLE = re.compile(r"^\| crate \|.*(?:\n\|.*)*\n?", re.M)
@@ -100,8 +104,53 @@ def strangers():
     """What stands in wrong-bodies/ and is no folder of a crate's edits, each with why."""
     names = crates()
     for file in sorted(BESIDE.iterdir()) if BESIDE.is_dir() else []:
-        if file.name not in names and file.suffix != ".md":
+        if file.name not in names and file.suffix != ".md" and file != TRIED:
             yield file.relative_to(TOP), "crates.txt names no such crate"
+
+
+@functools.lru_cache(maxsize=None)
+def sources_sum(name):
+    """A sum over the files of a crate that its check reads: its sources, its definitions and its proofs."""
+    found = hashlib.sha256()
+    for part in ("src", "specs", "proofs"):
+        for file in sorted(it for it in (TOP / "crates" / name / part).rglob("*") if it.is_file()):
+            found.update(f"{file.relative_to(TOP)}\n".encode() + file.read_bytes())
+    return found.hexdigest()
+
+
+def sum_of(edit):
+    """A sum of what an edit is tried on: its own text, that of what strikes out its clause, and its crate's files.
+
+    Crates below are left out: else each change of one would make all edits above untried. What an edit shows is of its
+    own crate's clauses.
+    """
+    texts = [text_of(struck(edit) if struck(edit).is_file() else edit), sources_sum(edit.parent.name)]
+    return hashlib.sha256("\n".join(texts).encode()).hexdigest()[:16]
+
+
+def tries():
+    """What each edit in wrong-bodies/TRIED was tried on and came to, by the crate and the edit's name."""
+    lines = TRIED.read_text(encoding="utf-8").splitlines() if TRIED.is_file() else []
+    rows = [line.split(None, 2) for line in lines if line and not line.startswith("#")]
+    return {name: (sum_then, verdict) for name, sum_then, verdict in rows}
+
+
+def note_tries(verdicts):
+    """Writes what edits came to into wrong-bodies/TRIED, each with the sum of what it was tried on; lines of edits that are gone go."""
+    rows = {name: row for name, row in tries().items() if (BESIDE / f"{name}.edit").is_file()}
+    rows.update({f"{edit.parent.name}/{edit.stem}": (tried_on, verdict) for edit, tried_on, verdict in verdicts})
+    made = TRIED.with_suffix(".new")
+    head = "# Written by tools/wrong_bodies: the crate and the edit, a sum of what it was tried on, and what the try came to.\n"
+    made.write_text(head + "".join(f"{name} {then} {verdict}\n" for name, (then, verdict) in sorted(rows.items())), encoding="utf-8")
+    made.replace(TRIED)
+
+
+def untried(edit):
+    """Why nothing is known of an edit over today's files, none if it was tried over just these."""
+    then, _ = tries().get(f"{edit.parent.name}/{edit.stem}", (None, None))
+    if then is None:
+        return "never tried"
+    return None if then == sum_of(edit) else "tried before it or its crate changed"
 
 
 def figures(text):
