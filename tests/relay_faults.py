@@ -314,6 +314,8 @@ def links_that_are_cut(folder, seed, is_long):
         bots.append(StockBot(match.folder, seat, relays[seat].port, seed, pause=0.05, starter=starter))
     for node in range(3):
         match.await_told(node, "seats", "alice:seated", "bob:seated")
+    # The relay notes the end of a connection only where a line had come over it.
+    relays[0].await_note("node 2: seated")
     cut = time.monotonic()
     match.hosts.cut_off(2)
     free = waited(lambda: time.monotonic() - cut if "bob:seated" not in match.asked(0).get("seats", "bob:seated") else None, "bob's seat to be free", lambda: str(match.asked(0)))

@@ -81,6 +81,46 @@ def lines_once_and_in_order(folder, seed, is_long):
 
 
 @test()
+def a_node_that_is_back_ahead(folder, seed, is_long):
+    """A node whose connection was lost begins with a line that is ahead of the others: the bot gets the lines between of
+    these. Where they tell nothing the line comes a fifth of a second later."""
+    lines = [b"MATCHSTATE:0:%d::5d5c|" % hand for hand in range(40)]
+    nodes = [Node(lines[0] + END) for _ in range(3)]
+    relay = relayed(folder, nodes)
+    bot = Dialler(relay)
+    want(bot.line() == lines[0] + END, "the first line")
+    for node in range(3):
+        relay.await_note(f"node {node}: seated")
+    newest, tries = 0, 0
+    while newest < 3 and tries < 10:
+        connections = len(nodes[2].got)
+        nodes[2].said = b""
+        nodes[2].hang_up()
+        waited(lambda: len(nodes[2].got) > connections and nodes[2].got[-1] == VERSION, "the next connection")
+        begun, first, tries = time.monotonic(), 3 * tries + 1, tries + 1
+        nodes[2].say(lines[first + 2] + END)
+        time.sleep(0.03)
+        for node in nodes[:2]:
+            node.say(lines[first] + END + lines[first + 1] + END)
+        if time.monotonic() - begun > 0.1:
+            break  # (a busy machine: the lines between came too late)
+        for line in lines[first : first + 3]:
+            want(bot.line() == line + END, f"{line} comes next")
+        newest += 1
+    alone = time.monotonic()
+    connections = len(nodes[2].got)
+    nodes[2].hang_up()
+    waited(lambda: len(nodes[2].got) > connections and nodes[2].got[-1] == VERSION, "the next connection")
+    nodes[2].say(lines[-1] + END)
+    while (line := bot.line()) != lines[-1] + END:
+        want(line in [each + END for each in lines], f"{line!r} came")
+    took = time.monotonic() - alone
+    want(took >= 0.2, f"a line that is ahead waited {took:.2f} s")
+    bot.close()
+    relay.ends(1)
+
+
+@test()
 def answers_go_to_one_node(folder, seed, is_long):
     """An answer goes to the node that told its line first, to others where no line comes in 0.5, then 1 and 2 seconds, and
     to each once. What isn't an answer to the newest line goes nowhere."""

@@ -194,7 +194,22 @@ class RelayMatch(Match):
             missing, got, lines = self.missing(seat), bot.record(), self.lines(seat)
             begun = lines.index(got.splitlines(keepends=True)[0])
             is_whole = begun <= 2 and got == b"".join(lines[begun:])
-            want(is_whole, f"bot {seat} got {got.count(10)} lines of {len(lines)}, from line {begun} on; {missing} are missing")
+            want(is_whole, f"bot {seat} got {got.count(10)} lines of {len(lines)}, from line {begun} on; {missing} are missing: {self.losses(seat, lines[begun:])}")
+
+    def losses(self, seat, lines):
+        """The first lines that a bot's record lacks; when it got the next one, and when nodes were killed before that."""
+        told = {}
+        for line in (self.folder / f"trace{seat}").read_bytes().splitlines():
+            moment, way, text = line.split(b" ", 2)
+            if way == b"TO":
+                told[text + b"\r\n"] = float(moment)
+        found = []
+        for place, line in enumerate(lines):
+            if line not in told and len(found) < 3:
+                after = next((told[later] for later in lines[place:] if later in told), time.time())
+                kills = [f"{after - kill:.3f}" for kill in self.kills if after - 2 < kill < after]
+                found.append(f"{line.decode().strip()}, {kills} s behind kills")
+        return "; ".join(found)
 
     def are_shared(self):
         """Lines came from at least two nodes."""

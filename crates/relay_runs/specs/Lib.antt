@@ -4,6 +4,7 @@ pub mod Heard
 pub mod Own
 pub mod Few
 pub mod Meant
+pub mod SaidAs
 pub mod Course
 pub mod Told
 pub mod Kept

@@ -6,6 +6,7 @@ ghost use Rattle.seat_relay.specs.Relaying.{with_event, Ends};
 ghost use Rattle.relay_runs.specs.Said.{ended, hello_of, AreEmpty, Reads, Writes};
 ghost use Rattle.relay_runs.specs.Course.{Course};
 ghost use Rattle.relay_runs.specs.Own.{was_dialled, IsNoneDialled};
+ghost use Rattle.relay_runs.specs.SaidAs.{IsSaidAs};
 ghost use Rattle.relay_runs.specs.Kept.{Keeps, Stays};
 
 use crate::limits::{BACKLOG, LONGEST_LINE};
@@ -244,7 +245,8 @@ impl Desk {
     /// Takes the next line that came from the bot. What is no comment, and not too long, is first the version that it names,
     /// by which it gets its seat; and then it is said to the machine: its text, or what that is mended to.
     pub(crate) fn take_saying(&mut self) -> Result<Saying, AllocError>
-        ensures { Stays self.old self.new }
+        ensures stays { Stays self.old self.new }
+        ensures said { IfOk result (λ saying. IsSaidAs self.old self.new saying) }
     {
         let Some((raw, _)) = cut(self.from_bot.waiting(), b'\n') else {
             return Ok(self.pass_unended());
@@ -287,7 +289,8 @@ impl Desk {
     /// Passes over the beginning of a line of the bot that is too long already; it is told of once.
     fn pass_unended(&mut self) -> Saying
         requires { IsFreeOf 10 self.old.from_bot.waiting }
-        ensures { Stays self.old self.new }
+        ensures stays { Stays self.old self.new }
+        ensures said { IsSaidAs self.old self.new result }
     {
         if !begins_too_long(self.from_bot.waiting()) {
             return Saying::Nothing;
@@ -402,6 +405,24 @@ impl Desk {
         match self.to_nodes.get_mut(node as usize) {
             Some(waiting) => write_some(waiting, wire, Line::Peer(node)),
             None => Some(true),
+        }
+    }
+
+    /// Whether the next whole line that came from a node is a dealer's line that stands behind the one that the bot was given
+    /// last.
+    pub(crate) fn is_ahead(&self, node: u8) -> bool {
+        let (Some(came), Some(last)) = (self.from_nodes.get(node as usize), self.relay.last())
+        else {
+            return false;
+        };
+        let Some((raw, _)) = cut(came.waiting(), b'\n') else {
+            return false;
+        };
+        match (place_of(text_of(raw)), place_of(last)) {
+            (Some(next), Some(last)) => {
+                last.hand < next.hand || (last.hand == next.hand && last.len < next.len)
+            }
+            _ => false,
         }
     }
 

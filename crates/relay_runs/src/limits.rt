@@ -30,6 +30,9 @@ pub(crate) const MOST_PATIENCE: u64 = 4_000_000;
 /// Where each node has refused for so long, the match is over, or all nodes are lost.
 pub(crate) const REFUSED_TIME: u64 = 10_000_000;
 
+/// The first line of a connection that is ahead of the bot waits so long for what other nodes tell before it.
+pub(crate) const AHEAD_TIME: u64 = 200_000;
+
 /// A connection that ends within this time is a short one.
 pub(crate) const SHORT_TIME: u64 = 1_000_000;
 

@@ -1,6 +1,6 @@
 //! How it stands with a node.
 
-use crate::limits::{DIAL_PAUSE, SHORT_PAUSE, SHORT_TIME};
+use crate::limits::{AHEAD_TIME, DIAL_PAUSE, SHORT_PAUSE, SHORT_TIME};
 
 /// How it stands with a node.
 #[derive(Drop)]
@@ -11,14 +11,21 @@ pub(crate) struct NodeState {
     pub(crate) taken_at: Option<u64>,
     /// Whether a dealer's line came over the connection.
     pub(crate) told: bool,
+    /// Until when the connection's first line waits, since it is ahead of what the bot was given: 0 once it has waited; none where
+    /// none did.
+    pub(crate) ahead_until: Option<u64>,
     /// Where the last connection was a short one, whether a line had come over it; none once the next one was taken, or refused.
     pub(crate) was_short: Option<bool>,
     /// Whether the connection that was taken last came behind a short one.
     pub(crate) follows_short: bool,
     /// When it is to be dialled.
     pub(crate) dial_at: u64,
+    /// When it was dialled last.
+    dialled_at: u64,
     /// Since when it is dialled without success; none where the last connection was taken.
-    pub(crate) refused_since: Option<u64>,
+    unreached_since: Option<u64>,
+    /// Since when each dial was refused soon; none where the last one wasn't.
+    refused_since: Option<u64>,
     /// How many lines came from it that the bot was given, so far.
     pub(crate) given: u64,
 }
@@ -43,9 +50,12 @@ impl NodeState {
             is_up: false,
             taken_at: None,
             told: false,
+            ahead_until: None,
             was_short: None,
             follows_short: false,
             dial_at: 0,
+            dialled_at: 0,
+            unreached_since: None,
             refused_since: None,
             given: 0,
         }
@@ -55,17 +65,23 @@ impl NodeState {
     pub(crate) fn await_dial(&mut self, now: u64) {
         self.dial_at = now;
         self.was_short = None;
+        self.unreached_since = None;
         self.refused_since = None;
     }
 
     /// It was dialled.
     pub(crate) fn begin(&mut self, now: u64) {
+        if self.unreached_since.is_none() {
+            self.unreached_since = Some(now);
+        }
         if self.refused_since.is_none() {
             self.refused_since = Some(now);
         }
+        self.dialled_at = now;
         self.is_up = true;
         self.taken_at = None;
         self.told = false;
+        self.ahead_until = None;
     }
 
     /// Something could be written to it, or came. Where so its connection was taken, and the one before was a short one, it
@@ -75,11 +91,23 @@ impl NodeState {
             return None;
         }
         self.taken_at = Some(now);
+        self.unreached_since = None;
         self.refused_since = None;
         let was_short = self.was_short;
         self.was_short = None;
         self.follows_short = was_short.is_some();
         was_short
+    }
+
+    /// The connection's first line is ahead of what the bot was given: whether it waits still.
+    pub(crate) fn waits_ahead(&mut self, now: u64) -> bool {
+        let until = match self.ahead_until {
+            Some(until) => until,
+            None => now.saturating_add(AHEAD_TIME),
+        };
+        let waits = now < until;
+        self.ahead_until = Some(if waits { until } else { 0 });
+        waits
     }
 
     /// Its connection ended, or couldn't be dialled.
@@ -90,6 +118,9 @@ impl NodeState {
             Parting::TurnedAway => (Some(false), self.short_pause()),
             Parting::Refused | Parting::Lasted => (None, DIAL_PAUSE),
         };
+        if parting == Parting::Refused && self.is_slow(now) {
+            self.refused_since = None;
+        }
         self.is_up = false;
         self.taken_at = None;
         self.was_short = was_short;
@@ -124,9 +155,22 @@ impl NodeState {
         }
     }
 
-    /// Whether it has refused for so long.
+    /// Whether nobody has answered the last dial for a second: it isn't refused.
+    fn is_slow(&self, now: u64) -> bool {
+        now.saturating_sub(self.dialled_at) >= SHORT_TIME
+    }
+
+    /// Whether it has refused for so long, each time it was dialled.
     pub(crate) fn has_refused(&self, now: u64, time: u64) -> bool {
         match self.refused_since {
+            Some(then) => now.saturating_sub(then) >= time && !(self.is_up && self.is_slow(now)),
+            None => false,
+        }
+    }
+
+    /// Whether it wasn't reached for so long.
+    pub(crate) fn is_unreached(&self, now: u64, time: u64) -> bool {
+        match self.unreached_since {
             Some(then) => now.saturating_sub(then) >= time,
             None => false,
         }

@@ -164,6 +164,9 @@ impl RelayServer {
     fn take_lines(&mut self, node: u8, now: u64) -> Result<bool, AllocError>
         ensures { Stays self.old.desk self.new.desk }
     {
+        if self.waits_ahead(node, now) {
+            return Ok(true);
+        }
         for _ in 0..u64::MAX {
             let taken = self.desk.take_line(node)?;
             if let Some(goes_on) = self.note_line(node, taken, now) {
@@ -171,6 +174,30 @@ impl RelayServer {
             }
         }
         Ok(true)
+    }
+
+    /// Whether the first line of a node's connection waits, since it is ahead of the bot: a node begins with its newest line, and
+    /// the lines between are still to come from another node that was connected before.
+    fn waits_ahead(&mut self, node: u8, now: u64) -> bool
+        ensures { self.new.desk ≡ self.old.desk }
+    {
+        if self.has_told(node) || !self.is_told_by_another(node) || !self.desk.is_ahead(node) {
+            return false;
+        }
+        match self.nodes.get_mut(node as usize) {
+            Some(state) => state.waits_ahead(now),
+            None => false,
+        }
+    }
+
+    /// Whether a dealer's line came over the connection of another node.
+    fn is_told_by_another(&self, node: u8) -> bool {
+        for other in 0..self.count {
+            if other != node && self.has_told(other) {
+                return true;
+            }
+        }
+        false
     }
 
     /// Notes what came from a node. `None` where more may have come; else whether its connection goes on.

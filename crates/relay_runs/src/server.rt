@@ -154,6 +154,7 @@ impl RelayServer {
             due = due.min(self.answering.due());
         }
         due = due.min(self.dial_time(due));
+        due = due.min(self.ahead_time(due, now));
         due.saturating_sub(now)
     }
 
@@ -171,12 +172,35 @@ impl RelayServer {
         due
     }
 
+    /// When a line is to be taken that waits since it is ahead of the bot; not after this moment.
+    fn ahead_time(&self, most: u64, now: u64) -> u64 {
+        let mut due = most;
+        for node in &self.nodes {
+            if let Some(until) = node.ahead_until {
+                if node.is_up && !node.told && until > 0 {
+                    due = due.min(until.max(now));
+                }
+            }
+        }
+        due
+    }
+
     // ---- the end
 
-    /// Whether each node has refused for so long.
-    fn have_refused(&self, now: u64, time: u64) -> bool {
+    /// Whether each node has refused for ten seconds.
+    fn have_refused(&self, now: u64) -> bool {
         for node in &self.nodes {
-            if !node.has_refused(now, time) {
+            if !node.has_refused(now, REFUSED_TIME) {
+                return false;
+            }
+        }
+        true
+    }
+
+    /// Whether no node was reached for so long.
+    fn are_unreached(&self, now: u64, time: u64) -> bool {
+        for node in &self.nodes {
+            if !node.is_unreached(now, time) {
                 return false;
             }
         }
@@ -192,11 +216,11 @@ impl RelayServer {
         }
         // A bot that reads late gets all lines first, as long as the relay doesn't give up.
         let has_all = self.desk.last().is_some() && self.desk.backlog() == 0;
-        if has_all && self.have_refused(now, REFUSED_TIME) {
+        if has_all && self.have_refused(now) {
             self.desk.let_go(wire);
             return Err(RelayEnd::OverOrLost);
         }
-        if self.have_refused(now, self.give_up) {
+        if self.are_unreached(now, self.give_up) {
             self.desk.let_go(wire);
             return Err(RelayEnd::NotReached);
         }

@@ -6,8 +6,8 @@ use Rattle.relay_runs.proofs.Hearing.{heard_rest, heard_quiet, heard_says}
 use Rattle.relay_runs.proofs.Keeping.{kept_quiet, kept_says}
 use Rattle.relay_runs.proofs.desk.Desk.take_saying.Goals as goal
 
-pub returns-then-self : goal.returns-then-self
-returns-then-self c = record {
+pub returns-then-self-clause-stays : goal.returns-then-self-clause-stays
+returns-then-self-clause-stays c = record {
   kept = λ passed.
       let raw : List ℕ = c.in-Some.raw.now in
       let rest : List ℕ = c.in-Some.field-0-1.now in
@@ -16,8 +16,8 @@ returns-then-self c = record {
       (heard_rest _ _ _ raw rest refl refl refl front (c.skip.ensures.waiting ∙ (ap (λ (l : List ℕ). drop (length raw + 1) l) front ∙ behind_line raw rest)) c.if-self.true refl refl c.in-Some.ensures.found.1);
 }
 
-pub returns-then-text-gt-LONGEST_LINE : goal.returns-then-text-gt-LONGEST_LINE
-returns-then-text-gt-LONGEST_LINE c = record {
+pub returns-then-text-gt-LONGEST_LINE-clause-stays : goal.returns-then-text-gt-LONGEST_LINE-clause-stays
+returns-then-text-gt-LONGEST_LINE-clause-stays c = record {
   kept = λ passed.
       let raw : List ℕ = c.in-Some.raw.now in
       let rest : List ℕ = c.in-Some.field-0-1.now in
@@ -27,8 +27,8 @@ returns-then-text-gt-LONGEST_LINE c = record {
       (AddsSaid.passed _ (record { text = c.text_of-text.result.now; is_text = c.text_of-text.ensures; reason = inr (grind (arith, common_steps)) })));
 }
 
-pub returns-then-is_comment : goal.returns-then-is_comment
-returns-then-is_comment c = record {
+pub returns-then-is_comment-clause-stays : goal.returns-then-is_comment-clause-stays
+returns-then-is_comment-clause-stays c = record {
   kept = λ passed.
       let raw : List ℕ = c.in-Some.raw.now in
       let rest : List ℕ = c.in-Some.field-0-1.now in
@@ -38,8 +38,8 @@ returns-then-is_comment c = record {
       (AddsSaid.passed _ (record { text = c.text_of-text.result.now; is_text = c.text_of-text.ensures; reason = inl (sym c.is_comment.ensures ∙ c.if-is_comment.true) })));
 }
 
-pub returns-then-not-self : goal.returns-then-not-self
-returns-then-not-self c = record {
+pub returns-then-not-self-clause-stays : goal.returns-then-not-self-clause-stays
+returns-then-not-self-clause-stays c = record {
   kept = λ passed.
       let raw : List ℕ = c.in-Some.raw.now in
       let rest : List ℕ = c.in-Some.field-0-1.now in
@@ -49,8 +49,8 @@ returns-then-not-self c = record {
       (seats _ _ _ _ c.if-not-self.true c.text_of-text.ensures (c.is_version.ensures c.if-not-is_version.false)));
 }
 
-pub returns : goal.returns
-returns c = record {
+pub returns-clause-stays : goal.returns-clause-stays
+returns-clause-stays c = record {
   kept = λ passed.
       let raw : List ℕ = c.in-Some.raw.now in
       let rest : List ℕ = c.in-Some.field-0-1.now in
