@@ -369,7 +369,7 @@ def strangers_at_seats(seed, is_long):
     return figures
 
 
-@test(seeds=3, by_name=True)
+@test(seeds=3)
 def flooding_seat(seed, is_long):
     """A seat's client with its token sends a million empty lines a second to each node, and answers rightly."""
     match, delay = besieged(seed)
@@ -414,7 +414,7 @@ class Room:
         shutil.rmtree(self.folder, ignore_errors=True)
 
 
-@test(by_name=True)
+@test()
 def notes_and_a_small_disk(seed, is_long):
     """Stores, logs and notes are on one disk with 20 MB free, and the flood is on: no process ends. In the long form for ten
     minutes."""
@@ -435,7 +435,7 @@ def notes_and_a_small_disk(seed, is_long):
         return figures
 
 
-@test(seeds=2, by_name=True)
+@test(seeds=2)
 def lines_before_answers(seed, is_long):
     """A bot sends a thousand empty lines before each right answer; another answers the first line of its match 9,300 times
     before it answers the newest one: the match goes on."""
@@ -481,7 +481,7 @@ def shown_again(seed, is_long):
     return figures
 
 
-@test(seeds=3, by_name=True)
+@test(seeds=3)
 def shown_without_end(seed, is_long):
     """The same as fast as can be, while the seat's bot plays: it and the one who shows the token part each other, and the
     notes that tell of it are few."""
@@ -530,7 +530,7 @@ def many_askers(seed, is_long):
     return figures
 
 
-@test(by_name=True)
+@test()
 def besieged_match(seed, is_long):
     """A match from its first hand to its last while strangers dial two nodes and a seat floods them: at no less than a third
     of its speed where the same programs have others to attack. In the long form it has 10,000 hands."""

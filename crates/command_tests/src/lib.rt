@@ -13,6 +13,8 @@ mod hand_tests;
 #[cfg(test)]
 mod node_command_tests;
 #[cfg(test)]
+mod note_flood_tests;
+#[cfg(test)]
 mod play_tests;
 #[cfg(test)]
 mod serve_tests;

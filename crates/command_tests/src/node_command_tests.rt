@@ -37,15 +37,15 @@ peer 1: gone
 peer 2: 127 StoreReplaced
 peer 0: 123 OtherMatch digest (from 10.0.0.7)
 caller: 122 BadHello
-caller: 120 BadLength (12 times)
+callers: no place
 quorum
 quorum lost
 campaigns in ballot (5, 1)
+12 notes left out
 ";
 
 /// Notes of all kinds, in the order of their lines.
-fn notes<'a>(name: Name) -> [NodeNote<'a>; 15] {
-    let bad_length = PeerFault::Record(RecordFault::BadLength);
+fn notes<'a>(name: Name) -> [NodeNote<'a>; 16] {
     [
         NodeNote::Begins {
             name,
@@ -69,17 +69,12 @@ fn notes<'a>(name: Name) -> [NodeNote<'a>; 15] {
             fault: PeerFault::OtherMatch(Mismatch::Digest),
             source: Some(IpAddr::from([10, 0, 0, 7])),
         },
-        NodeNote::Callers {
-            count: 1,
-            fault: PeerFault::Record(RecordFault::BadHello),
-        },
-        NodeNote::Callers {
-            count: 12,
-            fault: bad_length,
-        },
+        NodeNote::Caller(PeerFault::Record(RecordFault::BadHello)),
+        NodeNote::NoPlace,
         NodeNote::Quorum,
         NodeNote::QuorumLost,
         NodeNote::Campaigns(Ballot { round: 5, node: 1 }),
+        NodeNote::LeftOut(12),
     ]
 }
 
@@ -174,7 +169,7 @@ fn a_key_is_64_digits(rt: HostRuntime) -> Result<(), Fail> {
 
 /// Keeps no life: none is told in these tests.
 #[derive(Drop)]
-struct NoLives;
+pub(crate) struct NoLives;
 
 impl LifeKeeper for NoLives {
     ghost kept = { λ _ _ _ _. Unit {0} };

@@ -1,12 +1,12 @@
 -- The account of notes, step by step.
-use Rattle.std.proofs.Common.{◌≡◌, ℕ, ◌+◌, ◌-◌, ◌^◌, ◌<◌, ◌≤◌, ◌==◌, ◌&&◌, min, get_or, Bool, true, false, cond, List, [], ◌∷◌, ◌++◌, refl, sym, ap, ◌∙◌, subst, length, inl, inr, arith}
-use Rattle.std.specs.List.{sum_by, count_by, filter}
+use Rattle.std.proofs.Common.{◌≡◌, ℕ, ◌+◌, ◌-◌, ◌^◌, ◌<◌, ◌≤◌, ◌==◌, ◌&&◌, min, get_or, Bool, true, cond, List, [], ◌∷◌, ◌++◌, refl, sym, ap, ◌∙◌, subst, length, inl, inr, arith}
+use Rattle.std.specs.List.{count_by, filter}
 use Rattle.std.specs.Prelude.{nat_lt}
 use Rattle.std.proofs.lemmas.Bool.{and_parts, ltb-true, lt-ltb, eqb-true, eq-eqb, ne_eqb, cases_eq, cond-true, cond-false, cond_both}
 use Rattle.std.proofs.lemmas.List.Elements.{filter-append}
 use Rattle.std.proofs.lemmas.List.Sums.{sum_by_push, count_by-le-length}
 use Rattle.node_runs.specs.NoteGroups.{most_of, room_of}
-use Rattle.node_runs.specs.NoteLimits.{IsAccount, IsAtMost, is_of, is_low, is_recent, sum_of, waiting_at, has_room, has_due, counted_at, second}
+use Rattle.node_runs.specs.NoteLimits.{IsAccount, is_of, is_low, is_recent, sum_of, waiting_at, has_room, has_due, counted_at, second}
 use Rattle.node_runs.specs.declared.note_limits.Count.{Count}
 use Rattle.node_runs.specs.declared.note_limits.NoteLimits.{NoteLimits}
 use Rattle.node_runs.specs.NoteSteps.{Waits}
@@ -39,7 +39,7 @@ passed came told limits next account later kept waits = record {
 }
 
 -- of no group more lines find room than of any
-room_at_most : (group : ℕ) → room_of group ≤ 50
+pub room_at_most : (group : ℕ) → room_of group ≤ 50
 room_at_most group = cond_both (nat_lt group 110) 40 50 (λ (n : ℕ). n ≤ 50) (λ is. omega arith) (λ is. omega arith)
 
 pub sum_pushed : (group : ℕ) (counts : List Count) (one : Count) → sum_of group (counts ++ one ∷ []) ≡ sum_of group counts + cond (one.group == group) one.count 0

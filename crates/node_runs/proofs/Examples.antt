@@ -1,5 +1,6 @@
 -- Notes, files and ends of a node's process, on values.
-use Rattle.std.proofs.Common.{◌≡◌, inl, inr, ℕ, List, [], ◌∷◌, ◌++◌, slice_index, Some, None, Ok, Err, refl, ap, arith}
+use Rattle.std.proofs.Common.{◌≡◌, inl, inr, ℕ, false, List, [], ◌∷◌, ◌++◌, slice_index, Some, None, Ok, Err, refl, ap, arith}
+use Rattle.std.specs.List.{filter}
 use Rattle.std.specs.Prelude.{codes}
 use Rattle.std.specs.Fmt.{digits}
 use Rattle.std.specs.Net.Addr.{ipv4_octets}
@@ -17,7 +18,6 @@ use Rattle.dealer_node.specs.declared.fault.NodeFault.TheVariants as fault
 use Rattle.serving.specs.declared.serve_fault.ServeFault.TheVariants as serve
 use Rattle.match_file.specs.declared.match_fault.MatchFault.TheVariants as file
 use Rattle.match_runs.specs.declared.unserved.Unserved.TheVariants as unserved
-use Rattle.node_service.specs.declared.server_notice.ServerNotice.{ServerNotice}
 use Rattle.node_service.specs.declared.server_notice.ServerNotice.TheVariants as told
 use Rattle.node_runs.specs.BesideStore.{node_kept_name, life_name, logs_kept_name}
 use Rattle.node_runs.specs.KeyFiles.{fault_of, keyed}
@@ -26,14 +26,17 @@ use Rattle.node_runs.specs.NodeNotes.{note_text, note_line}
 use Rattle.node_runs.specs.Tokens.{tokens_line}
 use Rattle.node_runs.specs.NodeEnds.{status_of, end_text}
 use Rattle.node_runs.specs.NoteGroups.{group_of, most_of, others}
-use Rattle.node_runs.specs.NoteLimits.{IsAtMost, is_of, lines_within, sum_of}
-use Rattle.node_runs.specs.ServerNotes.{notice_lines}
+use Rattle.node_runs.specs.NoteLimits.{IsAtMost, IsNoneDue, has_room, is_of, is_recent, latest, lines_within, sum_of}
+use Rattle.node_runs.specs.ServerNotes.{notice_lines, group_lines}
+use Rattle.node_runs.specs.WaitingNotes.{newest_of}
 use Rattle.node_runs.specs.declared.note_limits.Count.{Count}
 use Rattle.seat_session.specs.declared.session_fault.SessionFault.TheVariants.{LineTooLong}
 use Rattle.node_runs.specs.declared.key_file.KeyFault.TheVariants as key
-use Rattle.node_runs.specs.declared.node_end.NodeEnd.{NodeEnd}
 use Rattle.node_runs.specs.declared.node_end.NodeEnd.TheVariants as end
 use Rattle.node_runs.specs.declared.node_note.NodeNote.TheVariants as note
+
+abbrev names : List (List ℕ)
+names = codes "alice" ∷ codes "bob" ∷ []
 
 -- ---- files
 
@@ -110,12 +113,96 @@ unfolding digits
 there_already address octets = rw octets refl
 
 -- how many callers it were is told of more than one
-one_caller : note_text (note.Callers 1 (Record BadHello)) ≡ codes "caller: 122 BadHello"
+one_caller : notice_lines names 1 7010 (told.Callers 1 (Record BadHello)) ≡ (codes "caller: 122 BadHello" ++ 10 ∷ []) ∷ []
 one_caller = refl
 
-three_callers : note_text (note.Callers 3 (Record BadLength)) ≡ codes "caller: 120 BadLength (3 times)"
+three_callers : notice_lines names 1 7010 (told.Callers 3 (Record BadLength)) ≡ (codes "caller: 120 BadLength (3 times)" ++ 10 ∷ []) ∷ []
 unfolding digits
 three_callers = refl
+
+many_left_out : note_text (note.LeftOut 1204) ≡ codes "1204 notes left out"
+unfolding digits
+many_left_out = refl
+
+-- a count of several is told by the newest of the group; of notes that have no group of their own only how many they were
+many_wrong_lines : group_lines names 1 7010 (Some (told.Faulty 0 LineTooLong)) 1 1204 ≡ (codes "seat 0 (alice) at node 1: 81 LineTooLong (1204 times)" ++ 10 ∷ []) ∷ []
+unfolding digits
+many_wrong_lines = refl
+
+eleven_others : group_lines names 1 7010 (Some told.Quorum) 124 11 ≡ (codes "11 notes left out" ++ 10 ∷ []) ∷ []
+unfolding digits
+eleven_others = refl
+
+one_other : group_lines names 1 7010 (Some told.Quorum) 124 1 ≡ (codes "quorum" ++ 10 ∷ []) ∷ []
+one_other = refl
+
+seven_without_a_place : group_lines names 1 7010 None 109 7 ≡ (codes "callers: no place (7 times)" ++ 10 ∷ []) ∷ []
+unfolding digits
+seven_without_a_place = refl
+
+-- ---- groups
+
+wrong_lines_of_bob : group_of (told.Faulty 1 LineTooLong) ≡ 11
+wrong_lines_of_bob = refl
+
+last_seat : group_of (told.Ordered 9) ≡ 99
+last_seat = refl
+
+no_seat_10 : group_of (told.Seated 10) ≡ others
+no_seat_10 = refl
+
+callers_by_120 : group_of (told.Callers 3 (Record BadLength)) ≡ 100
+callers_by_120 = refl
+
+callers_by_128 : group_of (told.Callers 1 AlreadyHere) ≡ 108
+callers_by_128 = refl
+
+gone_peer_6 : group_of (told.Gone 6) ≡ 123
+gone_peer_6 = refl
+
+-- ten lines a second of refused answers, one of lines that are none
+ten_of_85 : most_of 15 ≡ 10
+ten_of_85 = refl
+
+one_of_82 : most_of 12 ≡ 1
+one_of_82 = refl
+
+-- ---- how many notes are told
+
+abbrev a_line : ℕ → ℕ → Count
+a_line time group = record { time = time; group = group; count = 1 }
+
+-- two lines of one group that lie a second apart are in no second together, and two that lie less apart are
+a_second_apart : lines_within 5 (is_of 1) (a_line 5 1 ∷ a_line 1000005 1 ∷ []) ≡ 1
+a_second_apart = refl
+
+less_apart : lines_within 5 (is_of 1) (a_line 5 1 ∷ a_line 1000004 1 ∷ []) ≡ 2
+less_apart = refl
+
+twice_in_a_second : ¬ (IsAtMost 1 (is_of 1) (a_line 5 1 ∷ a_line 1000004 1 ∷ []))
+twice_in_a_second few = let e = few 5 in omega (arith, e)
+
+-- what came of a group, and of no other
+five_of_group_1 : sum_of 1 (record { time = 5; group = 1; count = 2 } ∷ record { time = 5; group = 2; count = 9 } ∷ record { time = 6; group = 1; count = 3 } ∷ []) ≡ 5
+five_of_group_1 = refl
+
+-- a clock that goes back changes nothing
+clock_went_back : latest 5 (3 ∷ 9 ∷ 7 ∷ []) ≡ 9
+clock_went_back = refl
+
+no_turn_yet : latest 5 [] ≡ 5
+no_turn_yet = refl
+
+-- what waits is due once the second of the line before it is over
+nothing_waits : IsNoneDue [] [] 5
+nothing_waits = λ group few less. absurd (omega (arith, less))
+
+due_again : ¬ (IsNoneDue (a_line 5 1 ∷ a_line 6 1 ∷ []) (a_line 5 1 ∷ []) 1000005)
+due_again none = let e : has_room (filter (is_recent 1000005) (a_line 5 1 ∷ [])) 1 ≡ false = none 1 (omega arith) (omega arith) in absurd (cc)
+
+-- the newest of a group
+newest_wrong_line : newest_of 1 (told.Faulty 0 LineTooLong ∷ told.Quorum ∷ []) ≡ Some (told.Faulty 0 LineTooLong)
+newest_wrong_line = refl
 
 a_token_is_known : note_text (note.KnownToken 1) ≡ codes "token of seat 1 is an example's: draw another"
 unfolding digits
@@ -177,9 +264,6 @@ store_of_another_life = refl
 
 -- ---- what is told, by the seats' names, at node 1, which awaits seat 0 at port 7010
 
-abbrev names : List (List ℕ)
-names = codes "alice" ∷ codes "bob" ∷ []
-
 bob_is_seated : notice_lines names 1 7010 (told.Seated 1) ≡ (codes "seat 1 (bob) at node 1: seated" ++ 10 ∷ []) ∷ []
 unfolding digits
 bob_is_seated = refl
@@ -203,49 +287,3 @@ bob_is_waited_for = refl
 -- of a seat that there isn't nothing is told
 no_seat_2 : notice_lines names 1 7010 (told.Left 2) ≡ []
 no_seat_2 = refl
-
--- ---- groups
-
-wrong_lines_of_bob : group_of (told.Faulty 1 LineTooLong) ≡ 11
-wrong_lines_of_bob = refl
-
-last_seat : group_of (told.Ordered 9) ≡ 99
-last_seat = refl
-
-no_seat_10 : group_of (told.Seated 10) ≡ others
-no_seat_10 = refl
-
-callers_by_120 : group_of (told.Callers 3 (Record BadLength)) ≡ 100
-callers_by_120 = refl
-
-callers_by_128 : group_of (told.Callers 1 AlreadyHere) ≡ 108
-callers_by_128 = refl
-
-gone_peer_6 : group_of (told.Gone 6) ≡ 123
-gone_peer_6 = refl
-
--- ten lines a second of refused answers, one of lines that are none
-ten_of_85 : most_of 15 ≡ 10
-ten_of_85 = refl
-
-one_of_82 : most_of 12 ≡ 1
-one_of_82 = refl
-
--- ---- how many notes are told
-
-abbrev a_line : ℕ → ℕ → Count
-a_line time group = record { time = time; group = group; count = 1 }
-
--- two lines of one group that lie a second apart are in no second together, and two that lie less apart are
-a_second_apart : lines_within 5 (is_of 1) (a_line 5 1 ∷ a_line 1000005 1 ∷ []) ≡ 1
-a_second_apart = refl
-
-less_apart : lines_within 5 (is_of 1) (a_line 5 1 ∷ a_line 1000004 1 ∷ []) ≡ 2
-less_apart = refl
-
-twice_in_a_second : ¬ (IsAtMost 1 (is_of 1) (a_line 5 1 ∷ a_line 1000004 1 ∷ []))
-twice_in_a_second few = let e = few 5 in omega (arith, e)
-
--- what came of a group, and of no other
-five_of_group_1 : sum_of 1 (record { time = 5; group = 1; count = 2 } ∷ record { time = 5; group = 2; count = 9 } ∷ record { time = 6; group = 1; count = 3 } ∷ []) ≡ 5
-five_of_group_1 = refl

@@ -6,3 +6,5 @@ pub mod CountedLines
 pub mod OneLog
 pub mod Counting
 pub mod Accounts
+pub mod Waiting
+pub mod Telling

@@ -14,7 +14,7 @@ use Rattle.stations.specs.Deeds.{Deed}
 use Rattle.stations.specs.Stations.{LeavesFile, known_place}
 use Rattle.node_service.specs.Ending.{is_well, IsOverAt}
 use Rattle.node_service.specs.Going.{GoesOn as WentOn}
-use Rattle.node_service.specs.Logging.{StartedOnce, IsOnce, IsFresh, IsBegun, ShowsOneLog, HasOneLog, IsAcceptedOver}
+use Rattle.node_service.specs.Logging.{IsOnce, IsFresh, IsBegun, ShowsOneLog, HasOneLog, IsAcceptedOver}
 use Rattle.node_service.specs.Served.{Served}
 use Rattle.node_service.specs.Showing.{shown_log, LogGains}
 use Rattle.node_service.specs.declared.outcome.Outcome.{Outcome}
@@ -23,7 +23,7 @@ use Rattle.node_service.specs.declared.server.NodeServer.{NodeServer}
 use Rattle.node_service.specs.declared.server_notice.ServerNotice.{ServerNotice}
 use Rattle.node_service.proofs.Going.{nothing_done}
 use Rattle.node_service.specs.Serving.{served_of}
-use Rattle.node_runs.specs.OneLog.{IsLeftBy, WritesOneLog, WritesItsLog, WritesAcceptedLog}
+use Rattle.node_runs.specs.OneLog.{IsLeftBy, WritesItsLog, WritesAcceptedLog}
 use Rattle.node_runs.specs.Running as run
 use Rattle.node_runs.specs.Running.{Turns, EndsBy, GoesOnTo, by_turn, unkept, by_count}
 use Rattle.node_runs.specs.declared.node_end.NodeEnd.{NodeEnd}
@@ -36,22 +36,23 @@ well_last outcome count waiting told answer (unkept before more peer life fault)
 well_last outcome count waiting told answer (by_count before more all) = tt
 
 module _ {D W : Type 0} {disk : Ghosts D} {wire : OfWire W} where
-  well_first : (started : NodeServer D W disk wire) (first : Outcome) (count : ℕ) (waiting : List ServerNotice) (outcome : Outcome) (last : NodeServer D W disk wire)
-      → Turns started first count waiting outcome last → is_well outcome ≡ true → is_well first ≡ true
-  well_first started first count waiting outcome last run.Turns.none well = well
-  well_first started first count waiting outcome last (run.Turns.one earlier before was next left turns goes why) well = well_first started first earlier before leaves.GoesOn was turns refl
+  well_first : (started : NodeServer D W disk wire) (first : Outcome) (count : ℕ) (moments : List ℕ) (waiting : List ServerNotice) (outcome : Outcome) (last : NodeServer D W disk wire)
+      → Turns started first count moments waiting outcome last → is_well outcome ≡ true → is_well first ≡ true
+  well_first started first count moments waiting outcome last run.Turns.none well = well
+  well_first started first count moments waiting outcome last (run.Turns.one earlier sooner before was next left turns goes why) well = well_first started first earlier sooner before leaves.GoesOn was turns refl
 
-  pub well_begun : (started : NodeServer D W disk wire) (first outcome : Outcome) (count : ℕ) (waiting told : List ServerNotice) (last : NodeServer D W disk wire) (answer : Result (Unit {0}) NodeEnd)
-      → Turns started first count waiting outcome last → EndsBy outcome count waiting told answer → OnOk answer (is_well first ≡ true)
-  well_begun started first outcome count waiting told last (Ok done) turns ends = well_first started first count waiting outcome last turns (well_last outcome count waiting told (Ok done) ends)
-  well_begun started first outcome count waiting told last (Err why) turns ends = tt
+  pub well_begun : (started : NodeServer D W disk wire) (first outcome : Outcome) (count : ℕ) (moments : List ℕ) (waiting told : List ServerNotice) (last : NodeServer D W disk wire) (answer : Result (Unit {0}) NodeEnd)
+      → Turns started first count moments waiting outcome last → EndsBy outcome count waiting told answer → OnOk answer (is_well first ≡ true)
+  well_begun started first outcome count moments waiting told last (Ok done) turns ends = well_first started first count moments waiting outcome last turns (well_last outcome count waiting told (Ok done) ends)
+  well_begun started first outcome count moments waiting told last (Err why) turns ends = tt
 
   -- where the start left no turn to do the process is as it left it
-  pub as_started : (started : NodeServer D W disk wire) (first outcome : Outcome) (count : ℕ) (waiting : List ServerNotice) (last : NodeServer D W disk wire) → Turns started first count waiting outcome last
+  pub as_started : (started : NodeServer D W disk wire) (first outcome : Outcome) (count : ℕ) (moments : List ℕ) (waiting : List ServerNotice) (last : NodeServer D W disk wire)
+      → Turns started first count moments waiting outcome last
       → is_well first ≡ false → served_of last ≡ served_of started
-  as_started started first outcome count waiting last run.Turns.none ill = refl
-  as_started started first outcome count waiting last (run.Turns.one earlier before was next left turns goes why) ill =
-      let never : true ≡ false = sym (well_first started first earlier before leaves.GoesOn was turns refl) ∙ ill in absurd (cc)
+  as_started started first outcome count moments waiting last run.Turns.none ill = refl
+  as_started started first outcome count moments waiting last (run.Turns.one earlier sooner before was next left turns goes why) ill =
+      let never : true ≡ false = sym (well_first started first earlier sooner before leaves.GoesOn was turns refl) ∙ ill in absurd (cc)
 
 all_gained : (before after : Bool) (shown log new : List ℕ) → after ≡ false → LogGains before after shown log new → new ≡ log ++ shown
 all_gained false false shown log new none gains = gains

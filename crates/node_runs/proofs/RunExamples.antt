@@ -1,10 +1,9 @@
 -- How a run of a node's process ends, and what isn't one, on values.
-use Rattle.std.proofs.Common.{◌≡◌, ℕ, ◌+◌, ◌-◌, ◌^◌, List, [], ◌∷◌, ◌++◌, Some, None, Ok, Err, refl, arith}
-use Rattle.std.specs.Prelude.{Result, Option}
+use Rattle.std.proofs.Common.{◌≡◌, [], ◌∷◌, Some, Ok, Err, refl}
+use Rattle.std.specs.Prelude.{Result}
 use Rattle.node_service.specs.declared.outcome.Outcome.TheVariants as outcome
-use Rattle.node_service.specs.declared.server_notice.ServerNotice.{ServerNotice}
 use Rattle.node_service.specs.declared.server_notice.ServerNotice.TheVariants as told
-use Rattle.node_runs.specs.Running.{EndsBy, by_turn, end_of, KeepsLife}
+use Rattle.node_runs.specs.Running.{EndsBy, by_turn, end_of}
 use Rattle.node_runs.specs.declared.node_end.NodeEnd.{NodeEnd}
 use Rattle.node_runs.specs.declared.node_end.NodeEnd.TheVariants as end
 

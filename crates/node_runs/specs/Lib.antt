@@ -7,6 +7,8 @@ pub mod NoteGroups
 pub mod NoteLimits
 pub mod NoteSteps
 pub mod ServerNotes
+pub mod WaitingNotes
 pub mod Running
+pub mod Tellers
 pub mod OneLog
 pub mod Tokens

@@ -4,7 +4,6 @@ use Rattle.std.specs.Net.Text.{ip_text, socket_text}
 use Rattle.std.specs.declared.net.ip_addr.IpAddr.{IpAddr}
 use Rattle.node_links.specs.Lines.{peer_fault_line}
 use Rattle.paxos_wire.specs.Lines.{ballot_line}
-use Rattle.match_runs.specs.Notes.{times_text}
 use Rattle.node_runs.specs.KeyFiles.{fault_line}
 use Rattle.node_runs.specs.declared.node_note.NodeNote.{NodeNote}
 use Rattle.node_runs.specs.declared.node_note.NodeNote.TheVariants as note
@@ -34,12 +33,14 @@ note_text (note.Status address) = codes "status at " ++ socket_text address
 note_text (note.Joined peer) = peer_text peer (codes "joined")
 note_text (note.Gone peer) = peer_text peer (codes "gone")
 note_text (note.Refused peer fault source) = peer_text peer (peer_fault_line fault) ++ source_text source
-note_text (note.Callers count fault) = codes "caller: " ++ peer_fault_line fault ++ times_text count
+note_text (note.Caller fault) = codes "caller: " ++ peer_fault_line fault
+note_text note.NoPlace = codes "callers: no place"
 note_text (note.Unreached peer true) = peer_text peer (codes "its address refuses")
 note_text (note.Unreached peer false) = peer_text peer (codes "answers no dial")
 note_text note.Quorum = codes "quorum"
 note_text note.QuorumLost = codes "quorum lost"
 note_text (note.Campaigns ballot) = codes "campaigns in ballot " ++ ballot_line ballot
+note_text (note.LeftOut count) = decimal count ++ codes " notes left out"
 
 -- and its line feed
 abbrev pub note_line : NodeNote → List ℕ

@@ -1,6 +1,6 @@
 -- How many notes a process writes in a second: what came, what was told of it, and what waits to be told.
-use Rattle.std.specs.Prelude.{◌≡◌, ℕ, ◌+◌, ◌-◌, ◌^◌, ◌<◌, ◌≤◌, ◌==◌, ◌&&◌, max, nat_lt, nat_le, Bool, true, false, cond, Option, Some, None, List, [], ◌∷◌, ◌++◌, length, get_or}
-use Rattle.std.specs.List.{sum_by, count_by, filter}
+use Rattle.std.specs.Prelude.{◌≡◌, ℕ, ◌+◌, ◌-◌, ◌^◌, ◌<◌, ◌≤◌, ◌==◌, ◌&&◌, max, nat_lt, nat_le, Bool, true, false, cond, List, length, get_or}
+use Rattle.std.specs.List.{sum_by, count_by, filter, fold}
 use Rattle.node_runs.specs.NoteGroups.{most_of, room_of}
 use Rattle.node_runs.specs.declared.note_limits.Count.{Count}
 use Rattle.node_runs.specs.declared.note_limits.NoteLimits.{NoteLimits}
@@ -8,6 +8,10 @@ use Rattle.node_runs.specs.declared.note_limits.NoteLimits.{NoteLimits}
 -- a second, in microseconds
 abbrev pub second : ℕ
 second = 1000000
+
+-- the latest of these moments and of one before them
+abbrev pub latest : ℕ → List ℕ → ℕ
+latest first moments = fold max first moments
 
 -- whether it is of this group
 abbrev pub is_of : ℕ → Count → Bool
@@ -70,7 +74,13 @@ pub record IsWhole (came told rest : List Count) : Type 0 where
   pub low : IsAtMost 40 is_low told
   pub each : (group : ℕ) → IsAtMost (most_of group) (is_of group) told
   pub exact : (group : ℕ) → sum_of group came < 2 ^ 64 → sum_of group told + sum_of group rest ≡ sum_of group came
+  -- one line at most was left of a group
+  pub few : (group : ℕ) → count_by (is_of group) rest ≤ 1
 
 -- a note of a group that comes at this time, behind these, is told at once exactly where nothing of its group waits and there is room for a line of it
 abbrev pub IsAtOnce : (came told : List Count) → (time group : ℕ) → Bool → Type 0
 IsAtOnce came told time group is_told = sum_of group came < 2 ^ 64 → is_told ≡ (sum_of group told == sum_of group came && has_room (filter (is_recent time) told) group)
+
+-- of no group of which something waits, by what came and what was told, a line may be told at this time
+abbrev pub IsNoneDue : (came told : List Count) → (time : ℕ) → Type 0
+IsNoneDue came told time = (group : ℕ) → sum_of group came < 2 ^ 64 → sum_of group told < sum_of group came → has_room (filter (is_recent time) told) group ≡ false

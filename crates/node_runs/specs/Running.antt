@@ -1,5 +1,5 @@
 -- What a node's process does with its server, turn after turn, and what it tells.
-use Rattle.std.specs.Prelude.{◌≡◌, ◌⊎◌, ℕ, ◌+◌, ◌-◌, ◌^◌, List, [], ◌∷◌, ◌++◌, Option, Some, None, Result, Ok, Err, length}
+use Rattle.std.specs.Prelude.{◌≡◌, ◌⊎◌, ℕ, ◌+◌, ◌-◌, ◌^◌, Bool, cond, List, [], ◌∷◌, ◌++◌, Option, Some, None, Result, Ok, Err, length}
 use Rattle.promise_store.specs.declared.disk.Disk.{Ghosts}
 use Rattle.node_wires.specs.declared.wire.Wire.{Ghosts as OfWire}
 use Rattle.peer_codes.specs.declared.hello.Life.{Life}
@@ -25,7 +25,12 @@ use Rattle.node_service.specs.declared.server.NodeServer.{NodeServer}
 use Rattle.node_service.specs.declared.server_notice.ServerNotice.{ServerNotice}
 use Rattle.node_service.specs.declared.server_notice.ServerNotice.TheVariants as tells
 use Rattle.node_runs.specs.NodeNotes.{note_line}
-use Rattle.node_runs.specs.ServerNotes.{notice_lines}
+use Rattle.node_runs.specs.NoteGroups.{group_of, no_place}
+use Rattle.node_runs.specs.NoteLimits.{IsAtOnce, IsNoneDue, IsWhole, counted_at, latest}
+use Rattle.node_runs.specs.ServerNotes.{notice_lines, group_lines, Later}
+use Rattle.node_runs.specs.WaitingNotes.{Holds, newest_of, notice_at, with_line}
+use Rattle.node_runs.specs.declared.note_limits.Count.{Count}
+use Rattle.node_runs.specs.declared.waiting_notes.WaitingNotes.{WaitingNotes}
 use Rattle.node_runs.specs.declared.node_end.NodeEnd.{NodeEnd}
 use Rattle.node_runs.specs.declared.node_end.NodeEnd.TheVariants as end
 use Rattle.node_runs.specs.declared.node_note.NodeNote.TheVariants as note
@@ -49,16 +54,34 @@ KeepsLife kept other old new = new ≡ old
 abbrev pub HasLife : ServerNotice → Type 0
 HasLife thing = (peer : ℕ) × ((life : Life) × (thing ≡ tells.Joined peer (Some life)))
 
--- one thing was told, at this node, which awaits seat 0 at this port: before, the life in it was kept, if one is in it
-pub record TellsOne {K N : Type 0} (kept : K → ℕ → Life → K → Type 0) (look : Look N) (port : ℕ) (thing : ServerNotice) (held held_after : Option (List ℕ)) (lives lives_after : K) : Type 0 where
+-- one thing came, at this node, which awaits seat 0 at this port: the life in it was kept, if one is in it, and then it was told, or waits to be counted
+pub record TellsOne {K N : Type 0} (kept : K → ℕ → Life → K → Type 0) (look : Look N) (port : ℕ) (thing : ServerNotice) (is_told : Bool) (held held_after : Option (List ℕ)) (lives lives_after : K) : Type 0 where
   pub keeps : KeepsLife kept thing lives lives_after
-  pub noted : AreNoted (notice_lines look.config.setting.names look.number port thing) held held_after
+  pub noted : AreNoted (cond is_told (notice_lines look.config.setting.names look.number port thing) []) held held_after
 
--- so many things were told, one after another, since notes and keeper were these
-pub data Tells {K N : Type 0} (kept : K → ℕ → Life → K → Type 0) (look : Look N) (port : ℕ) (start : Option (List ℕ)) (first : K) : List ServerNotice → Option (List ℕ) → K → Type 0 where
-  none : Tells kept look port start first [] start first
-  one : (before : List ServerNotice) (thing : ServerNotice) (held held_after : Option (List ℕ)) (lives lives_after : K) → Tells kept look port start first before held lives
-      → TellsOne kept look port thing held held_after lives lives_after → Tells kept look port start first (before ++ thing ∷ []) held_after lives_after
+-- the lines of so many of a group, where these came
+abbrev pub later_lines : {N : Type 0} → Look N → ℕ → List ServerNotice → ℕ → ℕ → List (List ℕ)
+later_lines look port things group count = group_lines look.config.setting.names look.number port (newest_of group things) group count
+
+-- so many things came, one after another, while turns were left at these moments, and these lines were told of them, since notes and keeper were these at this moment
+pub data Tells {K N : Type 0} (kept : K → ℕ → Life → K → Type 0) (look : Look N) (port : ℕ) (start : Option (List ℕ)) (first : K) (began : ℕ)
+    : List ServerNotice → (moments : List ℕ) → (came lines : List Count) → Option (List ℕ) → K → Type 0 where
+  none : Tells kept look port start first began [] [] [] [] start first
+  -- one more came, which is told at once where there is room
+  one : (before : List ServerNotice) (thing : ServerNotice) (moments : List ℕ) (came lines : List Count) (is_told : Bool) (held held_after : Option (List ℕ)) (lives lives_after : K)
+      → Tells kept look port start first began before moments came lines held lives → TellsOne kept look port thing is_told held held_after lives lives_after
+      → IsAtOnce came lines (latest began moments) (group_of thing) is_told
+      → Tells kept look port start first began (before ++ thing ∷ []) moments (came ++ notice_at (latest began moments) thing ∷ []) (with_line lines is_told (notice_at (latest began moments) thing)) held_after lives_after
+  -- callers came for whom there was no place
+  turned_away : (before : List ServerNotice) (moments : List ℕ) (came lines : List Count) (count : ℕ) (is_told : Bool) (held held_after : Option (List ℕ)) (lives : K)
+      → Tells kept look port start first began before moments came lines held lives → AreNoted (cond is_told (later_lines look port before no_place count) []) held held_after
+      → IsAtOnce came lines (latest began moments) no_place is_told
+      → Tells kept look port start first began before moments (came ++ counted_at (latest began moments) no_place count ∷ []) (with_line lines is_told (counted_at (latest began moments) no_place count)) held_after lives
+  -- a turn was left at this moment, and lines count what waited, until there is room for none
+  later : (before : List ServerNotice) (moments : List ℕ) (moment : ℕ) (came lines more : List Count) (held held_after : Option (List ℕ)) (lives : K)
+      → Tells kept look port start first began before moments came lines held lives → Later (later_lines look port before) (latest began (moments ++ moment ∷ [])) held more held_after
+      → IsNoneDue came (lines ++ more) (latest began (moments ++ moment ∷ []))
+      → Tells kept look port start first began before (moments ++ moment ∷ []) came (lines ++ more) held_after lives
 
 -- ---- how it ends
 
@@ -70,7 +93,7 @@ end_of leaves.StoreReplaced = Some (Err end.StoreReplaced)
 end_of (leaves.Failed fault) = Some (Err (by_fault fault))
 end_of leaves.LogFailed = Some (Err (end.Unserved (unserved.Fault serve.LogFailed)))
 
--- of all that turns had to tell this was told when it ended so, after so many turns the last of which left this to do
+-- of all that turns had to tell this was taken when it ended so, after so many turns the last of which left this to do
 pub data EndsBy (outcome : Outcome) (count : ℕ) : (waiting told : List ServerNotice) → Result (Unit {0}) NodeEnd → Type 0 where
   -- all of it
   by_turn : (told : List ServerNotice) (answer : Result (Unit {0}) NodeEnd) → end_of outcome ≡ Some answer → EndsBy outcome count told told answer
@@ -102,29 +125,34 @@ module _ {D W : Type 0} {disk : Ghosts D} {wire : OfWire W} where
     pub known : first ≡ leaves.Over → ⊥
     pub fault : IsFault first → IsMeant started first
 
-  -- so many turns after one another since the node was started, which left this to do: all that start and turns had to tell, and what the last turn left to do
-  pub data Turns (started : NodeServer D W disk wire) (first : Outcome) : ℕ → List ServerNotice → Outcome → NodeServer D W disk wire → Type 0 where
-    none : Turns started first 0 (told_in started) first started
-    one : (count : ℕ) (waiting : List ServerNotice) (before next : NodeServer D W disk wire) (outcome : Outcome) → Turns started first count waiting leaves.GoesOn before
-        → WentOn disk [] (served_of before) (served_of next) → HasReason next outcome → Turns started first (count + 1) (waiting ++ told_in next) outcome next
+  -- so many turns after one another since the node was started, which left this to do: when each was left, all that start and turns had to tell, and what the last turn left to do
+  pub data Turns (started : NodeServer D W disk wire) (first : Outcome) : ℕ → (moments : List ℕ) → List ServerNotice → Outcome → NodeServer D W disk wire → Type 0 where
+    none : Turns started first 0 [] (told_in started) first started
+    one : (count : ℕ) (moments : List ℕ) (waiting : List ServerNotice) (before next : NodeServer D W disk wire) (outcome : Outcome) → Turns started first count moments waiting leaves.GoesOn before
+        → WentOn disk [] (served_of before) (served_of next) → HasReason next outcome → Turns started first (count + 1) (moments ++ next.left ∷ []) (waiting ++ told_in next) outcome next
 
   -- turns were taken and told until it ended so; the keeper is as it was when the last thing was told, unless a life couldn't be kept then; each life is one that its node showed
   pub record Went {K : Type 0} (kept : K → ℕ → Life → K → Type 0) (port : ℕ) (started : NodeServer D W disk wire) (first : Outcome) (answer : Result (Unit {0}) NodeEnd)
-      (new : NodeServer D W disk wire) (held held_after : Option (List ℕ)) (lives lives_after : K) : Type 0 where
+      (new : NodeServer D W disk wire) (held held_after : Option (List ℕ)) (lives lives_after : K) (notes : WaitingNotes) : Type 0 where
     pub count : ℕ
     pub outcome : Outcome
     pub last : NodeServer D W disk wire
+    pub moments : List ℕ
     pub waiting : List ServerNotice
-    pub turns : Turns started first count waiting outcome last
+    pub turns : Turns started first count moments waiting outcome last
     pub served : served_of new ≡ served_of last
     pub told : List ServerNotice
+    pub came : List Count
+    pub lines : List Count
     pub lives_then : K
-    pub noted : Tells kept (served_of started).look port held lives told held_after lives_then
+    pub noted : Tells kept (served_of started).look port held lives started.left told moments came lines held_after lives_then
+    pub holds : Holds told came lines notes
+    pub clock : notes.limits.clock ≡ latest started.left moments
     pub shown : AreShown (served_of new).own (served_of new).lines told
     pub keeper : (lives_after ≡ lives_then) ⊎ StopsAtLife (served_of new).own (served_of new).lines waiting told
     pub ends : EndsBy outcome count waiting told answer
 
-  -- the node was started, which was told first, and then turns were taken
+  -- the node was started, which was told first, and then turns were taken; what waited then was told
   pub record Ran {K : Type 0} (kept : K → ℕ → Life → K → Type 0) (port : ℕ) (old : NodeServer D W disk wire) (answer : Result (Unit {0}) NodeEnd) (new : NodeServer D W disk wire)
       (held held_after : Option (List ℕ)) (lives lives_after : K) : Type 0 where
     pub started : NodeServer D W disk wire
@@ -133,4 +161,10 @@ module _ {D W : Type 0} {disk : Ghosts D} {wire : OfWire W} where
     pub left : outcome_in old ≡ leaves.GoesOn → HasFirstReason started first
     pub between : Option (List ℕ)
     pub begun : IsNoted (begin_line (served_of started).look) held between
-    pub went : Went kept port started first answer new between held_after lives lives_after
+    pub behind : Option (List ℕ)
+    pub notes : WaitingNotes
+    pub went : Went kept port started first answer new between behind lives lives_after notes
+    -- what waited was told at last, so that all that came was told or counted, by lines that are so few
+    pub rest : List Count
+    pub told_rest : Later (later_lines (served_of started).look port went.told) (latest started.left went.moments) behind rest held_after
+    pub whole : IsWhole went.came went.lines rest

@@ -2,8 +2,9 @@
 //!
 //! `node_run` starts the node of a `node_service::NodeServer` and takes its turns until one says that the match is over or
 //! that the process is to end. What happened in each turn it tells a writer of notes, one line each: it makes a `NodeNote`
-//! of it, and `tell_node_note` writes one. `NoteLimits` says which notes are to be told at once and which are only counted;
-//! `node_run` doesn't use it yet, and tells all of them. The life of a peer's store that is seen first it has kept by a `LifeKeeper`.
+//! of it, and `tell_node_note` writes one. A `Teller` tells what a turn had to tell: by `NoteLimits` some notes are told at once
+//! and the others only counted, so that nobody who makes notes without end fills a disk by them. The life of a peer's store
+//! that is seen first it has kept by a `LifeKeeper`.
 //! `NodeEnd` is how `node` ends otherwise than well: its exit status, and the last line that standard error gets. `read_key`
 //! and `key_text` are what the file of a match's key has, `KeyFault` why a file is none; `tokens_line` is what a match file has of
 //! tokens. A `ComparedWire` keeps a log from
@@ -21,7 +22,9 @@ mod note_groups;
 mod note_limits;
 mod running;
 mod server_notes;
+mod teller;
 mod tokens;
+mod waiting_notes;
 
 pub use beside_store::{life_path, logs_kept_path, node_kept_path};
 pub use compared_wire::ComparedWire;
@@ -33,4 +36,5 @@ pub use node_note::{NodeNote, tell_node_note};
 pub use note_groups::{GROUPS, NO_PLACE, OTHERS, group_of, most_of, room_of, weight_of};
 pub use note_limits::{Count, NoteLimits};
 pub use running::node_run;
+pub use teller::Teller;
 pub use tokens::tokens_line;

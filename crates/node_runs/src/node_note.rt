@@ -10,7 +10,6 @@ ghost use Rattle.node_runs.specs.NodeNotes.{note_line, note_text, peer_text, sou
 
 use crate::key_file::KeyFault;
 use match_log::Name;
-use match_runs::put_times;
 use node_links::PeerFault;
 use paxos_wire::Ballot;
 use std::alloc::{AllocError, Global};
@@ -61,11 +60,10 @@ pub enum NodeNote<'a> {
         fault: PeerFault,
         source: Option<IpAddr>,
     },
-    /// So many connections of callers were closed by a fault, before it was known who calls.
-    Callers {
-        count: u32,
-        fault: PeerFault,
-    },
+    /// A connection of a caller was closed by a fault, before it was known who calls.
+    Caller(PeerFault),
+    /// A caller was closed at once, since there was no place for him.
+    NoPlace,
     /// Dials of a peer have come to nothing for a minute: its address refuses, or nobody answers there.
     Unreached {
         peer: u8,
@@ -77,6 +75,8 @@ pub enum NodeNote<'a> {
     QuorumLost,
     /// This node campaigns in this ballot: it prepares or leads.
     Campaigns(Ballot),
+    /// So many notes were left out, since there were too many in a second.
+    LeftOut(u64),
 }
 
 /// Writes a note in one piece, and flushes. One that can't be made or written is left out, or a beginning of it stands
@@ -91,7 +91,7 @@ pub fn tell_node_note<W: Write>(alloc: Global, notes: &mut W, note: &NodeNote<'_
 }
 
 /// Writes a line as far as it goes.
-fn write_line<W: Write>(notes: &mut W, line: &[u8])
+pub(crate) fn write_line<W: Write>(notes: &mut W, line: &[u8])
     ensures { IsNoted line.now (W.contents notes.old) (W.contents notes.new) }
 {
     let _ = send(notes, line);
@@ -105,8 +105,8 @@ fn put_line(out: &mut Vec<u8>, note: &NodeNote<'_>) -> Result<(), AllocError>
     out.extend_from_slice(b"\n")
 }
 
-/// Appends a note.
-fn put_note(out: &mut Vec<u8>, note: &NodeNote<'_>) -> Result<(), AllocError>
+/// Appends a note, without a line feed. Without memory a beginning of it may stand there.
+pub(crate) fn put_note(out: &mut Vec<u8>, note: &NodeNote<'_>) -> Result<(), AllocError>
     ensures { OnOk result (out.new.items ≡ out.old.items ++ note_text note.now) }
 {
     match note {
@@ -142,7 +142,8 @@ fn put_note(out: &mut Vec<u8>, note: &NodeNote<'_>) -> Result<(), AllocError>
             fault,
             source,
         } => put_refused(out, *peer, fault, source),
-        NodeNote::Callers { count, fault } => put_callers(out, *count, fault),
+        NodeNote::Caller(fault) => put_caller(out, fault),
+        NodeNote::NoPlace => out.extend_from_slice(b"callers: no place"),
         NodeNote::Unreached {
             peer,
             refuses: true,
@@ -154,6 +155,7 @@ fn put_note(out: &mut Vec<u8>, note: &NodeNote<'_>) -> Result<(), AllocError>
         NodeNote::Quorum => out.extend_from_slice(b"quorum"),
         NodeNote::QuorumLost => out.extend_from_slice(b"quorum lost"),
         NodeNote::Campaigns(ballot) => put_campaign(out, ballot),
+        NodeNote::LeftOut(count) => put_left_out(out, *count),
     }
 }
 
@@ -257,13 +259,31 @@ fn put_status(out: &mut Vec<u8>, address: &SocketAddr) -> Result<(), AllocError>
     out.extend_from_slice(text.as_bytes())
 }
 
-/// Appends by which fault connections of callers were closed, and how many.
-fn put_callers(out: &mut Vec<u8>, count: u32, fault: &PeerFault) -> Result<(), AllocError>
-    ensures { OnOk result (out.new.items ≡ out.old.items ++ (codes "caller: " ++ peer_fault_line fault.now ++ times_text count)) }
+/// Appends by which fault a connection of a caller was closed.
+fn put_caller(out: &mut Vec<u8>, fault: &PeerFault) -> Result<(), AllocError>
+    ensures { OnOk result (out.new.items ≡ out.old.items ++ (codes "caller: " ++ peer_fault_line fault.now)) }
 {
     let text = format!(in *out.allocator(); "caller: {fault}")?;
-    out.extend_from_slice(text.as_bytes())?;
-    put_times(out, count)
+    out.extend_from_slice(text.as_bytes())
+}
+
+/// Appends how many notes were left out.
+fn put_left_out(out: &mut Vec<u8>, count: u64) -> Result<(), AllocError>
+    ensures { OnOk result (out.new.items ≡ out.old.items ++ (decimal count ++ codes " notes left out")) }
+{
+    let text = format!(in *out.allocator(); "{count} notes left out")?;
+    out.extend_from_slice(text.as_bytes())
+}
+
+/// Appends how many times it was, where it was more than once.
+pub(crate) fn put_times(out: &mut Vec<u8>, count: u64) -> Result<(), AllocError>
+    ensures { OnOk result (out.new.items ≡ out.old.items ++ times_text count) }
+{
+    if 1 < count {
+        let text = format!(in *out.allocator(); " ({count} times)")?;
+        out.extend_from_slice(text.as_bytes())?;
+    }
+    Ok(())
 }
 
 /// Appends in which ballot the node campaigns.

@@ -45,12 +45,13 @@ fn is_recent(clock: u64, one: &Count) -> bool
 }
 
 impl NoteLimits {
-    /// Nothing came yet.
-    pub fn new() -> NoteLimits
-        ensures { IsAccount [] [] result }
+    /// Nothing came yet, at this time, in microseconds.
+    pub fn new(clock: u64) -> NoteLimits
+        ensures account { IsAccount [] [] result }
+        ensures clock { result.clock ≡ clock }
     {
         NoteLimits {
-            clock: 0,
+            clock,
             recent: ArrayVec::new(),
             waiting: [0; GROUPS],
             next: 0,
@@ -82,6 +83,7 @@ impl NoteLimits {
     pub fn due(&mut self, now: u64) -> Option<Count>
         ensures clock { self.new.clock ≡ max self.old.clock now }
         ensures account { IfSome result (λ one. (came told : List Counted) → IsAccount came told self.old → IsAccount came (told ++ one ∷ []) self.new) }
+        ensures time { IfSome result (λ one. one.time ≡ self.new.clock) }
         ensures group { IfSome result (λ one. one.group < 125) }
         ensures count { IfSome result (λ one. 0 < one.count) }
         ensures same { IsNone result → (came told : List Counted) → IsAccount came told self.old → IsAccount came told self.new }
@@ -100,6 +102,13 @@ impl NoteLimits {
             group,
             count,
         })
+    }
+
+    /// The latest time that was given, in microseconds.
+    pub(crate) fn clock(&self) -> u64
+        ensures { result ≡ self.now.clock }
+    {
+        self.clock
     }
 
     /// How many groups there are.
@@ -137,7 +146,7 @@ impl NoteLimits {
     }
 
     /// This is the time, unless a later one was given. What was told a second before it, or earlier, is no longer looked at.
-    fn pass(&mut self, now: u64)
+    pub(crate) fn pass(&mut self, now: u64)
         ensures clock { self.new.clock ≡ max self.old.clock now }
         ensures recent { self.new.recent.items ≡ filter (is_recent self.new.clock) self.old.recent.items }
         ensures waiting { self.new.waiting ≡ self.old.waiting }

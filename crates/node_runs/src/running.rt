@@ -1,6 +1,6 @@
 //! The process of a node, turn after turn, with its notes.
 
-ghost use Rattle.std.specs.Prelude.{◌≡◌, List, [], true, false, OnErr, OnOk, IsTrue};
+ghost use Rattle.std.specs.Prelude.{◌≡◌, List, [], true, false, OnOk, IsTrue};
 ghost use Rattle.stations.specs.Deeds.{Deed};
 ghost use Rattle.stations.specs.Looking.{look_of};
 ghost use Rattle.node_service.specs.Going.{GoesOn};
@@ -10,16 +10,17 @@ ghost use Rattle.node_service.specs.Logging.{IsFresh};
 ghost use Rattle.node_runs.specs.OneLog.{IsLeftBy, WritesItsLog, WritesAcceptedLog};
 ghost use Rattle.node_service.specs.declared.outcome.Outcome.TheVariants.{GoesOn as Further, Over as IsOver};
 ghost use Rattle.match_runs.specs.Notes.{IsNoted};
-ghost use Rattle.node_runs.specs.Running.{Ran, Went, GoesOnTo, TellsOne, KeepsLife, HasLife, begin_line, end_of};
+ghost use Rattle.node_runs.specs.Running.{Ran, Went, GoesOnTo, begin_line, end_of};
+ghost use Rattle.node_runs.specs.WaitingNotes.{Holds};
 
 use crate::life_keeper::LifeKeeper;
 use crate::node_end::NodeEnd;
 use crate::node_note::{NodeNote, tell_node_note};
-use crate::server_notes::tell_notice;
+use crate::teller::Teller;
 use dealer_node::NodeFault;
 use match_runs::Unserved;
 use node_service::laws::{lives_stay_shown, turns_are_one};
-use node_service::{NodeServer, Outcome, ServerNotice};
+use node_service::{NodeServer, Outcome};
 use node_wires::Wire;
 use promise_store::Disk;
 use serving::ServeFault;
@@ -31,9 +32,10 @@ use std::io::Write;
 /// is to end.
 ///
 /// `port` is where the node awaits seat 0; seat s is awaited at the port that is s higher. What happens is told to the writer
-/// of notes, one line each, in the order in which the server tells it: first which node of which match begins. The life that
-/// was first seen of a peer's store is kept before it is told, and before the next turn. A note that can't be written is left
-/// out, and changes nothing of the match.
+/// of notes, one line each, in the order in which the server tells it: first which node of which match begins. In any second
+/// 50 lines are told at most, and of each group of notes as many as it may have; what comes beyond that is counted, and a
+/// later line says how many. At the end all that waits is told. The life that was first seen of a peer's store is kept before
+/// it is told, and before the next turn. A note that can't be written is left out, and changes nothing of the match.
 ///
 /// What is promised of turns holds of all of them together: the node did its own deeds, and the log has what it showed to it,
 /// all of it where the run ends well; and then the match is over at the node. Over an honest disk that the node's earlier
@@ -58,7 +60,9 @@ pub fn node_run<D: Disk + Drop, W: Wire + Drop, L: LifeKeeper, N: Write>(
 {
     let first = server.start();
     tell_begin(alloc, server.station(), notes);
-    let answer = take_turns(alloc, server, first, lives, port, notes);
+    let mut teller = Teller::new(alloc, port, server.left());
+    let answer = take_turns(alloc, server, first, lives, &mut teller, notes);
+    teller.tell_rest(server.station(), notes);
     server.limits();
     server.read_deals();
     answer
@@ -70,13 +74,16 @@ fn take_turns<D: Disk + Drop, W: Wire + Drop, L: LifeKeeper, N: Write>(
     server: &mut NodeServer<D, W>,
     first: Outcome,
     lives: &mut L,
-    port: u16,
+    teller: &mut Teller,
     notes: &mut N,
 ) -> Result<(), NodeEnd>
+    requires holds { Holds [] [] [] teller.old.waiting }
+    requires clock { teller.old.waiting.limits.clock ≡ server.old.left }
     requires log { is_well first ≡ true → (served_of server.old).log_failed ≡ false }
     requires over { first ≡ IsOver → IsOverAt D.Disk (look_in server.old).node }
     requires further { first ≡ Further → outcome_in server.old ≡ Further }
-    ensures went { Went L.kept port server.old first result server.new (N.contents notes.old) (N.contents notes.new) lives.old lives.new }
+    ensures went { Went L.kept teller.old.port server.old first result server.new (N.contents notes.old) (N.contents notes.new) lives.old lives.new teller.new.waiting }
+    ensures port { teller.new.port ≡ teller.old.port }
     ensures whole { GoesOnTo D.Disk (served_of server.old) (served_of server.new) }
     ensures log { OnOk result ((served_of server.new).log_failed ≡ false) }
     ensures over { OnOk result (IsOverAt D.Disk (look_in server.new).node) }
@@ -87,13 +94,17 @@ fn take_turns<D: Disk + Drop, W: Wire + Drop, L: LifeKeeper, N: Write>(
     let mut most = 0;
     for steps in 0..u64::MAX {
         if let Some(told) = server.notice() {
-            if let Err(fault) = tell(alloc, server.station(), &told, lives, port, notes) {
+            if let Err(fault) = teller.tell(server.station(), &told, lives, notes) {
                 return Err(NodeEnd::from(fault));
             }
         } else if let Some(answer) = end_of(outcome) {
             return answer;
         } else {
             (outcome, most) = server.turn(alloc, most);
+            let left = server.left();
+            teller.tell_due(server.station(), left, notes);
+            let away = server.wire().turned_away();
+            teller.tell_turned_away(server.station(), away, notes);
         }
     }
     // No match has so many turns: its rounds and slots are spent long before, and nobody waits so long.
@@ -123,36 +134,4 @@ fn tell_begin<D: Disk + Drop, N: Write>(alloc: Global, station: &Station<D>, not
         front: station.node().front(),
     };
     tell_node_note(alloc, notes, &note);
-}
-
-/// Tells one thing that happened at this station. A life that was first seen is kept before; where it can't be, nothing is
-/// told.
-fn tell<D: Disk + Drop, L: LifeKeeper, N: Write>(
-    alloc: Global,
-    station: &Station<D>,
-    told: &ServerNotice,
-    lives: &mut L,
-    port: u16,
-    notes: &mut N,
-) -> Result<(), NodeFault>
-    ensures told { OnOk result (TellsOne L.kept (look_of station.now) port told.now (N.contents notes.old) (N.contents notes.new) lives.old lives.new) }
-    ensures unkept { OnErr result (HasLife told.now × (N.contents notes.new ≡ N.contents notes.old)) }
-{
-    keep_life(lives, told)?;
-    tell_notice(alloc, station.config(), station.number(), port, told, notes);
-    Ok(())
-}
-
-/// Has a life kept that was seen first.
-fn keep_life<L: LifeKeeper>(lives: &mut L, told: &ServerNotice) -> Result<(), NodeFault>
-    ensures kept { OnOk result (KeepsLife L.kept told.now lives.old lives.new) }
-    ensures unkept { OnErr result (HasLife told.now) }
-{
-    match told {
-        ServerNotice::Joined {
-            peer,
-            life: Some(life),
-        } => lives.keep(*peer, life),
-        _ => Ok(()),
-    }
 }

@@ -1,127 +1,160 @@
 //! What the notes of a process tell of what a turn had to tell.
 
-ghost use Rattle.std.specs.Prelude.{◌+◌};
-ghost use Rattle.match_runs.specs.Notes.{AreNoted, seat_lines, about_text};
-ghost use Rattle.node_runs.specs.ServerNotes.{notice_lines, awaited_lines};
+ghost use Rattle.std.specs.Prelude.{◌≡◌, ◌+◌, ◌∷◌, [], ◌++◌, option_map, OnOk};
+ghost use Rattle.match_runs.specs.Notes.{IsNoted, AreNoted, about_text, times_text};
+ghost use Rattle.node_runs.specs.ServerNotes.{seat_said, awaited_text, notice_text, noted_text, counted_lines, group_lines, times_lines};
 
-use crate::node_note::{NodeNote, tell_node_note};
+use crate::node_note::{NodeNote, put_note, put_times, write_line};
+use crate::note_groups::{NO_PLACE, OTHERS};
 use dealer_kind::Config;
-use match_runs::{About, Note, tell_note};
+use match_runs::{About, Note};
 use node_service::ServerNotice;
-use std::alloc::Global;
+use std::alloc::{AllocError, Global};
 use std::io::Write;
 
-/// Tells one thing that happened at this node of the match, which awaits seat 0 at this port.
+/// A note: one of a node's process, or one of those that `serve` has too.
+#[derive(Clone, Copy)]
+pub(crate) enum Noted<'a> {
+    OfNode(NodeNote<'a>),
+    OfSeat(Note<'a>),
+}
+
+/// Tells so many things of one kind that happened at this node of the match, which awaits seat 0 at this port; this is the
+/// newest.
 pub(crate) fn tell_notice<W: Write>(
     alloc: Global,
     config: &Config,
     node: u8,
     port: u16,
     told: &ServerNotice,
+    count: u64,
     notes: &mut W,
 )
-    ensures { AreNoted (notice_lines config.now.setting.names node port told.now) (W.contents notes.old) (W.contents notes.new) }
+    ensures { AreNoted (counted_lines config.now.setting.names node port told.now count) (W.contents notes.old) (W.contents notes.new) }
 {
-    match told {
-        ServerNotice::Joined { peer, life: _ } => tell_node_note(
-            alloc,
-            notes,
-            &NodeNote::Joined(*peer),
-        ),
-        ServerNotice::Gone { peer } => tell_node_note(alloc, notes, &NodeNote::Gone(*peer)),
-        ServerNotice::Refused {
-            peer,
-            fault,
-            source,
-        } => {
-            let note = NodeNote::Refused {
-                peer: *peer,
-                fault: *fault,
-                source: *source,
-            };
-            tell_node_note(alloc, notes, &note);
-        }
-        ServerNotice::Callers { count, fault } => {
-            let (count, fault) = (*count, *fault);
-            tell_node_note(alloc, notes, &NodeNote::Callers { count, fault });
-        }
-        ServerNotice::Unreached { peer, refuses } => {
-            let (peer, refuses) = (*peer, *refuses);
-            tell_node_note(alloc, notes, &NodeNote::Unreached { peer, refuses });
-        }
-        ServerNotice::Seated { seat } => tell_seat(
-            alloc,
-            config,
-            *seat,
-            About::Seated(node),
-            notes,
-        ),
-        ServerNotice::Left { seat } => tell_seat(alloc, config, *seat, About::Gone(node), notes),
-        ServerNotice::Faulty { seat, fault } => {
-            let fault = *fault;
-            tell_seat(alloc, config, *seat, About::Faulty { node, fault }, notes);
-        }
-        ServerNotice::WrongToken { seat, count } => {
-            let count = *count;
-            tell_seat(
-                alloc,
-                config,
-                *seat,
-                About::WrongToken { node, count },
-                notes,
-            );
-        }
-        ServerNotice::Ordered { seat } => tell_seat(
-            alloc,
-            config,
-            *seat,
-            About::Ordered(node),
-            notes,
-        ),
-        ServerNotice::Waits { seat } => tell_waiting(alloc, config, node, port, *seat, notes),
-        ServerNotice::Quorum => tell_node_note(alloc, notes, &NodeNote::Quorum),
-        ServerNotice::QuorumLost => tell_node_note(alloc, notes, &NodeNote::QuorumLost),
-        ServerNotice::Campaigns { ballot } => tell_node_note(
-            alloc,
-            notes,
-            &NodeNote::Campaigns(*ballot),
-        ),
+    if let Some(noted) = note_of(config, node, port, told) {
+        tell_times(alloc, notes, &noted, count);
     }
 }
 
-/// Tells that all wait for a seat, and where it is awaited here; nothing of a number that no seat has.
-fn tell_waiting<W: Write>(
+/// Tells so many of a group that waited, of which this is the newest.
+pub(crate) fn tell_group<W: Write>(
     alloc: Global,
     config: &Config,
     node: u8,
     port: u16,
-    seat: u8,
+    newest: &Option<ServerNotice>,
+    group: usize,
+    count: u64,
     notes: &mut W,
 )
-    ensures { AreNoted (awaited_lines config.now.setting.names node (port + seat) seat) (W.contents notes.old) (W.contents notes.new) }
+    ensures { AreNoted (group_lines config.now.setting.names node port newest.now group count) (W.contents notes.old) (W.contents notes.new) }
 {
-    if let Some(name) = config.names().as_slice().get(seat as usize) {
-        let note = Note::Waiting {
+    let left_out = Noted::OfNode(NodeNote::LeftOut(count));
+    match newest {
+        Some(_) if group == OTHERS && 1 < count => tell_times(alloc, notes, &left_out, 1),
+        Some(told) => tell_notice(alloc, config, node, port, told, count, notes),
+        None if group == NO_PLACE => {
+            tell_times(alloc, notes, &Noted::OfNode(NodeNote::NoPlace), count);
+        }
+        None => tell_times(alloc, notes, &left_out, 1),
+    }
+}
+
+/// What is told of a thing; nothing of a seat that there isn't.
+fn note_of(config: &Config, node: u8, port: u16, told: &ServerNotice) -> Option<Noted<'static>>
+    ensures { option_map noted_text result ≡ notice_text config.now.setting.names node port told.now }
+{
+    match told {
+        ServerNotice::Joined { peer, life: _ } => Some(Noted::OfNode(NodeNote::Joined(*peer))),
+        ServerNotice::Gone { peer } => Some(Noted::OfNode(NodeNote::Gone(*peer))),
+        ServerNotice::Refused {
+            peer,
+            fault,
+            source,
+        } => Some(Noted::OfNode(NodeNote::Refused {
+            peer: *peer,
+            fault: *fault,
+            source: *source,
+        })),
+        ServerNotice::Callers { count: _, fault } => Some(Noted::OfNode(NodeNote::Caller(*fault))),
+        ServerNotice::Unreached { peer, refuses } => {
+            let (peer, refuses) = (*peer, *refuses);
+            Some(Noted::OfNode(NodeNote::Unreached { peer, refuses }))
+        }
+        ServerNotice::Seated { seat } => of_seat(config, *seat, About::Seated(node)),
+        ServerNotice::Left { seat } => of_seat(config, *seat, About::Gone(node)),
+        ServerNotice::Faulty { seat, fault } => {
+            let fault = *fault;
+            of_seat(config, *seat, About::Faulty { node, fault })
+        }
+        ServerNotice::WrongToken { seat, count: _ } => {
+            of_seat(config, *seat, About::WrongToken { node, count: 1 })
+        }
+        ServerNotice::Ordered { seat } => of_seat(config, *seat, About::Ordered(node)),
+        ServerNotice::Waits { seat } => awaited(config, node, port, *seat),
+        ServerNotice::Quorum => Some(Noted::OfNode(NodeNote::Quorum)),
+        ServerNotice::QuorumLost => Some(Noted::OfNode(NodeNote::QuorumLost)),
+        ServerNotice::Campaigns { ballot } => Some(Noted::OfNode(NodeNote::Campaigns(*ballot))),
+    }
+}
+
+/// That all wait for a seat, and where it is awaited here; nothing of a number that no seat has.
+fn awaited(config: &Config, node: u8, port: u16, seat: u8) -> Option<Noted<'static>>
+    ensures { option_map noted_text result ≡ awaited_text config.now.setting.names node (port + seat) seat }
+{
+    match config.names().as_slice().get(seat as usize) {
+        Some(name) => Some(Noted::OfSeat(Note::Waiting {
             seat: seat as usize,
             name: *name,
             node,
             port: port as u32 + seat as u32,
             line: None,
-        };
-        tell_note(alloc, notes, &note);
+        })),
+        None => None,
     }
 }
 
-/// Tells something of a seat; nothing of a number that no seat has.
-fn tell_seat<W: Write>(alloc: Global, config: &Config, seat: u8, about: About<'_>, notes: &mut W)
-    ensures { AreNoted (seat_lines config.now.setting.names seat (about_text about.entry)) (W.contents notes.old) (W.contents notes.new) }
+/// Something of a seat; nothing of a number that no seat has.
+fn of_seat(config: &Config, seat: u8, about: About<'static>) -> Option<Noted<'static>>
+    ensures { option_map noted_text result ≡ seat_said config.now.setting.names seat (about_text about.entry) }
 {
-    if let Some(name) = config.names().as_slice().get(seat as usize) {
-        let note = Note::Seat {
+    match config.names().as_slice().get(seat as usize) {
+        Some(name) => Some(Noted::OfSeat(Note::Seat {
             seat: seat as usize,
             name: *name,
             about,
-        };
-        tell_note(alloc, notes, &note);
+        })),
+        None => None,
+    }
+}
+
+/// Writes a note with how many times it was, in one piece, and flushes. One that can't be made or written is left out, or a
+/// beginning of it stands there.
+fn tell_times<W: Write>(alloc: Global, notes: &mut W, noted: &Noted<'_>, count: u64)
+    ensures { IsNoted (noted_text noted.now ++ (times_text count ++ 10 ∷ [])) (W.contents notes.old) (W.contents notes.new) }
+{
+    let mut line = Vec::new(alloc);
+    if put_line(&mut line, noted, count).is_ok() {
+        write_line(notes, &line);
+    }
+}
+
+/// Appends a note with how many times it was, and its line feed.
+fn put_line(out: &mut Vec<u8>, noted: &Noted<'_>, count: u64) -> Result<(), AllocError>
+    ensures { OnOk result (out.new.items ≡ out.old.items ++ (noted_text noted.now ++ (times_text count ++ 10 ∷ []))) }
+{
+    put_noted(out, noted)?;
+    put_times(out, count)?;
+    out.extend_from_slice(b"\n")
+}
+
+/// Appends a note.
+fn put_noted(out: &mut Vec<u8>, noted: &Noted<'_>) -> Result<(), AllocError>
+    ensures { OnOk result (out.new.items ≡ out.old.items ++ noted_text noted.now) }
+{
+    match noted {
+        Noted::OfNode(note) => put_note(out, note),
+        Noted::OfSeat(note) => match_runs::put_note(out, note),
     }
 }

@@ -1,4 +1,4 @@
-use Rattle.std.proofs.Common.{ℕ, ◌+◌, ◌≤◌, [], ◌∷◌, ◌++◌, arith}
+use Rattle.std.proofs.Common.{◌+◌, ◌≤◌, [], ◌∷◌, ◌++◌, arith}
 use Rattle.node_runs.specs.NoteLimits.{counted_at}
 use Rattle.node_runs.proofs.Accounts.{passed, told_next, with_next}
 use Rattle.node_runs.proofs.note_limits.NoteLimits.due.Goals as goal

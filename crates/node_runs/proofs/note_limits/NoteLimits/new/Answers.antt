@@ -1,4 +1,4 @@
-use Rattle.std.proofs.Common.{◌≡◌, ℕ, ◌<◌, ◌≤◌, refl, inl, inr, replicate, get_or, arith}
+use Rattle.std.proofs.Common.{◌≡◌, ℕ, inl, inr, replicate, get_or, arith}
 use Rattle.std.proofs.lemmas.Bool.{cases_lt}
 use Rattle.std.proofs.lemmas.Grind.{common_steps}
 use Rattle.node_runs.proofs.Accounts.{begun}
@@ -10,5 +10,5 @@ nothing n group = elim (cases_lt group n) [
   | inr past ↦ grind (arith, common_steps)
 ]
 
-pub returns : goal.returns
-returns c = begun _ c.new.ensures (λ group. nothing 125 group)
+pub returns-clause-account : goal.returns-clause-account
+returns-clause-account c = begun _ c.new.ensures (λ group. nothing 125 group)

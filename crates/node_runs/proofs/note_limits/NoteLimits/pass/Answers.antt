@@ -1,6 +1,5 @@
 use Rattle.std.proofs.Common.{rules}
 use Rattle.arrayvec.proofs.ArrayVecLemmas.{filter-from_retain}
-use Rattle.node_runs.specs.NoteLimits.{is_recent}
 use Rattle.node_runs.proofs.note_limits.NoteLimits.pass.Goals as goal
 
 pub returns-clause-recent : goal.returns-clause-recent
