@@ -1,10 +1,12 @@
-"""Tests of tests/processes on slow disks: a library that is loaded into a process lengthens each sync. It needs a C compiler."""
+"""Tests of tests/processes on slow disks: a library that is loaded into a process lengthens each sync. It needs a C compiler.
+And of stores where standard streams are closed."""
 import os
+import shutil
 import subprocess
 import time
 
-from processes_match import Match, test
-from serving import want
+from processes_match import PACE, Match, test
+from serving import patience, want
 
 # Each sync takes as many microseconds longer as the file says that SLOW_SYNC names, while there is one.
 SLOWER = r"""
@@ -93,3 +95,24 @@ def two_slow_disks(seed, is_long):
     match.comes_to(len(match.seen) + 3, SOON)
     match.ends()
     return f"F {ROUND:g} s, first command after {first:.0f} s, median {median:.2f} F, longest {longest:.2f} F, {ballots} ballots"
+
+
+@test(seeds=3)
+def closed_streams(seed, is_long):
+    """Standard streams are closed when `init` and processes begin: error alone, error and output, or all three. Nothing that
+    they print gets into a store, and a process that is killed starts again."""
+    close, match = lambda: [os.close(it) for it in range(3 - seed, 3)], Match(hands=60, pace=PACE / 4)
+    for node in range(match.count):
+        if node > 0:
+            shutil.copy(match.home(0) / "stores/match.kept", match.home(node) / "stores/match.kept")
+        ran = subprocess.run([match.program, "init", "m.toml", str(node)], cwd=match.home(node), preexec_fn=close, timeout=patience())
+        journal = (match.home(node) / f"stores/node{node}.journal").read_bytes()
+        want(ran.returncode == 0 and journal.startswith(b"HDJ2"), f"init of node {node} ended with {ran.returncode} and made {journal[:60]}")
+    match.start(*range(match.count), before=close)
+    match.let_bots_come()
+    match.goes_on(20)
+    for node in range(match.count):
+        match.kill(node)
+        match.start(node, before=close if node == 1 else None)
+        match.goes_on(20)
+    match.ends()

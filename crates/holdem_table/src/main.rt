@@ -48,14 +48,30 @@ use clap::{ArgMatches, Error};
 use match_file::{MatchFault, MatchFile};
 use match_runs::{Conclusion, Unserved, play_run};
 use std::alloc::AllocError;
+use std::fs::File;
 use std::io;
+use std::os::fd::{AsRawFd, IntoRawFd};
 use std::process::ExitCode;
 use streamed::{Ending, WrongWords, check_run, hand_run};
 
 fn main(rt: HostRuntime) -> ExitCode {
+    hold_streams(&rt);
     match words(&rt) {
         Ok(words) => run(&rt, &words),
         Err(error) => end(&rt, no_words(&error)),
+    }
+}
+
+/// Gives standard streams that were closed a file that can't be written, so that no store, log or connection which is opened
+/// later takes the number of one, and gets what is printed.
+fn hold_streams(rt: &HostRuntime) {
+    for _ in 0..3 {
+        match File::open(rt, "/") {
+            Ok(file) if file.as_raw_fd() < 3 => {
+                let _ = file.into_raw_fd();
+            }
+            _ => return,
+        }
     }
 }
 
