@@ -243,3 +243,6 @@ def table_of_statuses(seed, is_long):
             found = status.row(1, f"127.0.0.1:{server.getsockname()[1]}")
             asked.join()
         want(found == said, f"of {text!r} the row is {found}")
+    want(status.row(1, "127.0.0.1:99999") == "not reached", "a port that there isn't")
+    helped = subprocess.run([TOP / "tools/status", "--help"], capture_output=True, text=True, timeout=patience())
+    want(helped.returncode == 0 and "tools/status MATCH" in helped.stdout and not helped.stderr, f"{helped}")
