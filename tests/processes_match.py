@@ -33,11 +33,16 @@ PORTS = [10000, 32000]
 TESTS = {}
 
 
-def test(seeds=1, long_seeds=None):
+# The tests that are run only where they are named: what they look for isn't there yet.
+BY_NAME = set()
+
+
+def test(seeds=1, long_seeds=None, by_name=False):
     """A test by its name, and by how many seeds it goes; a function of a seed, and whether this is the long form."""
 
     def taken(function):
         TESTS[function.__name__] = (seeds, long_seeds or seeds, function)
+        BY_NAME.update({function.__name__} if by_name else {})
         return function
 
     return taken

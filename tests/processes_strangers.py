@@ -369,7 +369,7 @@ def strangers_at_seats(seed, is_long):
     return figures
 
 
-@test(seeds=3)
+@test(seeds=3, by_name=True)
 def flooding_seat(seed, is_long):
     """A seat's client with its token sends a million empty lines a second to each node, and answers rightly."""
     match, delay = besieged(seed)
@@ -416,8 +416,8 @@ class Room:
 
 @test()
 def notes_and_a_small_disk(seed, is_long):
-    """Stores, logs and notes are on one disk with 20 MB free, and the flood is on: no process ends. In the long form for ten
-    minutes."""
+    """Stores, logs and notes are on one disk with 20 MB free, and the flood is on: no process ends, and the match goes on
+    behind it. In the long form for ten minutes."""
     with Room("20m") as room:
         want(room.is_there, "no disk could be mounted")
         match = Besieged(Loopback(3), hands=10_000, pace=THOUGHT, place=room.folder)
@@ -430,8 +430,9 @@ def notes_and_a_small_disk(seed, is_long):
                 time.sleep(0.1)
             seconds, left = time.monotonic() - begun, room.free()
             figures = f"{left >> 20} of {free >> 20} MB are free after {seconds:.0f} s, {notes_bytes(match) - before} bytes of notes, {len(match.seen)} commands"
-            want(left > 0 and are_few(match, before, seconds), figures)
-            match.goes_on(20)
+            want(left > 0 and are_few(match, before, seconds) and match.is_alive(), figures)
+        match.let_bots_come([0])
+        match.goes_on(20)
         return figures
 
 
@@ -530,7 +531,7 @@ def many_askers(seed, is_long):
     return figures
 
 
-@test()
+@test(by_name=True)
 def besieged_match(seed, is_long):
     """A match from its first hand to its last while strangers dial two nodes and a seat floods them: at no less than a third
     of its speed where the same programs have others to attack. In the long form it has 10,000 hands."""
