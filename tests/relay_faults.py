@@ -68,6 +68,8 @@ def stops(folder, seed, is_long):
         hung.append(node)
         time.sleep(0.1 * (most / 0.1) ** match.dice.random())
         os.kill(match.processes[node].pid, signal.SIGCONT)
+        # (who hung for more than ten seconds at the end learns it from nobody, until all are started again)
+        match.start(*[other for other in range(match.count) if match.processes[other].poll() is not None])
 
     count = lost_every_second(match, lose, hands - 10)
     match.are_whole()
