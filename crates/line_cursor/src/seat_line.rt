@@ -1,14 +1,17 @@
-ghost use Rattle.std.specs.Prelude.{◌≡◌, ◌+◌, ◌*◌, ◌<◌, ◌≤◌, ◌++◌, ◌∷◌, [], if◌then◌else◌, take, length, decimal};
+ghost use Rattle.std.specs.Prelude.{◌≡◌, ◌+◌, ◌*◌, ◌<◌, ◌≤◌, ◌++◌, ◌∷◌, ℕ, [], if◌then◌else◌, take, length, decimal, replicate, reverse, slice_index};
+ghost use Rattle.betting.specs.Text.{text, action_text, slash_counts};
 ghost use Rattle.card_core.specs.Deal.{IsDeal, hole_of, player_count};
 ghost use Rattle.matchstate.specs.Cards.{cards_text, holes_text, board_text, holes_seen, boards_of};
 ghost use Rattle.matchstate.specs.SeenCards.{separator};
 ghost use Rattle.matchstate.specs.Line.{line_text};
 ghost use Rattle.matchstate.specs.View.{is_showdown, sees, rounds_seen, view_of};
 
-use betting::Play;
+use betting::laws::slashes_stand_behind_actions;
+use betting::{Action, Play};
 use card_core::{Card, Deal};
+use game_def::GameDef;
 use itoa::Buffer;
-use matchstate::{BettingText, MOST_LINE};
+use matchstate::MOST_LINE;
 use std::marker::Model;
 
 /// A line of the dealer to a seat, without a line end, as the ACPC protocol 2.0.0 writes it. It takes no memory.
@@ -52,7 +55,7 @@ impl SeatLine {
         line.put(b":");
         line.put_number(hand);
         line.put(b":");
-        line.put(BettingText::of(play).as_bytes());
+        line.put_betting(play);
         line.put(b":");
         line.put_holes(deal, play, position);
         line.put_board(deal, play.round());
@@ -66,6 +69,61 @@ impl SeatLine {
         SeatLine {
             bytes: [0; MOST_LINE],
             len: 0,
+        }
+    }
+
+    /// Appends the betting text of a play.
+    fn put_betting(&mut self, play: &Play)
+        requires { length self.old + 3584 ≤ 4096 }
+        ensures text { self.new ≡ self.old ++ text play.now.game play.now.past }
+        ensures len { length self.new ≤ length self.old + 3584 }
+    {
+        self.put_actions(play.game(), play.actions(), play.slashes());
+    }
+
+    /// Appends the betting text of actions, oldest first, with so many `/` behind each.
+    fn put_actions(&mut self, game: &GameDef, actions: &[Action], slashes: &[u8])
+        requires few { length actions.now ≤ 256 }
+        requires places { length slashes.now ≡ length actions.now }
+        requires slashes { slashes.now ≡ reverse (slash_counts game.now (reverse actions.now)) }
+        requires few_slashes { (index : ℕ) → slice_index slashes.now index ≤ 3 }
+        requires room { length self.old + 3584 ≤ 4096 }
+        ensures text { self.new ≡ self.old ++ text game.now (reverse actions.now) }
+        ensures len { length self.new ≤ length self.old + 3584 }
+    {
+        slashes_stand_behind_actions();
+        for place in 0..actions.len() {
+            self.put_action(game, actions[place], slashes[place]);
+        }
+    }
+
+    /// Appends an action's text, and so many `/`.
+    fn put_action(&mut self, game: &GameDef, action: Action, slashes: u8)
+        requires few { slashes ≤ 3 }
+        requires room { length self.old + 14 ≤ 4096 }
+        ensures text { self.new ≡ self.old ++ action_text game.now action ++ replicate slashes 47 }
+        ensures len { length self.new ≤ length self.old + 14 }
+    {
+        self.put_word(game, action);
+        self.put(&b"///"[..slashes as usize]);
+    }
+
+    /// Appends an action's text: `f`, `c`, and `r`, with the amount in a no-limit game.
+    #[tactic(auto, unfolding(betting::specs::Text::action_text))]
+    fn put_word(&mut self, game: &GameDef, action: Action)
+        requires { length self.old + 11 ≤ 4096 }
+        ensures text { self.new ≡ self.old ++ action_text game.now action }
+        ensures len { length self.new ≤ length self.old + 11 }
+    {
+        match action {
+            Action::Fold => self.put(b"f"),
+            Action::Call => self.put(b"c"),
+            Action::Raise(amount) => {
+                self.put(b"r");
+                if !game.is_limit() {
+                    self.put_number(amount);
+                }
+            }
         }
     }
 

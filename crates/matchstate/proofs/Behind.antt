@@ -1,6 +1,6 @@
 -- What stands behind a beginning of a betting text: the texts of the actions that follow.
-use Rattle.std.proofs.Common.{◌≡◌, ℕ, ◌<◌, List, [], ◌∷◌, ◌++◌, reverse, length, Option, Some, None, decimal, refl, sym, ap, ◌∙◌, subst, arith, append_assoc}
-use Rattle.std.proofs.lemmas.List.{append-nil, reverse-append, reverse-reverse}
+use Rattle.std.proofs.Common.{◌≡◌, ℕ, ◌+◌, ◌<◌, List, [], ◌∷◌, ◌++◌, reverse, length, drop, get_or, Option, Some, None, decimal, refl, sym, ap, ◌∙◌, subst, arith, append_assoc}
+use Rattle.std.proofs.lemmas.List.{append-nil, at_drop_more, reverse-append, reverse-reverse}
 use Rattle.game_def.specs.Game.{Game}
 use Rattle.betting.specs.declared.action.Action.{Action}
 use Rattle.betting.specs.declared.action.Action.TheVariants.{Fold, Call, Raise}
@@ -116,3 +116,21 @@ text_with game past bytes rest action behind whole begins =
     whole ∙ ap (λ r. text game past ++ r) begins
     ∙ sym (regroup (text game past) (action_text game action) (slashes_after game past action) behind)
     ∙ ap (λ t. t ++ behind) (sym (text_next game past action))
+
+-- the texts of all actions, oldest first, are the whole text
+pub text_later : (game : Game) (actions : List Action) → text game (reverse actions) ≡ later_text game [] actions
+text_later game actions =
+    sym (ap (text game) (extended_is [] actions ∙ append-nil (reverse actions)))
+    ∙ text_extended game [] actions ∙ ap (λ t. t ++ later_text game [] actions) (text_none game)
+
+-- that of the next stands in front of the others
+pub later_next : (game : Game) (past actions : List Action) (i : ℕ) (behind : List ℕ) → i < length actions
+    → later_text game past (drop i actions) ++ behind
+    ≡ action_text game (get_or actions i Fold) ++ (slashes_after game past (get_or actions i Fold) ++ (later_text game (get_or actions i Fold ∷ past) (drop (i + 1) actions) ++ behind))
+later_next game past actions i behind below =
+    let action = get_or actions i Fold in
+    at_drop_more (λ later. later_text game past later ++ behind) actions i Fold below
+    ∙ regroup' (action_text game action) (slashes_after game past action) (later_text game (action ∷ past) (drop (i + 1) actions)) behind
+  where
+    regroup' : (a b c d : List ℕ) → (a ++ (b ++ c)) ++ d ≡ a ++ (b ++ (c ++ d))
+    regroup' a b c d = simp append_assoc

@@ -37,3 +37,6 @@ pub mod Missing
 pub mod SaidExamples
 pub mod RightTexts
 pub mod Stripped
+pub mod Turns
+pub mod Newest
+pub mod OneSight

@@ -16,3 +16,6 @@ pub mod Positions
 pub mod Beginnings
 pub mod OneReading
 pub mod RightTexts
+pub mod BettingInside
+pub mod SeatHand
+pub mod CurrentAnswer

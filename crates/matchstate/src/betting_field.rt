@@ -1,4 +1,4 @@
-ghost use Rattle.std.specs.Prelude.{◌≡◌, ℕ, ◌+◌, ◌*◌, ◌<◌, ◌≤◌, ◌++◌, [], length, reverse, replicate, decimal, slice_index, MatchOption, OnOk, OnErr, vec_len, vec_capacity, ◌∷◌, List, Some, IfSome, IsSomeAnd, drop};
+ghost use Rattle.std.specs.Prelude.{◌≡◌, ℕ, ◌+◌, ◌*◌, ◌<◌, ◌≤◌, ◌++◌, [], length, reverse, replicate, decimal, slice_index, MatchOption, OnOk, OnErr, vec_len, vec_capacity, ◌∷◌, List, Some, IfSome, IsSomeAnd, IsTrue, ◌↔◌, drop};
 ghost use Rattle.betting.specs.Text.{text, action_text, slash_counts};
 ghost use Rattle.matchstate.specs.Line.{newest_text};
 ghost use Rattle.std.specs.Char.{is_ascii_digit};
@@ -9,11 +9,11 @@ ghost use Rattle.betting.specs.Legal.{Legal};
 ghost use Rattle.matchstate.specs.Reading.{BeginsWith, NoDigitFirst};
 
 use crate::action_text::read_action;
-use crate::bytes::put;
+use crate::bytes::{after_byte, put};
+use crate::number::{after_number, put_number};
 use betting::laws::slashes_stand_behind_actions;
 use betting::{Action, Play};
 use game_def::GameDef;
-use itoa::Buffer;
 use slot_log::Table;
 use std::alloc::AllocError;
 use std::marker::Model;
@@ -22,117 +22,163 @@ use std::marker::Model;
 pub const MOST_BETTING: usize = 3584;
 
 /// The betting text of a hand, as the ACPC protocol 2.0.0 writes it: each action's text, and a `/` for each round
-/// that begins after it. It is made once for the lines of all seats, and takes no memory.
+/// that begins after it. It is spelled where it is wanted, out of the actions where they lie, and has no bytes of its own.
 ///
 /// Contracts see its bytes.
 #[derive(Debug, Drop)]
-pub struct BettingText {
-    bytes: [u8; MOST_BETTING],
-    len: usize,
+pub struct BettingText<'a> {
+    game: &'a GameDef,
+    actions: &'a [Action],
+    slashes: &'a [u8],
 }
 
-impl Model for BettingText {
-    ghost use Rattle.std.specs.Prelude.{List, ℕ, take, ◌≤◌};
+impl<'a> Model for BettingText<'a> {
+    ghost use Rattle.std.specs.Prelude.{List, ℕ};
 
     ghost Value = { List ℕ };
 
-    ghost view = { λ d. take d.len d.bytes };
+    ghost use Rattle.matchstate.specs.BettingInside.{IsSpelled, text_in};
 
-    ghost invariant = { λ d. d.len ≤ 3584 };
+    ghost view = { text_in };
+
+    ghost invariant = { IsSpelled };
 }
 
-impl BettingText {
+impl<'a> BettingText<'a> {
     /// The betting text of a play.
-    pub fn of(play: &Play) -> BettingText
-        ensures { result ≡ text play.now.game play.now.past }
+    pub fn of(play: &'a Play) -> BettingText<'a>
+        ensures text { result ≡ text play.now.game play.now.past }
+        ensures legal { Legal play.now.game play.now.past }
     {
         BettingText::of_actions(play.game(), play.actions(), play.slashes())
     }
 
     /// The betting text of the newest hand of a match, with which the lines of all seats are written; empty before the
     /// first deal.
-    pub fn newest(table: &Table) -> BettingText
+    pub fn newest(table: &'a Table) -> BettingText<'a>
         ensures { result ≡ newest_text table.now.game table.now.hands }
     {
         match newest_play(table) {
             Some(play) => BettingText::of(play),
-            None => BettingText::new(),
+            None => BettingText::of_actions(table.game(), &[], &[]),
         }
     }
 
-    /// The bytes, at most 3584.
-    pub fn as_bytes(&self) -> &[u8]
-        ensures value { result.now ≡ self.now }
-        ensures most { length self.now ≤ 3584 }
-    {
-        &self.bytes[..self.len]
-    }
-
     /// The betting text of actions, oldest first, with so many `/` behind each.
-    pub(crate) fn of_actions(game: &GameDef, actions: &[Action], slashes: &[u8]) -> BettingText
+    pub(crate) fn of_actions(
+        game: &'a GameDef,
+        actions: &'a [Action],
+        slashes: &'a [u8],
+    ) -> BettingText<'a>
         requires few { length actions.now ≤ 256 }
         requires places { length slashes.now ≡ length actions.now }
         requires slashes { slashes.now ≡ reverse (slash_counts game.now (reverse actions.now)) }
         requires few_slashes { (index : ℕ) → slice_index slashes.now index ≤ 3 }
         ensures { result ≡ text game.now (reverse actions.now) }
     {
-        slashes_stand_behind_actions();
-        let mut text = BettingText::new();
-        for place in 0..actions.len() {
-            text.put_action(game, actions[place], slashes[place]);
-        }
-        text
-    }
-
-    /// No text yet.
-    fn new() -> BettingText
-        ensures { result ≡ [] }
-    {
         BettingText {
-            bytes: [0; MOST_BETTING],
-            len: 0,
+            game,
+            actions,
+            slashes,
         }
     }
 
-    /// Appends an action's text, and so many `/`.
-    fn put_action(&mut self, game: &GameDef, action: Action, slashes: u8)
-        requires few { slashes ≤ 3 }
-        requires room { length self.old + 14 ≤ 3584 }
-        ensures text { self.new ≡ self.old ++ action_text game.now action ++ replicate slashes 47 }
-        ensures len { length self.new ≤ length self.old + 14 }
+    /// Appends the text, at most 3584 bytes, for which there is room: takes no memory, and can't fail.
+    pub fn put(&self, out: &mut Vec<u8>)
+        requires { vec_len out.old + 3584 ≤ vec_capacity out.old }
+        ensures items { out.new.items ≡ out.old.items ++ self.now }
+        ensures len { vec_len out.new ≤ vec_len out.old + 3584 }
+        ensures capacity { vec_capacity out.old ≤ vec_capacity out.new }
     {
-        self.put_word(game, action);
-        self.put(&b"///"[..slashes as usize]);
+        slashes_stand_behind_actions();
+        for place in 0..self.actions.len() {
+            put_action(out, self.game, self.actions[place], self.slashes[place]);
+        }
     }
 
-    /// Appends an action's text: `f`, `c`, and `r`, with the amount in a no-limit game.
-    #[tactic(auto, unfolding(betting::specs::Text::action_text))]
-    fn put_word(&mut self, game: &GameDef, action: Action)
-        requires { length self.old + 11 ≤ 3584 }
-        ensures text { self.new ≡ self.old ++ action_text game.now action }
-        ensures len { length self.new ≤ length self.old + 11 }
+    /// Whether a text is this one.
+    pub(crate) fn is(&self, bytes: &[u8]) -> bool
+        ensures { IsTrue result ↔ bytes.now ≡ self.now }
     {
-        match action {
-            Action::Fold => self.put(b"f"),
-            Action::Call => self.put(b"c"),
-            Action::Raise(amount) => {
-                self.put(b"r");
-                if !game.is_limit() {
-                    self.put(Buffer::new().format(amount).as_bytes());
-                }
+        match self.after(bytes) {
+            Some(rest) => rest.is_empty(),
+            None => false,
+        }
+    }
+
+    /// What stands behind the text, where it stands in front.
+    fn after<'b>(&self, bytes: &'b [u8]) -> Option<&'b [u8]>
+        ensures found { IfSome result (λ rest. bytes.now ≡ self.now ++ rest.now) }
+        ensures only { (behind : List ℕ) → bytes.now ≡ self.now ++ behind → IsSomeAnd result (λ rest. rest.now ≡ behind) }
+    {
+        slashes_stand_behind_actions();
+        let mut rest = bytes;
+        for place in 0..self.actions.len() {
+            rest = after_turn(rest, self.game, self.actions[place], self.slashes[place])?;
+        }
+        Some(rest)
+    }
+}
+
+/// Appends an action's text, and so many `/`, for which there is room.
+fn put_action(out: &mut Vec<u8>, game: &GameDef, action: Action, slashes: u8)
+    requires few { slashes ≤ 3 }
+    requires room { vec_len out.old + 14 ≤ vec_capacity out.old }
+    ensures items { out.new.items ≡ out.old.items ++ action_text game.now action ++ replicate slashes 47 }
+    ensures len { vec_len out.new ≤ vec_len out.old + 14 }
+    ensures capacity { vec_capacity out.old ≤ vec_capacity out.new }
+{
+    put_word(out, game, action);
+    put(out, &b"///"[..slashes as usize]);
+}
+
+/// Appends an action's text, for which there is room: `f`, `c`, and `r`, with the amount in a no-limit game.
+#[tactic(auto, unfolding(betting::specs::Text::action_text))]
+fn put_word(out: &mut Vec<u8>, game: &GameDef, action: Action)
+    requires { vec_len out.old + 11 ≤ vec_capacity out.old }
+    ensures items { out.new.items ≡ out.old.items ++ action_text game.now action }
+    ensures len { vec_len out.new ≤ vec_len out.old + 11 }
+    ensures capacity { vec_capacity out.old ≤ vec_capacity out.new }
+{
+    match action {
+        Action::Fold => put(out, b"f"),
+        Action::Call => put(out, b"c"),
+        Action::Raise(amount) => {
+            put(out, b"r");
+            if !game.is_limit() {
+                put_number(out, amount);
             }
         }
     }
+}
 
-    /// Appends bytes.
-    fn put(&mut self, piece: &[u8])
-        requires { length self.old + length piece.now ≤ 3584 }
-        ensures text { self.new ≡ self.old ++ piece.now }
-        ensures len { length self.new ≡ length self.old + length piece.now }
-    {
-        let end = self.len + piece.len();
-        self.bytes[self.len..end].copy_from_slice(piece);
-        self.len = end;
+/// What stands behind an action's text and so many `/`, where they stand in front.
+fn after_turn<'a>(bytes: &'a [u8], game: &GameDef, action: Action, slashes: u8) -> Option<&'a [u8]>
+    requires { slashes ≤ 3 }
+    ensures found { IfSome result (λ rest. bytes.now ≡ action_text game.now action ++ (replicate slashes 47 ++ rest.now)) }
+    ensures only { (behind : List ℕ) → bytes.now ≡ action_text game.now action ++ (replicate slashes 47 ++ behind) → IsSomeAnd result (λ rest. rest.now ≡ behind) }
+{
+    let rest = after_action(bytes, game, action)?;
+    after_slashes(rest, slashes as usize)
+}
+
+/// What stands behind an action's text, where it stands in front.
+#[tactic(auto, unfolding(betting::specs::Text::action_text))]
+fn after_action<'a>(bytes: &'a [u8], game: &GameDef, action: Action) -> Option<&'a [u8]>
+    ensures found { IfSome result (λ rest. bytes.now ≡ action_text game.now action ++ rest.now) }
+    ensures only { (behind : List ℕ) → bytes.now ≡ action_text game.now action ++ behind → IsSomeAnd result (λ rest. rest.now ≡ behind) }
+{
+    match action {
+        Action::Fold => after_byte(bytes, b'f'),
+        Action::Call => after_byte(bytes, b'c'),
+        Action::Raise(amount) => {
+            let digits = after_byte(bytes, b'r')?;
+            if game.is_limit() {
+                Some(digits)
+            } else {
+                after_number(digits, amount)
+            }
+        }
     }
 }
 
@@ -164,7 +210,7 @@ pub fn betting_text_reserved(out: &mut Vec<u8>, play: &Play)
     ensures len { vec_len out.new ≤ vec_len out.old + 3584 }
     ensures capacity { vec_capacity out.old ≤ vec_capacity out.new }
 {
-    put(out, BettingText::of(play).as_bytes());
+    BettingText::of(play).put(out);
 }
 
 /// The play that a betting text says: that of the one legal list of actions which has this text, if any.

@@ -1,18 +1,21 @@
 //! The dealer's lines: what a seat may see of a match, as the ACPC protocol 2.0.0 writes it, and back from a text to
 //! what it shows; and the players' answers, a line and an action. `laws` has what holds of the lines of every match.
 //!
-//! A dealer makes the hand's `BettingText` once after each command (`newest`) and appends `seat_line` for each seat.
+//! A dealer takes the newest hand's `BettingText` after each command (`newest`) and appends `seat_line` for each seat: it
+//! lies with the hand's actions, and each line spells it where it is written. `read_current_answer` reads an answer to the
+//! line that a seat has now, against the table, where both lie. So no command makes a copy of a hand's actions or betting.
+//!
 //! What a seat sees is a `View`, by `seat_view`; `write` appends its line, `read` reads a line back, and `read_answer`
-//! a player's answer, both against the game alone. `read_betting`, `read_action`, `read_deal` and `read_shown` read
-//! parts of lines, `cut` parts a text at a byte, `are_digits` says whether it has digits alone, and `put`, `put_number`,
-//! `put_cards` and `betting_text` append parts.
+//! a player's answer, both against the game alone: they make a view. `read_betting`, `read_action`, `read_deal` and
+//! `read_shown` read parts of lines, `cut` parts a text at a byte, `are_digits` says whether it has digits alone, and
+//! `put`, `put_number`, `put_cards` and `betting_text` append parts.
 //!
 //! Calls with `reserved` in their name take no memory where there is room for the most that they append, a constant
 //! beside each; no other call but those that answer a `Result` of `AllocError` takes any.
 //!
 //! The test `all_seats_share_one_betting_text` of `rule_tests` writes the lines of a table,
-//! `lines_read_as_they_are_written` and `answers_read_as_views_and_actions` read. Faults: `LineFault`, 40 to 44, the
-//! first in the order that `specs/Line.antt` and `specs/Answer.antt` state.
+//! `lines_read_as_they_are_written`, `answers_read_as_views_and_actions` and `answers_to_the_line_of_now` read. Faults:
+//! `LineFault`, 40 to 44, the first in the order that `specs/Line.antt` and `specs/Answer.antt` state.
 #![tactic(auto)]
 
 mod action_text;
@@ -22,6 +25,7 @@ mod bytes;
 mod cards;
 mod cards_field;
 mod comparison;
+mod current_answer;
 mod cutting;
 mod deal_text;
 pub mod laws;
@@ -42,6 +46,7 @@ pub use betting_field::{
 };
 pub use bytes::put;
 pub use cards::put_cards;
+pub use current_answer::{CurrentAnswer, read_current_answer};
 pub use cutting::cut;
 pub use deal_text::{read_deal, read_shown};
 pub use line::{MOST_LINE, read, seat_line, seat_line_reserved, write, write_reserved};

@@ -1,7 +1,8 @@
-ghost use Rattle.std.specs.Prelude.{◌≡◌, ℕ, ◌+◌, ◌<◌, ◌≤◌, ◌++◌, decimal, OnOk, OnErr, vec_len, vec_capacity, List, Some, IfSome, IsSomeAnd, MatchResult, codes};
+ghost use Rattle.std.specs.Prelude.{◌≡◌, ℕ, ◌+◌, ◌<◌, ◌≤◌, ◌++◌, decimal, OnOk, OnErr, vec_len, vec_capacity, List, Some, IfSome, IsSomeAnd, IsNone, MatchResult, codes};
 ghost use Rattle.matchstate.specs.Cards.{cards_field};
 ghost use Rattle.matchstate.specs.SeenCards.{holes_in, boards_in};
 ghost use Rattle.matchstate.specs.Line.{joined, line_text, newest_text, seat_text, Fields, HasFields, AreNumbers, IsLine, ReadsAs};
+ghost use Rattle.matchstate.specs.View.{View as Sight};
 ghost use Rattle.matchstate.specs.FieldsInside.{fields_in};
 
 use crate::betting_field::{BettingText, read_betting};
@@ -121,7 +122,7 @@ fn put_line(
     put(out, b":");
     put_number(out, hand);
     put(out, b":");
-    put(out, betting.as_bytes());
+    betting.put(out);
     put(out, b":");
     put_seen(out, players, seen);
 }
@@ -157,6 +158,32 @@ pub(crate) fn read_played(bytes: &[u8], game: &GameDef) -> Result<(View, Play), 
     };
     let view = View::of(position, hand, &play, seen);
     Ok((view, play))
+}
+
+/// What a line shows beside its actions: the position and the hand's number, and the cards.
+#[derive(Drop)]
+pub(crate) struct LineOf {
+    pub(crate) position: usize,
+    pub(crate) hand: u32,
+    pub(crate) seen: SeenCards,
+}
+
+/// What a server's line says that has the actions of a play; none where the text is no such line.
+pub(crate) fn read_line_of(bytes: &[u8], play: &Play) -> Option<LineOf>
+    ensures found { IfSome result (λ line. IsLine play.now.game bytes.now (record { game = play.now.game; position = line.position; hand = line.hand; past = play.now.past; holes = holes_in play.now.game.players line.seen; boards = boards_in line.seen })) }
+    ensures missing { IsNone result → (view : Sight) → view.past ≡ play.now.past → ¬ (IsLine play.now.game bytes.now view) }
+{
+    let fields = fields_of(bytes)?;
+    let (position, hand) = numbers_of(&fields, play.game())?;
+    if !BettingText::of(play).is(fields.betting) {
+        return None;
+    }
+    let seen = read_sight(fields.cards, play, position)?;
+    Some(LineOf {
+        position,
+        hand,
+        seen,
+    })
 }
 
 /// The four fields behind the word.

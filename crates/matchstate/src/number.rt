@@ -1,4 +1,4 @@
-ghost use Rattle.std.specs.Prelude.{◌≡◌, ℕ, ◌^◌, ◌<◌, Some, IfSome, decimal, ◌+◌, ◌*◌, ◌≤◌, ◌++◌, length, vec_len, vec_capacity};
+ghost use Rattle.std.specs.Prelude.{◌≡◌, ℕ, ◌^◌, ◌<◌, Some, IfSome, decimal, ◌+◌, ◌*◌, ◌≤◌, ◌++◌, length, vec_len, vec_capacity, List, IsSomeAnd};
 ghost use Rattle.std.specs.List.{list_all};
 ghost use Rattle.std.specs.Char.{is_ascii_digit};
 
@@ -13,6 +13,14 @@ pub fn put_number(out: &mut Vec<u8>, number: u32)
     ensures capacity { vec_capacity out.old ≤ vec_capacity out.new }
 {
     put(out, Buffer::new().format(number).as_bytes());
+}
+
+/// What stands behind a number in decimal digits, where it stands in front.
+pub(crate) fn after_number(bytes: &[u8], number: u32) -> Option<&[u8]>
+    ensures found { IfSome result (λ rest. bytes.now ≡ decimal number ++ rest.now) }
+    ensures only { (behind : List ℕ) → bytes.now ≡ decimal number ++ behind → IsSomeAnd result (λ rest. rest.now ≡ behind) }
+{
+    bytes.strip_prefix(Buffer::new().format(number).as_bytes())
 }
 
 /// The number below 2^32 that the bytes write as a decimal without leading zeros; `None` for any other bytes.

@@ -1,5 +1,6 @@
-ghost use Rattle.std.specs.Prelude.{◌≡◌, ℕ, ◌+◌, ◌-◌, ◌%◌, ◌<◌, ◌≤◌};
+ghost use Rattle.std.specs.Prelude.{◌≡◌, ℕ, ◌+◌, ◌-◌, ◌%◌, ◌<◌, ◌≤◌, None, IsNone, IfSome};
 ghost use Rattle.card_core.specs.Deal.{IsDeal};
+ghost use Rattle.matchstate.specs.SeatHand.{IsHandOf};
 ghost use Rattle.matchstate.specs.View.{seat_view, view_of, position_of};
 
 use crate::sight::sight;
@@ -14,11 +15,35 @@ pub fn seat_view(table: &Table, seat: usize) -> Option<View>
     requires { seat < table.now.game.players }
     ensures { result ≡ seat_view table.now.game table.now.hands seat }
 {
+    let at = newest_hand(table, seat)?;
+    Some(view_of_hand(at.position, at.hand, at.deal, at.play))
+}
+
+/// The newest hand of a match as a seat has it: the seat's position and the hand's number, its deal and its betting.
+#[derive(Drop)]
+pub(crate) struct SeatHand<'a> {
+    pub(crate) position: usize,
+    pub(crate) hand: u32,
+    pub(crate) deal: &'a Deal,
+    pub(crate) play: &'a Play,
+}
+
+/// The newest hand as a seat has it, counted from 0 and below the number of players; none until the first deal.
+pub(crate) fn newest_hand(table: &Table, seat: usize) -> Option<SeatHand<'_>>
+    requires { seat < table.now.game.players }
+    ensures none { IsNone result → seat_view table.now.game table.now.hands seat ≡ None }
+    ensures some { IfSome result (IsHandOf table.now.game table.now.hands seat) }
+{
     let hand = table.dealt().checked_sub(1)?;
     let deal = table.deal(hand)?;
     let play = table.play(hand)?;
     let position = position_of(table.game().players(), hand, seat);
-    Some(view_of_hand(position, hand, deal, play))
+    Some(SeatHand {
+        position,
+        hand,
+        deal,
+        play,
+    })
 }
 
 /// The position that a seat, counted from 0, has in a hand of 2 to 10 players: the positions move on by one seat with

@@ -1,8 +1,9 @@
-ghost use Rattle.std.specs.Prelude.{◌≡◌, ℕ, ◌+◌, ◌*◌, ◌<◌, ◌≤◌, ◌++◌, [], map, take, length, unwrap_or};
+ghost use Rattle.std.specs.Prelude.{◌≡◌, ℕ, ◌+◌, ◌*◌, ◌<◌, ◌≤◌, ◌++◌, [], map, take, length, unwrap_or, IsTrue, ◌↔◌};
 ghost use Rattle.std.specs.List.{concat};
 ghost use Rattle.matchstate.specs.Cards.{all_cards};
 ghost use Rattle.matchstate.specs.SeenCards.{hole_in, holes_in, boards_in};
 
+use crate::comparison::are_same_cards;
 use card_core::Card;
 use card_core::limits::{CARDS, PLAYERS};
 
@@ -28,6 +29,16 @@ pub(crate) fn gather(seen: &SeenCards, players: usize) -> ([Card; CARDS], usize)
     let turn = add(&mut cards, flop, &seen.turn);
     let count = add(&mut cards, turn, &seen.river);
     (cards, count)
+}
+
+/// Whether the same cards are seen, one after another in the order of a line.
+pub(crate) fn are_same_seen(first: &SeenCards, second: &SeenCards, players: usize) -> bool
+    requires { players ≤ 10 }
+    ensures { IsTrue result ↔ all_cards (holes_in players first.now) (boards_in first.now) ≡ all_cards (holes_in players second.now) (boards_in second.now) }
+{
+    let (cards, count) = gather(first, players);
+    let (others, other_count) = gather(second, players);
+    are_same_cards(&cards[..count], &others[..other_count])
 }
 
 /// The board cards that are seen, in the order of a line, and how many.

@@ -5,8 +5,9 @@ use crate::samples::{L2, N2, card, game, ten_ace};
 use betting::Action;
 use game_def::GameDef;
 use matchstate::{
-    BettingText, LineFault, MOST_LINE, View, betting_text, position_of, read, read_answer,
-    read_betting, seat_line, seat_line_reserved, seat_view, write, write_reserved,
+    BettingText, LineFault, MOST_BETTING, MOST_LINE, View, betting_text, position_of, read,
+    read_answer, read_betting, read_current_answer, seat_line, seat_line_reserved, seat_view,
+    write, write_reserved,
 };
 use slot_log::{Command, Effect, Table};
 use std::alloc::{AllocError, Global};
@@ -119,7 +120,10 @@ fn share(
     wanted: &[&[u8]; 2],
 ) -> Result<(), AllocError> {
     let betting = BettingText::newest(table);
-    holds!(rt; betting.as_bytes() == text);
+    lines.reserve(MOST_BETTING)?;
+    betting.put(lines);
+    holds!(rt; lines.as_slice() == text);
+    lines.clear();
     is_of_two(rt, table);
     seat_line(lines, table, 0, &betting)?;
     holds!(rt; lines.as_slice() == wanted[0]);
@@ -235,6 +239,56 @@ fn answers_read_as_views_and_actions(rt: HostRuntime) {
         same!(&rt; answer_of(&rt, text, &no_limit), wanted);
     }
     same!(&rt; LineFault::BadAction.code(), 44);
+}
+
+/// Sees which answer of a seat at a table of two a text is to the line that the seat has now: the hand's number, the
+/// position and the action.
+fn answers(
+    rt: &impl Abort,
+    table: &Table,
+    seat: usize,
+    text: &[u8],
+    wanted: Option<(u32, usize, Action)>,
+)
+    requires { seat < 2 }
+{
+    is_of_two(rt, table);
+    let found = match read_current_answer(text, table, seat) {
+        Some(answer) => Some((answer.hand, answer.position, answer.action)),
+        None => None,
+    };
+    same!(rt; found, wanted);
+}
+
+/// Texts in the first hand of two once position 0 has raised and position 1 has called, with what each is of seat 1.
+static NOW: [(&[u8], Option<(u32, usize, Action)>); 8] = [
+    (
+        b"MATCHSTATE:1:0:rc/:|8hTc/2c8c3h:c",
+        Some((0, 1, Action::Call)),
+    ),
+    (
+        b"MATCHSTATE:1:0:rc/:|8hTc/2c8c3h:f",
+        Some((0, 1, Action::Fold)),
+    ),
+    (b"MATCHSTATE:1:0:rc/:|8hTc/2c8c3h:x", None),
+    (b"MATCHSTATE:1:0:rc/:|8hTc/2c8c4h:c", None),
+    (b"MATCHSTATE:1:1:rc/:|8hTc/2c8c3h:c", None),
+    (b"MATCHSTATE:0:0:rc/:TdAs|/2c8c3h:c", None),
+    (b"MATCHSTATE:1:0:rc:|8hTc/2c8c3h:c", None),
+    (b"MATCHSTATE:1:0::|8hTc:c", None),
+];
+
+#[test]
+fn answers_to_the_line_of_now(rt: HostRuntime) -> Result<(), Fail> {
+    let mut table = dealt(&rt, rt.alloc());
+    let raise = Some((0, 1, Action::Raise(20)));
+    answers(&rt, &table, 1, b"MATCHSTATE:1:0::|8hTc:r", raise);
+    answers(&rt, &table, 0, b"MATCHSTATE:1:0::|8hTc:r", None);
+    raise_and_call(&mut table)?;
+    for &(text, wanted) in &NOW {
+        answers(&rt, &table, 1, text, wanted);
+    }
+    Ok(())
 }
 
 #[test]

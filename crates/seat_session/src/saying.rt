@@ -1,5 +1,7 @@
-ghost use Rattle.std.specs.Prelude.{◌≡◌, ◌≢◌, ◌<◌, false, Some, IfSome, IfOk, MatchOption};
-ghost use Rattle.matchstate.specs.View.{seat_view};
+ghost use Rattle.std.specs.Prelude.{◌≡◌, ◌<◌, false, Some, Err, IfSome, IfOk, MatchOption};
+ghost use Rattle.betting.specs.declared.action.Action.{Action};
+ghost use Rattle.matchstate.specs.Answer.{IsAnswer};
+ghost use Rattle.matchstate.specs.View.{View, seat_view};
 ghost use Rattle.seat_session.specs.Saying.{Greets, Plays, Says, SaidFits};
 ghost use Rattle.seat_session.specs.Lines.{IsPartial};
 ghost use Rattle.seat_session.specs.Session.{is_closed, FrontSays};
@@ -10,8 +12,8 @@ use crate::phase::Phase;
 use crate::said::Said;
 use crate::session_fault::SessionFault;
 use crate::version::is_version;
-use betting::{Play, laws};
-use matchstate::{View, read_answer, seat_view};
+use betting::laws;
+use matchstate::{read_answer, read_current_answer};
 use slot_log::{Command, Table};
 
 /// What the line in front says; none while no whole line stands there.
@@ -66,40 +68,29 @@ fn said_in_play(text: &[u8], seat: usize, table: &Table) -> Result<Said, Session
 {
     laws::allowed_without_fault();
     prove!(table.dealt() <= table.hands());
-    let (view, action) = match read_answer(text, table.game()) {
-        Ok(answer) => answer,
-        Err(fault) => return Err(SessionFault::Malformed(fault)),
+    let Some(answer) = read_current_answer(text, table, seat) else {
+        return Err(why_not_current(text, seat, table));
     };
-    let Some(play) = current_play(table, seat, &view) else {
-        return Err(SessionFault::NotCurrent);
-    };
-    if play.to_act() != Some(view.position()) {
+    if answer.play.to_act() != Some(answer.position) {
         return Err(SessionFault::NotYourTurn);
     }
-    match play.fault(action) {
+    match answer.play.fault(answer.action) {
         Some(fault) => Err(SessionFault::Illegal(fault)),
         None => Ok(Said::Act(Command::Act {
-            hand: view.hand(),
-            index: play.actions().len() as u16,
-            action,
+            hand: answer.hand,
+            index: answer.play.actions().len() as u16,
+            action: answer.action,
         })),
     }
 }
 
-/// The betting of the newest hand, where the view is what the seat sees of it.
-fn current_play<'a>(table: &'a Table, seat: usize, view: &View) -> Option<&'a Play>
-    requires seat { seat < table.now.game.players }
-    requires game { view.now.game ≡ table.now.game }
-    ensures { MatchOption result (seat_view table.now.game table.now.hands seat ≢ Some view.now)
-        (λ play. (seat_view table.now.game table.now.hands seat ≡ Some view.now)
-        × (play.now ≡ record { game = table.now.game; past = view.now.past })) }
+/// Why a text is no answer to the line that a seat has now.
+fn why_not_current(text: &[u8], seat: usize, table: &Table) -> SessionFault
+    requires { (view : View) (action : Action) → seat_view table.now.game table.now.hands seat ≡ Some view → ¬ (IsAnswer table.now.game text.now view action) }
+    ensures { Plays table.now.game table.now.hands seat text.now (Err result) }
 {
-    let Some(current) = seat_view(table, seat) else {
-        return None;
-    };
-    if current.is_same(view) {
-        table.play(view.hand())
-    } else {
-        None
+    match read_answer(text, table.game()) {
+        Ok(_) => SessionFault::NotCurrent,
+        Err(fault) => SessionFault::Malformed(fault),
     }
 }
