@@ -80,8 +80,7 @@ impl SeatNames {
 pub(crate) fn are_names(names: &[Name], players: usize) -> bool
     ensures { IsTrue result ↔ AreNames players names.now }
 {
-    let distinct = are_distinct(names);
-    names.len() == players && distinct
+    names.len() == players && are_distinct(names)
 }
 
 /// Whether no name stands there twice.
