@@ -6,11 +6,11 @@ use Rattle.match_links.specs.declared.held.Held.{Held}
 
 -- he can be seated
 abbrev pub sits : Held → Bool
-sits held = can_sit held.input.bytes.items held.ended
+sits held = can_sit held.input held.ended
 
 -- he isn't over
 abbrev pub stays : Held → Bool
-stays held = not (is_over held.input.bytes.items held.ended)
+stays held = not (is_over held.input held.ended)
 
 -- who stands at this place, if it is one
 abbrev pub at_place : {A : Type 0} → List A → Option ℕ → Option A

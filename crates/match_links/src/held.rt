@@ -47,14 +47,14 @@ impl Held {
 
     /// Whether it can be seated: it has a whole piece, or has ended behind some bytes.
     pub(crate) fn can_sit(&self) -> bool
-        ensures { result ≡ can_sit self.now.input.bytes.items self.now.ended }
+        ensures { result ≡ can_sit self.now.input self.now.ended }
     {
         self.input.is_whole() || self.ended && !self.input.is_empty()
     }
 
     /// Whether it has ended and sent nothing.
     pub(crate) fn is_over(&self) -> bool
-        ensures { result ≡ is_over self.now.input.bytes.items self.now.ended }
+        ensures { result ≡ is_over self.now.input self.now.ended }
     {
         self.ended && self.input.is_empty()
     }

@@ -1,5 +1,5 @@
 ghost use Rattle.std.specs.Prelude.{◌≡◌, ◌≤◌, ◌++◌, [], length, map, replicate, slice_get, None, IfOk, IfErr, OnOk, OnErr};
-ghost use Rattle.std.specs.Option.{ForSome, option_map};
+ghost use Rattle.std.specs.Option.{ForSome};
 ghost use Rattle.dealer_world.specs.Viewing.{view_of};
 ghost use Rattle.dealer_world.specs.Promise.{IsPromised, HasNoForged};
 ghost use Rattle.dealer_node.specs.Seeing.{begun_of};
@@ -7,7 +7,6 @@ ghost use Rattle.dealer_world.specs.Events.{node_of};
 ghost use Rattle.serving.specs.Dues.{TakesNext, IsAwaited};
 ghost use Rattle.serving.specs.Giving.{taken};
 ghost use Rattle.serving.specs.Going.{piece_after};
-ghost use Rattle.serving.specs.Most.{frame_by, frame_of_turn, CoversTurn};
 ghost use Rattle.serving.specs.Outing.{outages_in};
 ghost use Rattle.serving.specs.Placed.{places_in};
 ghost use Rattle.serving.specs.Turned.{Turned, KeepsPromise, Gave, FailsAt, Closes, Mends, Opens};
@@ -18,17 +17,18 @@ ghost use Rattle.serving.specs.declared.serve_fault.ServeFault.TheVariants.{LogF
 
 use crate::desk::Desk;
 use crate::due::Due;
-use crate::most::most_shown;
+use crate::most::most_of_turn;
 use crate::outages::Outages;
 use crate::place::Place;
 use crate::serve_fault::ServeFault;
 use crate::taking::{close_all, empty_logs, take_due};
 use crate::turn::Turn;
 use crate::waiting::{Taking, Waiting};
-use dealer_node::{MostShown, NodeFault, is_out_of_memory};
-use dealer_world::{Cluster, Event, Frame};
+use dealer_node::{NodeFault, is_out_of_memory};
+use dealer_world::{Cluster, Event};
 use match_file::Absent;
 use match_links::Links;
+use paxos_wire::MessageRoom;
 use promise_store::Disk;
 use std::alloc::Global;
 
@@ -44,6 +44,8 @@ pub struct Server<D: Disk + Drop, L: Links + Drop> {
     waiting: Option<Waiting>,
     /// What a seat sent that was read last.
     last_piece: Vec<u8>,
+    /// Where the lists of a frame's message stand while it is asked how much the frame's turn shows.
+    lists: MessageRoom,
     ghost waits: { ForSome waiting (IsWaiting (view_of cluster)) } by { waits_prop (view_of cluster) waiting },
     ghost promised: { IsPromised D.Disk (view_of cluster) },
     ghost shown: { desk.shown ≤ length (view_of cluster).all.shown },
@@ -58,6 +60,7 @@ impl<D: Disk + Drop, L: Links + Drop> Drop for Server<D, L> {
             desk: _,
             waiting: _,
             last_piece: _,
+            lists: _,
         } = self;
     }
 }
@@ -129,6 +132,7 @@ impl<D: Disk + Drop, L: Links + Drop> Server<D, L> {
             desk,
             waiting: None,
             last_piece: Vec::new(alloc),
+            lists: MessageRoom::new(),
         })
     }
 
@@ -146,28 +150,16 @@ impl<D: Disk + Drop, L: Links + Drop> Server<D, L> {
         ensures begun { map (begun_of D.Disk) (view_of self.new.cluster).nodes ≡ map (begun_of D.Disk) (view_of self.old.cluster).nodes }
     {
         // Before anything is taken or given: what the turn then carries and shows finds its room.
-        let most = self.most_of_turn();
+        let most = most_of_turn(
+            &self.cluster,
+            &self.desk.progress,
+            &self.waiting,
+            &mut self.lists,
+        );
         if self.desk.links.reserve(most.pieces, most.bytes).is_err() {
             return Err(ServeFault::Node(NodeFault::OutOfMemory));
         }
         self.take_turn()
-    }
-
-    /// How much the next turn shows at most.
-    fn most_of_turn(&self) -> MostShown
-        ensures { CoversTurn (view_of self.now.cluster) self.now.desk.progress self.now.waiting result }
-    {
-        most_shown(&self.cluster, self.next_frame())
-    }
-
-    /// The frame that the next turn may bring to a node.
-    fn next_frame(&self) -> Option<Frame<'_>>
-        ensures { option_map (λ frame. frame_by frame.from frame.to frame.bytes.now) result ≡ frame_of_turn (view_of self.now.cluster) self.now.desk.progress self.now.waiting }
-    {
-        match &self.waiting {
-            Some(waiting) => waiting.frame(),
-            None => self.desk.progress.frame(&self.cluster),
-        }
     }
 
     /// The same once the links have made room.
