@@ -73,12 +73,11 @@ impl<D: Disk + Drop> Up<D> {
     ghost use Rattle.dealer_node.specs.Working.{IsUp, GoesOn};
     ghost use Rattle.dealer_node.specs.Calling.{HandlesCall};
 
-    /// How much the call of a frame of these bytes shows at most.
-    pub(crate) fn most_shown_by(&self, bytes: &[u8]) -> MostShown
+    /// How much the call of a frame of these bytes shows at most. The lists of its message stand in the room.
+    pub(crate) fn most_shown_by(&self, bytes: &[u8], room: &mut MessageRoom) -> MostShown
         ensures { result ≡ most_after (most_applied_by self.now.running (reading bytes.now)) }
     {
-        let mut room = MessageRoom::new();
-        match read(bytes, &mut room) {
+        match read(bytes, room) {
             Ok(message) => most_shown_behind(&self.running, &message),
             Err(_) => self.running.most_shown(),
         }

@@ -1,4 +1,4 @@
-ghost use Rattle.std.specs.Prelude.{◌≡◌, ℕ, ◌<◌, ◌≤◌, true, false, List, [], Option, IsTrue, IsErr, Ok, Err, IfOk, IfErr, IfSome, OnOk, is_some, length, option_map};
+ghost use Rattle.std.specs.Prelude.{◌≡◌, ℕ, ◌<◌, ◌≤◌, true, false, List, [], Option, IsTrue, IsErr, Ok, Err, IfOk, IfErr, IfSome, OnOk, is_some, length, option_map, reverse};
 ghost use Rattle.protocol_model.specs.Stores.{Store as Kept, empty_store};
 ghost use Rattle.proposer.specs.Campaigns.{leads};
 ghost use Rattle.node_rules.specs.Standings.{Standing, applied, front_of, place_of, stopped};
@@ -24,7 +24,7 @@ use crate::rooms::Rooms;
 use crate::starting::{open, ready};
 use crate::up::Up;
 use dealer_kind::Config;
-use paxos_wire::Ballot;
+use paxos_wire::{Ballot, MessageRoom};
 use promise_store::laws::what_is_kept_is_left;
 use promise_store::{Disk, Store};
 use slot_log::{Command, Table};
@@ -366,6 +366,17 @@ impl<D: Disk + Drop> Node<D> {
         }
     }
 
+    /// The commands that the node has applied, that of slot 0 first; none while it is down.
+    pub fn commands(&self) -> &[Command]
+        ensures seen { (s : Standing) → IsSeen D.Disk self.now s → result.now ≡ reverse (applied s) }
+        ensures down { runs self.now ≡ false → result.now ≡ [] }
+    {
+        match &self.up {
+            None => &[],
+            Some(up) => up.running.learner.log().commands(),
+        }
+    }
+
     /// The ballot that the node has promised; none before the first, and while the node is down.
     pub fn promised(&self) -> Option<Ballot>
         ensures seen { (s : Standing) → IsTrue D.is_honest → IsSeen D.Disk self.now s → s.up ≡ true → result ≡ promised_ballot s.store.promise }
@@ -447,13 +458,13 @@ impl<D: Disk + Drop> Node<D> {
     }
 
     /// How many pieces the call of a frame of these bytes shows at most, and how many bytes they have in all: also the
-    /// commands that it has may be applied then, and those proposed that it tells.
-    pub fn most_shown_by(&self, bytes: &[u8]) -> MostShown
+    /// commands that it has may be applied then, and those proposed that it tells. The frame is read into this room.
+    pub fn most_shown_by(&self, bytes: &[u8], room: &mut MessageRoom) -> MostShown
         ensures { result ≡ most_shown_by self.now bytes.now }
     {
         match &self.up {
             None => most_after(0),
-            Some(up) => up.most_shown_by(bytes),
+            Some(up) => up.most_shown_by(bytes, room),
         }
     }
 

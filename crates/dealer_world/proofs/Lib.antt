@@ -18,6 +18,7 @@ mod Reading
 mod Ruling
 mod Keeping
 mod Conflicts
+mod Applied
 mod CalmRun
 mod Ruled
 mod Calling

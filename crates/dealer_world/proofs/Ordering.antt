@@ -63,7 +63,7 @@ order_arrived i began (what ∷ more) came node front (none_more, still, brings)
 
 -- ---- it met what was chosen
 
-known_chosen : KnownIsChosen → (dealer : Dealer) (n i : ℕ) (world : World) (known : List Command) → Reached dealer n world → Knows (world.nodes i).known known → AreChosen n world.ever known
+pub known_chosen : KnownIsChosen → (dealer : Dealer) (n i : ℕ) (world : World) (known : List Command) → Reached dealer n world → Knows (world.nodes i).known known → AreChosen n world.ever known
 known_chosen law dealer n i world [] reached knows = tt
 known_chosen law dealer n i world (command ∷ before) reached (here, knows) =
     (law dealer n i world (length before) command reached here, known_chosen law dealer n i world before reached knows)

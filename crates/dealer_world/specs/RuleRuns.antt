@@ -3,18 +3,19 @@ use Rattle.std.specs.Prelude.{◌≡◌, ◌≢◌, ℕ, ◌+◌, ◌<◌, true,
 use Rattle.std.proofs.Common.{get_or, set}
 use Rattle.protocol_model.specs.Sets.{In}
 use Rattle.protocol_model.specs.Messages.{Message}
+use Rattle.protocol_model.specs.Quorums.{AreChosen}
 use Rattle.protocol_model.specs.Stores.{Store, empty_store}
 use Rattle.protocol_model.specs.Backing.{Backs}
 use Rattle.dealer_kind.specs.Kind.{Setting}
 use Rattle.dealer_kind.specs.Plans.{Plan, IsPlan}
 use Rattle.dealer_kind.specs.declared.source.Source.{Source}
-use Rattle.node_rules.specs.Standings.{Standing, place_of, front_of, stopped}
+use Rattle.node_rules.specs.Standings.{Standing, place_of, front_of, applied, stopped}
 use Rattle.node_rules.specs.Calls.{Call}
 use Rattle.node_rules.specs.Turns.{Turn, Refusal, Conflict}
 use Rattle.node_rules.specs.Rules.{IsTurn, standing_after}
-use Rattle.dealer_world.specs.Records.{Record, Frame, Arrived, no_record, said_by}
+use Rattle.dealer_world.specs.Records.{Record, Frame, Arrived, no_record, said, said_by}
 use Rattle.dealer_world.specs.Unforged.{IsUnforged}
-use Rattle.dealer_world.specs.Headline.{Era, dealer_in, OneList}
+use Rattle.dealer_world.specs.Headline.{Era, said_in, dealer_in, OneList}
 use Rattle.dealer_world.specs.Calls.{Made, nothing_made}
 use Rattle.dealer_world.specs.Views.{grown, placed_at}
 use Rattle.dealer_world.specs.Behind.{EachNode}
@@ -107,6 +108,13 @@ RunsNeverConflict = (setting : Setting) (n : ℕ) (before : List Era) (sources :
     → RunsTo setting n before sources state → node < length state.standings → get_or state.standings node s ≡ s → IsSeated setting.game.players called
     → IsUnforged state.now.sent (state.now.delivered ++ map (placed_at (length state.now.sent)) (arrived_at s.up node (front_of s) called))
     → IsTurn (place_of (plan_of setting sources) node) s called (Err (Conflict store)) → ⊥
+
+-- in every run of the rules in which no frame was forged the commands that a running node applied are chosen, each at its slot, by what was said up to now
+abbrev pub RunsApplyTheChosen : Type 0
+RunsApplyTheChosen = (setting : Setting) (n : ℕ) (before : List Era) (sources : List Source) (state : State) (node : ℕ) (s : Standing)
+    → RunsTo setting n before sources state → node < length state.standings → get_or state.standings node s ≡ s → s.up ≡ true
+    → IsUnforged state.now.sent state.now.delivered
+    → AreChosen n (said_in before ++ said state.now.sent) (applied s)
 
 -- in every run of the rules in which no frame was forged there is one list behind all that was shown, in all eras
 abbrev pub RunsShowOneList : Type 0

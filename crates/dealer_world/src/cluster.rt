@@ -36,6 +36,7 @@ use crate::stopped::Stopped;
 use dealer_kind::Config;
 use dealer_node::laws::{images_are_seen, moments_pass, seen_as_one};
 use dealer_node::{MostShown, Node, NodeFault, Out, is_out_of_memory};
+use paxos_wire::MessageRoom;
 use promise_store::Disk;
 use std::alloc::{AllocError, Global};
 
@@ -338,12 +339,12 @@ impl<D: Disk + Drop> Cluster<D> {
         self.nodes[number].most_shown()
     }
 
-    /// The same where it brings a frame of these bytes.
-    pub fn most_shown_by(&self, number: usize, bytes: &[u8]) -> MostShown
+    /// The same where it brings a frame of these bytes, which is read into this room.
+    pub fn most_shown_by(&self, number: usize, bytes: &[u8], room: &mut MessageRoom) -> MostShown
         requires { number < length (view_of self.now).config.sources }
         ensures { result ≡ most_shown_with (view_of self.now) number bytes.now }
     {
-        self.nodes[number].most_shown_by(bytes)
+        self.nodes[number].most_shown_by(bytes, room)
     }
 
     // The record is read through the functions below alone: how it is kept (`Recording`) is no part of what a cluster is,

@@ -15,7 +15,7 @@ ghost use Rattle.dealer_world.specs.Given.{Given};
 ghost use Rattle.dealer_world.specs.RecordLaws.{OldFramesSayTheSame, LinesOfRecordsAgree, AlikeListsShowTheSame, CompleteLogsAreMatchLogs};
 ghost use Rattle.dealer_world.specs.CalmRun.{RoundsMoveOn, FreshClustersAreCalm};
 ghost use Rattle.dealer_world.specs.Calling.{EventsAreCalls, VainEventsAreNone, FrontsAreSeen, ConflictsAreRefusals, BrokenEventsAreCalls};
-ghost use Rattle.dealer_world.specs.RuleRuns.{RunsShowOneList, RunsAreBacked, RunsSendToNodes, RunsNeverConflict};
+ghost use Rattle.dealer_world.specs.RuleRuns.{RunsShowOneList, RunsAreBacked, RunsSendToNodes, RunsNeverConflict, RunsApplyTheChosen};
 
 use dealer_kind::laws::{deals_are_owned_acts_are_said_and_aways_are_ordered, owners_may_widen};
 use dealer_node::laws::seen_as_one;
@@ -143,6 +143,14 @@ pub fn runs_never_conflict()
 {
     layers_below();
     refusals_have_reasons();
+}
+
+/// And each command that a running node applied is chosen at its slot by what was said. So what the node's table shows is
+/// what every other node's table shows or will show, and a line that is told again is a line of the one list.
+pub fn runs_apply_the_chosen()
+    ensures { RunsApplyTheChosen }
+{
+    layers_below();
 }
 
 /// A cluster at rest whose nodes keep the rules moves: in every run in which no frame was forged, where the members of a

@@ -10,9 +10,9 @@ use Rattle.dealer_kind.specs.Plans.{Plan, IsPlan}
 use Rattle.dealer_kind.specs.declared.source.Source.{Source}
 use Rattle.node_rules.specs.Standings.{Standing, place_of, stopped}
 use Rattle.dealer_world.specs.Behind.{EachNode}
-use Rattle.dealer_world.specs.RuleRuns.{State, IsCreated, plan_of, RunsTo, fresh, step, IsBacked, RunsShowOneList, RunsAreBacked, RunsSendToNodes, RunsNeverConflict}
+use Rattle.dealer_world.specs.RuleRuns.{State, IsCreated, plan_of, RunsTo, fresh, step, IsBacked, RunsShowOneList, RunsAreBacked, RunsSendToNodes, RunsNeverConflict, RunsApplyTheChosen}
 use Rattle.stations.specs.Deeds.{Deed, Doing, deeds_of, record_of}
-use Rattle.stations.specs.Joining.{DidAt, AreProcesses, ProcessesShowOneList, ProcessesAreBacked, ProcessesSendToNodes, ProcessesNeverConflict}
+use Rattle.stations.specs.Joining.{DidAt, AreProcesses, ProcessesShowOneList, ProcessesAreBacked, ProcessesSendToNodes, ProcessesNeverConflict, ProcessesApplyTheChosen}
 
 -- ---- the standings of the nodes from k on, so many
 
@@ -239,3 +239,11 @@ processes_never_conflict law setting sources histories all processes i s called 
     law setting (length sources) [] sources _ i s called store (run_with setting sources histories all processes i s less is each)
     (subst (λ (n : ℕ). i < n) (sym (length_from (back (chosen_at setting sources histories all processes each) i s) 0 (length sources))) less)
     (at_this setting sources histories all processes i s less is each) seated unforged turn)
+
+pub processes_apply_the_chosen : RunsApplyTheChosen → ProcessesApplyTheChosen
+processes_apply_the_chosen law setting sources histories all processes i s less is up =
+    ∥∥₁_map (merely setting sources histories all processes)
+    (λ each.
+    law setting (length sources) [] sources _ i s (run_with setting sources histories all processes i s less is each)
+    (subst (λ (n : ℕ). i < n) (sym (length_from (back (chosen_at setting sources histories all processes each) i s) 0 (length sources))) less)
+    (at_this setting sources histories all processes i s less is each) up processes.order.unforged)

@@ -1,5 +1,5 @@
 -- All nodes of a match, each with a process now or with none.
-use Rattle.std.proofs.Common.{◌≡◌, ℕ, zero, suc, ◌<◌, ◌≤◌, ◌∙◌, ◌⊎◌, inl, inr, List, [], ◌∷◌, ◌++◌, length, map, Option, Some, None, get_or, IsTrue, refl, ap, sym, subst, arith}
+use Rattle.std.proofs.Common.{◌≡◌, Bool, true, false, ℕ, zero, suc, ◌<◌, ◌≤◌, ◌∙◌, ◌⊎◌, inl, inr, List, [], ◌∷◌, ◌++◌, length, map, Option, Some, None, get_or, IsTrue, refl, ap, sym, subst, arith}
 use Rattle.std.specs.Prelude.{option_map}
 use Rattle.std.specs.Coded.{le_prop}
 use Rattle.std.proofs.Math.Logic.{∥∥₁_map, ∥∥₁_elim}
@@ -11,23 +11,25 @@ use Rattle.promise_store.specs.Laws.{IsBacked}
 use Rattle.dealer_kind.specs.Kind.{Setting}
 use Rattle.dealer_kind.specs.Plans.{Plan, IsPlan}
 use Rattle.dealer_kind.specs.declared.source.Source.{Source}
-use Rattle.node_rules.specs.Standings.{Place, Standing, place_of}
+use Rattle.protocol_model.specs.Quorums.{AreChosen}
+use Rattle.node_rules.specs.Standings.{Place, Standing, place_of, applied}
 use Rattle.dealer_node.specs.Nodes.{Node}
-use Rattle.dealer_node.specs.Members.{place_at}
-use Rattle.dealer_node.specs.Seeing.{member_in, IsSeen, begun_of}
+use Rattle.dealer_node.specs.Members.{Membership, place_at}
+use Rattle.dealer_node.specs.Seeing.{member_in, IsSeen, IsSeenBy, begun_of}
+use Rattle.dealer_node.specs.declared.up.Up.{Up}
 use Rattle.dealer_world.specs.Calling.{ConflictsAreRefusals}
 use Rattle.dealer_world.specs.Events.{call_of}
-use Rattle.dealer_world.specs.Records.{Arrived}
+use Rattle.dealer_world.specs.Records.{Arrived, said}
 use Rattle.dealer_world.specs.RuleRuns.{plan_of}
 use Rattle.dealer_world.specs.Unforged.{IsUnforged}
 use Rattle.dealer_world.specs.Views.{placed_at}
 use Rattle.stations.specs.declared.station.Station.{Station}
 use Rattle.stations.specs.Deeds.{Deed, Did, new_at, Doing, record_of}
-use Rattle.stations.specs.Joining.{IsTrueOrder, AreProcesses, ProcessesShowOneList, ProcessesAreBacked, ProcessesNeverConflict}
+use Rattle.stations.specs.Joining.{IsTrueOrder, AreProcesses, ProcessesShowOneList, ProcessesAreBacked, ProcessesNeverConflict, ProcessesApplyTheChosen}
 use Rattle.stations.specs.Stations.{Look, known_place, HoldsAfter, LeavesFile}
 use Rattle.stations.specs.Looking.{look_of}
 use Rattle.stations.specs.Incarnations.{IncarnationsAreDeeds}
-use Rattle.stations.specs.Together.{HasIncarnations, HasHistory, MayFind, HaveIncarnations, HaveHistories, AllAreBacked, NoNextConflicts, ArePromised, StationsArePromised}
+use Rattle.stations.specs.Together.{HasIncarnations, HasHistory, MayFind, HaveIncarnations, HaveHistories, AllAreBacked, NoNextConflicts, AllApplyTheChosen, ArePromised, StationsArePromised}
 use Rattle.stations.proofs.Dying.{ImagesAreSeen}
 use Rattle.stations.proofs.Joining.{all_merely}
 
@@ -44,6 +46,12 @@ seen_one see (first ∷ list) zero = refl
 seen_one see (first ∷ list) (suc i) = seen_one see list i
 
 module _ {D : Type 0} (g : Ghosts D) where
+  -- a node that is down applied nothing
+  runs_or_knows_nothing : (member : Membership) (up : Option (Up D)) (disk : Option D) (s : Standing) → IsSeenBy g member up disk s → (s.up ≡ true) ⊎ (applied s ≡ [])
+  runs_or_knows_nothing member (Some up) disk s seen = inl seen.running.up
+  runs_or_knows_nothing member None (Some disk) s down = inr (ap applied down.stopped)
+  runs_or_knows_nothing member None None s none = absurd none
+
   -- a node is where its deeds lead; what its next process may find stands for what that holds, and its present one, if it has one, is seen as it
   record IsThere (place : Place) (now : Option (Look (Node D))) (had : HasIncarnations g place now) (deeds : List Deed) : Type 0 where
     s : Standing
@@ -171,22 +179,35 @@ module _ {D : Type 0} (g : Ghosts D) where
           | inr stands ↦ (s.begun, stands, backs.1)
         ])
 
-    are_promised : ConflictsAreRefusals g → ProcessesShowOneList → ProcessesAreBacked → ProcessesNeverConflict → IsTrue g.is_honest
+    all_apply_the_chosen : ProcessesApplyTheChosen → AllApplyTheChosen g stations (length sources) all
+    all_apply_the_chosen law i look at =
+        let less = one_of stations i look at in
+        let there = each i less in
+        let s = there.s in
+        let seen = there.seen look at in
+        elim (runs_or_knows_nothing (member_in look.node) look.node.up look.node.disk s seen.by) as (λ _. ∥ ((s : Standing) × IsSeen g look.node s × AreChosen (length sources) (said (record_of all).sent) (applied s)) ∥₁) [
+          | inl up ↦ ∥∥₁_map (law setting sources histories all are_processes i s (subst (λ (n : ℕ). i < n) count less) there.did up) (λ chosen. (s, seen, chosen))
+          | inr none ↦ ∣ (s, seen, subst (λ commands. AreChosen (length sources) (said (record_of all).sent) commands) (sym none) tt) ∣₁
+        ]
+
+    are_promised : ConflictsAreRefusals g → ProcessesShowOneList → ProcessesAreBacked → ProcessesNeverConflict → ProcessesApplyTheChosen → IsTrue g.is_honest
         → ArePromised g stations setting sources had histories all
-    are_promised refusals shows backs law honest = record {
+    are_promised refusals shows backs law applies honest = record {
       processes = are_processes;
       list = shows setting sources histories all are_processes;
+      applied = all_apply_the_chosen applies;
       backed = all_are_backed backs;
       conflict = none_conflicts refusals law honest;
     }
 
   pub stations_are_promised : IncarnationsAreDeeds g → ImagesAreSeen g → ConflictsAreRefusals g → ProcessesShowOneList → ProcessesAreBacked → ProcessesNeverConflict
+      → ProcessesApplyTheChosen
       → (stations : List (Option (Station D g))) → StationsArePromised g (map (option_map look_of) stations)
-  stations_are_promised incarnations images refusals shows backs law stations setting sources is_plan count honest had =
+  stations_are_promised incarnations images refusals shows backs law applies stations setting sources is_plan count honest had =
       let plan = plan_of setting sources in
       ∥∥₁_map (all_nodes stations incarnations images honest plan had) (λ each. record {
         histories = all_did stations plan had each;
         have = has_history stations plan had each;
         promised = λ all order.
-            are_promised (looks stations) setting sources is_plan count had (all_did stations plan had each) (there_at stations plan had each) all order refusals shows backs law honest;
+            are_promised (looks stations) setting sources is_plan count had (all_did stations plan had each) (there_at stations plan had each) all order refusals shows backs law applies honest;
       })

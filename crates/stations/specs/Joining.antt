@@ -1,15 +1,16 @@
 -- What holds of nodes in processes of their own, by what each of them did alone.
-use Rattle.std.specs.Prelude.{ℕ, ◌<◌, List, [], ◌∷◌, ◌++◌, length, map, Err}
+use Rattle.std.specs.Prelude.{◌≡◌, ℕ, ◌<◌, true, List, [], ◌∷◌, ◌++◌, length, map, Err}
 use Rattle.protocol_model.specs.Sets.{In}
 use Rattle.protocol_model.specs.Stores.{Store}
+use Rattle.protocol_model.specs.Quorums.{AreChosen}
 use Rattle.dealer_kind.specs.Kind.{Setting}
 use Rattle.dealer_kind.specs.Plans.{Plan, IsPlan}
 use Rattle.dealer_kind.specs.declared.source.Source.{Source}
-use Rattle.node_rules.specs.Standings.{Standing, place_of, front_of}
+use Rattle.node_rules.specs.Standings.{Standing, place_of, front_of, applied}
 use Rattle.node_rules.specs.Calls.{Call}
 use Rattle.node_rules.specs.Turns.{Conflict}
 use Rattle.node_rules.specs.Rules.{IsTurn}
-use Rattle.dealer_world.specs.Records.{Frame}
+use Rattle.dealer_world.specs.Records.{Frame, said}
 use Rattle.dealer_world.specs.Views.{placed_at}
 use Rattle.dealer_world.specs.Unforged.{IsUnforged}
 use Rattle.dealer_world.specs.Headline.{Era, dealer_in, OneList}
@@ -63,3 +64,9 @@ ProcessesNeverConflict = (setting : Setting) (sources : List Source) (histories 
     → (i : ℕ) (s : Standing) (called : Call) (store : Store) → i < length sources → DidAt (plan_of setting sources) i (histories i) s → IsSeated setting.game.players called
     → IsUnforged (record_of all).sent ((record_of all).delivered ++ map (placed_at (length (record_of all).sent)) (arrived_at s.up i (front_of s) called))
     → IsTurn (place_of (plan_of setting sources) i) s called (Err (Conflict store)) → ⊥
+
+-- each command that a running node applied is chosen, at its slot, by what all nodes said
+abbrev pub ProcessesApplyTheChosen : Type 0
+ProcessesApplyTheChosen = (setting : Setting) (sources : List Source) (histories : ℕ → List Deed) (all : List Doing) → AreProcesses setting sources histories all
+    → (i : ℕ) (s : Standing) → i < length sources → DidAt (plan_of setting sources) i (histories i) s → s.up ≡ true
+    → ∥ AreChosen (length sources) (said (record_of all).sent) (applied s) ∥₁

@@ -6,17 +6,18 @@ use Rattle.promise_store.specs.Journals.{header}
 use Rattle.promise_store.specs.Laws.{IsBacked}
 use Rattle.protocol_model.specs.Sets.{In}
 use Rattle.protocol_model.specs.Messages.{Message}
+use Rattle.protocol_model.specs.Quorums.{AreChosen}
 use Rattle.dealer_kind.specs.Kind.{Setting}
 use Rattle.dealer_kind.specs.Plans.{Plan, IsPlan}
 use Rattle.dealer_kind.specs.declared.source.Source.{Source}
-use Rattle.node_rules.specs.Standings.{Place, place_of}
+use Rattle.node_rules.specs.Standings.{Place, Standing, place_of, applied}
 use Rattle.dealer_node.specs.Nodes.{Node}
 use Rattle.dealer_node.specs.declared.fault.NodeFault.TheVariants as fault
 use Rattle.dealer_node.specs.Outs.{Told}
-use Rattle.dealer_node.specs.Seeing.{runs, front_in, begun_of, images_of}
+use Rattle.dealer_node.specs.Seeing.{IsSeen, runs, front_in, begun_of, images_of}
 use Rattle.dealer_world.specs.declared.event.Event.{Event}
 use Rattle.dealer_world.specs.Events.{node_of}
-use Rattle.dealer_world.specs.Records.{Frame, said_by}
+use Rattle.dealer_world.specs.Records.{Frame, said, said_by}
 use Rattle.dealer_world.specs.RuleRuns.{plan_of}
 use Rattle.dealer_world.specs.Stepping.{IsFor, IsGiven, arrived_by_event}
 use Rattle.dealer_world.specs.Unforged.{IsUnforged}
@@ -85,12 +86,19 @@ module _ {D : Type 0} (g : Ghosts D) where
       → node_of e ≡ i → IsFor (length sources) setting.game.players e → IsGiven g e look.node new told (Err fault.Conflict)
       → IsUnforged (record_of all).sent ((record_of all).delivered ++ map (placed_at (length (record_of all).sent)) (arrived_by_event (runs look.node) (front_in look.node) e)) → ⊥
 
-  -- what is promised of these histories in this order: they are processes of which the laws speak; one list is behind all that they showed; what they said is
-  -- backed, also of a node that has no process now; and 95 never comes
+  -- what the table of each station shows is chosen: its node is seen as a standing whose applied commands are, by what all nodes said; of a node that is down
+  -- there are none
+  abbrev pub AllApplyTheChosen : List (Option (Look (Node D))) → ℕ → List Doing → Type 0
+  AllApplyTheChosen stations n all = (i : ℕ) (look : Look (Node D)) → get_or stations i None ≡ Some look
+      → ∥ ((s : Standing) × IsSeen g look.node s × AreChosen n (said (record_of all).sent) (applied s)) ∥₁
+
+  -- what is promised of these histories in this order: they are processes of which the laws speak; one list is behind all that they showed; what their tables
+  -- show is chosen; what they said is backed, also of a node that has no process now; and 95 never comes
   pub record ArePromised (stations : List (Option (Look (Node D)))) (setting : Setting) (sources : List Source) (had : HaveIncarnations (plan_of setting sources) stations)
       (histories : ℕ → List Deed) (all : List Doing) : Type 0 where
     pub processes : AreProcesses setting sources histories all
     pub list : ShowOneList setting sources all
+    pub applied : AllApplyTheChosen stations (length sources) all
     pub backed : AllAreBacked (plan_of setting sources) stations had all
     pub conflict : NoNextConflicts stations setting sources all
 

@@ -1,7 +1,7 @@
 //! What holds of nodes in processes of their own: each law is the contract of a function that does nothing.
 
 ghost use Rattle.std.specs.Prelude.{map, option_map};
-ghost use Rattle.stations.specs.Joining.{ProcessesShowOneList, ProcessesAreBacked, ProcessesSendToNodes, ProcessesNeverConflict};
+ghost use Rattle.stations.specs.Joining.{ProcessesShowOneList, ProcessesAreBacked, ProcessesSendToNodes, ProcessesNeverConflict, ProcessesApplyTheChosen};
 ghost use Rattle.stations.specs.Stations.{DeathsAtRestAreDeeds, DeathsInsideAreDeeds};
 ghost use Rattle.stations.specs.Incarnations.{IncarnationsAreDeeds};
 ghost use Rattle.stations.specs.Together.{StationsArePromised, ListsOfStationsArePromised};
@@ -10,7 +10,8 @@ ghost use Rattle.stations.specs.Looking.{look_of};
 use crate::station::Station;
 use dealer_node::laws::{images_are_seen, moments_pass, seen_as_one};
 use dealer_world::laws::{
-    events_are_calls, runs_are_backed, runs_never_conflict, runs_send_to_nodes, runs_show_one_list,
+    events_are_calls, runs_apply_the_chosen, runs_are_backed, runs_never_conflict,
+    runs_send_to_nodes, runs_show_one_list,
 };
 use promise_store::Disk;
 
@@ -45,6 +46,14 @@ pub fn processes_never_conflict()
     runs_never_conflict();
 }
 
+/// And each command that a running node applied is chosen at its slot by what all nodes said. So the tables of all nodes
+/// are tables of one match, at whatever moment they are read.
+pub fn processes_apply_the_chosen()
+    ensures { ProcessesApplyTheChosen }
+{
+    runs_apply_the_chosen();
+}
+
 /// What a process leaves that dies, at whatever moment, is what the next process of its node goes on from: as after a
 /// stop, or as after a call that broke off in its append. A start that breaks off while it opens the store is as a stop,
 /// also where it was about to open a store of version 1.
@@ -69,7 +78,7 @@ pub fn incarnations_are_deeds<D: Disk + Drop>()
 /// The stations of a match, with all earlier processes of their nodes, over honest disks: what each node did has a history,
 /// as its processes ended, and in each order of these histories in which each frame had been sent before it came, all of
 /// this holds of the very same histories. They are processes of which the laws above speak. One list of chosen commands is
-/// behind all their lines and logs. Whatever the next process of a node may find stands for a store that backs what the
+/// behind all their lines and logs. What each station's table shows is chosen. Whatever the next process of a node may find stands for a store that backs what the
 /// node said by its frames, in this process and in those before: each image of a station's disk, and of a node that has no
 /// process now the file that its last one left. And no next call of a station, by which no frame is forged either, is
 /// answered by 95.
@@ -91,4 +100,5 @@ pub fn lists_of_stations_are_promised<D: Disk + Drop>()
     processes_show_one_list();
     processes_are_backed();
     processes_never_conflict();
+    processes_apply_the_chosen();
 }
