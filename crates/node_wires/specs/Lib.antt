@@ -4,3 +4,5 @@ pub mod Logs
 pub mod MemoryPassed
 pub mod Nodes
 pub mod Places
+pub mod Sending
+pub mod Lines

@@ -1,6 +1,8 @@
 //! The connections of lines over TCP, and who makes room for whom.
 
-ghost use Rattle.std.specs.Prelude.{◌≡◌, ◌≤◌, length, slice_set, Some, IfOk, OnErr, IfSome, IsNone};
+ghost use Rattle.std.specs.Prelude.{◌≡◌, ◌≢◌, ◌≤◌, ℕ, length, slice_get, slice_set, Some, IfOk, OnErr, IfSome, IsNone};
+ghost use Rattle.node_wires.specs.Sending.{IsSent, IsSentAt, AllSent};
+ghost use Rattle.node_wires.specs.Lines.{place_of};
 ghost use Rattle.node_wires.specs.declared.wired.Wired.{Wired};
 
 use crate::comer::Comer;
@@ -25,10 +27,37 @@ pub(crate) struct Connections {
     pub(crate) lines: Vec<Option<Wired>>,
     /// Who dials and is dialled.
     pub(crate) nodes: Nodes,
+    alloc: Global,
     /// How many who came by themselves were taken in so far.
     count: u64,
     /// Whether the system ends connections to peers whose machine is lost. Nodes see to that by what they send each other.
     ends_lost_peers: bool,
+    /// Whether what is written to other nodes is gathered until a flush. Not where the system ends connections to lost
+    /// machines: a relay writes one answer at a time, and may end behind it.
+    gathers: bool,
+    /// The place of the line that was written to last, if any was. What was gathered for another was sent, as far as there was
+    /// room, when the next was written to.
+    written: Option<usize>,
+}
+
+/// Sends what was gathered for the connection that a line has, if it has one.
+fn send(connection: &mut Option<Wired>)
+    ensures { IfSome connection.new IsSent }
+{
+    if let Some(wired) = connection {
+        wired.flush();
+    }
+}
+
+/// Writes to the connection that a line has, or gathers what is to be written.
+fn write_to(connection: &mut Option<Wired>, gathers: bool, bytes: &[u8]) -> Result<usize, Halt>
+    ensures { IfOk result (λ count. count ≤ length bytes.now) }
+{
+    match connection {
+        Some(wired) if gathers => wired.gather(bytes),
+        Some(wired) => wired.write(bytes),
+        None => Err(Halt::Ended),
+    }
 }
 
 /// Has the connection that a line has watched as that of the line at this place. False where there is none, or that failed.
@@ -57,8 +86,11 @@ impl Connections {
         Ok(Connections {
             lines,
             nodes,
+            alloc,
             count: 0,
             ends_lost_peers,
+            gathers: !ends_lost_peers,
+            written: None,
         })
     }
 
@@ -96,7 +128,7 @@ impl Connections {
         if self.ends_lost_peers || is_of_bot {
             keep_alive(&stream)?;
         }
-        self.lines[place] = Some(Wired::watch(poll, stream, place, who)?);
+        self.lines[place] = Some(Wired::watch(self.alloc, poll, stream, place, who)?);
         Ok(())
     }
 
@@ -183,13 +215,65 @@ impl Connections {
         }
     }
 
-    /// Writes to a line as many of these bytes as there is room for.
-    pub(crate) fn write(&mut self, line: Line, bytes: &[u8]) -> Result<usize, Halt>
-        ensures { IfOk result (λ count. count ≤ length bytes.now) }
+    /// Sends what was gathered for the line at a place. All other connections stay as they are.
+    fn flush_at(&mut self, place: usize)
+        ensures sent { IsSentAt self.new.lines.items place }
+        ensures length { length self.new.lines.items ≡ length self.old.lines.items }
+        ensures others { (other : ℕ) → other ≢ place → slice_get self.new.lines.items other ≡ slice_get self.old.lines.items other }
+        ensures written { self.new.written ≡ self.old.written }
     {
-        match self.at_mut(line) {
-            Some(wired) => wired.write(bytes),
+        if place < self.lines.len() {
+            send(&mut self.lines[place]);
+        }
+    }
+
+    /// The line at this place is written to from now on: what was gathered for the one before is sent, where that is another.
+    fn turn_to(&mut self, place: Option<usize>)
+        ensures written { self.new.written ≡ place }
+        ensures sent { IfSome self.old.written (λ before. self.old.written ≢ place → IsSentAt self.new.lines.items before) }
+    {
+        if self.written != place {
+            if let Some(before) = self.written {
+                self.flush_at(before);
+            }
+        }
+        self.written = place;
+    }
+
+    /// Writes to a line as many of these bytes as there is room for. What was gathered for the line that was written to before
+    /// is sent first, where that is another: so the one gets its bytes while those for the next are made.
+    pub(crate) fn write(&mut self, line: Line, bytes: &[u8]) -> Result<usize, Halt>
+        ensures within { IfOk result (λ count. count ≤ length bytes.now) }
+        ensures written { self.new.written ≡ place_of line }
+        ensures sent { IfSome self.old.written (λ before. self.old.written ≢ place_of line → IsSentAt self.new.lines.items before) }
+    {
+        let place = line.place();
+        self.turn_to(place);
+        match place {
+            Some(place) => self.write_at(place, self.gathers && line.is_of_node(), bytes),
             None => Err(Halt::Ended),
+        }
+    }
+
+    /// Writes to the line at a place, or gathers what is to be written. All other connections stay as they are.
+    fn write_at(&mut self, place: usize, gathers: bool, bytes: &[u8]) -> Result<usize, Halt>
+        ensures within { IfOk result (λ count. count ≤ length bytes.now) }
+        ensures others { (other : ℕ) → other ≢ place → slice_get self.new.lines.items other ≡ slice_get self.old.lines.items other }
+        ensures written { self.new.written ≡ self.old.written }
+    {
+        if place < self.lines.len() {
+            write_to(&mut self.lines[place], gathers, bytes)
+        } else {
+            Err(Halt::Ended)
+        }
+    }
+
+    /// Sends what was gathered for each line.
+    pub(crate) fn flush(&mut self)
+        ensures { AllSent self.new.lines.items }
+    {
+        for place in 0..self.lines.len() {
+            self.flush_at(place);
         }
     }
 
@@ -202,6 +286,9 @@ impl Connections {
 
     /// Closes the connection of a line.
     pub(crate) fn close(&mut self, line: Line) {
+        if let Some(wired) = self.at_mut(line) {
+            wired.flush();
+        }
         if let Some(place) = line.place() {
             if let Some(connection) = self.lines.get_mut(place) {
                 *connection = None;

@@ -24,6 +24,9 @@ pub const ASKERS: usize = 8;
 /// All lines.
 pub const LINES: usize = NODES + CALLERS + SEATS + GUESTS + ASKERS;
 
+/// At most so many bytes that were written to another node are gathered, to be sent by one call.
+pub const GATHERED: usize = 16_384;
+
 /// Of those who came to one kind of port from one address only so many stand here at once that aren't known yet.
 pub const STRANGERS: usize = 8;
 

@@ -1,4 +1,5 @@
-ghost use Rattle.std.specs.Prelude.{◌<◌};
+ghost use Rattle.std.specs.Prelude.{◌≡◌, ◌<◌};
+ghost use Rattle.node_wires.specs.Lines.{within, place_of};
 
 use crate::limits::{ASKERS, CALLERS, GUESTS, NODES, SEATS};
 
@@ -26,8 +27,18 @@ impl Line {
         }
     }
 
+    /// Whether it is with another node, or with one who may become one.
+    pub(crate) fn is_of_node(self) -> bool {
+        match self {
+            Line::Peer(_) | Line::Caller(_) => true,
+            Line::Seat(_) | Line::Guest(_) | Line::Asker(_) => false,
+        }
+    }
+
     /// The place of a line among all; none of a number that no node, place or seat has.
-    pub(crate) fn place(self) -> Option<usize> {
+    pub(crate) fn place(self) -> Option<usize>
+        ensures { result ≡ place_of self }
+    {
         match self {
             Line::Peer(number) => within(number, NODES, 0),
             Line::Caller(place) => within(place, CALLERS, NODES),
@@ -41,6 +52,7 @@ impl Line {
 /// The place of the one of this number among so many, of which the first stands there.
 fn within(number: u8, count: usize, first: usize) -> Option<usize>
     requires { first < 1000 }
+    ensures { result ≡ within number count first }
 {
     let number = number as usize;
     if number < count {

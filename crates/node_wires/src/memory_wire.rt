@@ -406,6 +406,9 @@ impl Wire for MemoryWire {
         Ok(count)
     }
 
+    /// All that was written is on the way.
+    fn flush(&mut self) {}
+
     /// All who dial come in.
     fn know(&mut self, _line: Line) {}
 

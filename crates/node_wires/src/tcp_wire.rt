@@ -1,7 +1,8 @@
 //! Wires over TCP, and a log in a file.
 
-ghost use Rattle.std.specs.Prelude.{◌≡◌, ◌++◌, ◌∷◌, [], IfOk, OnOk, OnErr, IfSome, IsNone};
-ghost use Rattle.node_wires.specs.Passages.{Began};
+ghost use Rattle.std.specs.Prelude.{◌≡◌, ◌≢◌, ◌≤◌, ◌++◌, ◌∷◌, [], length, take, IfOk, OnOk, OnErr, IfSome, IsNone};
+ghost use Rattle.node_wires.specs.Lines.{place_of};
+ghost use Rattle.node_wires.specs.Passages.{Began, Wrote};
 ghost use Rattle.node_wires.specs.declared.line.Line.TheVariants.{Caller};
 ghost use Rattle.node_wires.specs.declared.comer.Comer.TheVariants.{Caller as Calling};
 
@@ -312,6 +313,7 @@ impl<'a> TcpWire<'a> {
 
 impl Wire for TcpWire<'_> {
     ghost use Rattle.node_wires.specs.Places.{IsTakenIn};
+    ghost use Rattle.node_wires.specs.Sending.{IsSentAt, AllSent};
 
     ghost passed = { λ wire. wire.passed.items };
 
@@ -320,9 +322,10 @@ impl Wire for TcpWire<'_> {
         self.moment()
     }
 
-    /// Where somebody was taken off a queue since the last wait, more may stand there, of whom the system doesn't tell again:
-    /// then it isn't waited.
+    /// Sends first what was gathered. Where somebody was taken off a queue since the last wait, more may stand there, of whom
+    /// the system doesn't tell again: then it isn't waited.
     fn wait(&mut self, most: u64) {
+        self.flush();
         let most = if self.has_more { 0 } else { most };
         self.has_more = false;
         self.left = TAKEN_AT_ONCE;
@@ -417,10 +420,26 @@ impl Wire for TcpWire<'_> {
         Ok(count)
     }
 
-    fn write(&mut self, line: Line, bytes: &[u8]) -> Result<usize, Halt> {
+    /// What is written to another node is gathered, and sent by the first write to another line or the next `flush`, `wait` or
+    /// `close`, by one call of the system; what is written to others is sent at once.
+    fn write(&mut self, line: Line, bytes: &[u8]) -> Result<usize, Halt>
+        ensures within { IfOk result (λ count. count ≤ length bytes.now) }
+        ensures wrote { IfOk result (λ count. self.new.passed.items ≡ self.old.passed.items ++ Wrote line (take count bytes.now) ∷ []) }
+        ensures nothing { OnErr result (self.new.passed.items ≡ self.old.passed.items) }
+        ensures sent { IfSome self.old.connections.written (λ before. self.old.connections.written ≢ place_of line → IsSentAt self.new.connections.lines.items before) }
+    {
         let count = self.connections.write(line, bytes)?;
         self.passed.wrote(line, &bytes[..count]);
         Ok(count)
+    }
+
+    /// Sends what was gathered for each line, as far as there is room: of a line whose connection has room and hasn't failed
+    /// nothing waits then.
+    fn flush(&mut self)
+        ensures passed { self.new.passed.items ≡ self.old.passed.items }
+        ensures sent { AllSent self.new.connections.lines.items }
+    {
+        self.connections.flush();
     }
 
     fn know(&mut self, line: Line) {

@@ -105,6 +105,11 @@ pub trait Wire {
         ensures wrote { IfOk result (λ count. passed self.new ≡ passed self.old ++ Wrote line (take count bytes.now) ∷ []) }
         ensures nothing { OnErr result (passed self.new ≡ passed self.old) };
 
+    /// Sends what was written and not sent yet: a wire may gather what is written to one line, so that it is sent by one call.
+    /// A write to another line and `wait` do so too. What of it there is no room for is sent by a later one.
+    fn flush(&mut self)
+        ensures { passed self.new ≡ passed self.old };
+
     /// It is known who has the connection of a line: of those of whom it isn't, each address has only a few.
     fn know(&mut self, line: Line)
         ensures { passed self.new ≡ passed self.old };

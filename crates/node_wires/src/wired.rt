@@ -1,10 +1,13 @@
-ghost use Rattle.std.specs.Prelude.{◌≡◌, ◌≤◌, length, IfOk};
+ghost use Rattle.std.specs.Prelude.{◌≡◌, ◌≤◌, length, IfOk, true, false};
 
 use crate::coming::Stander;
+use crate::limits::GATHERED;
 use crate::wire::Halt;
+use byte_queue::ByteQueue;
 use mio::event::Source;
 use mio::net::TcpStream;
 use mio::{Interest, Poll, Token};
+use std::alloc::Global;
 use std::io;
 use std::io::{Read, Write};
 
@@ -22,6 +25,12 @@ pub(crate) struct Wired {
     may_write: bool,
     /// The system told that the other end sends no more, or that the connection failed.
     has_closed: bool,
+    /// The system took something for the other end, so the connection is there.
+    has_written: bool,
+    /// It took no more for it, since the connection ended.
+    has_failed: bool,
+    /// What was written and waits for the next `flush`.
+    gathered: ByteQueue,
     /// Who is at the other end.
     who: Stander,
 }
@@ -37,8 +46,11 @@ fn halted(kind: io::ErrorKind) -> Halt {
 }
 
 impl Wired {
+    ghost use Rattle.node_wires.specs.Sending.{IsSent};
+
     /// Has a stream watched under a token, and sends what is written at once. Reading and writing are tried once each.
     pub(crate) fn watch(
+        alloc: Global,
         poll: &Poll,
         mut stream: TcpStream,
         token: usize,
@@ -57,6 +69,9 @@ impl Wired {
             may_read: true,
             may_write: true,
             has_closed: false,
+            has_written: false,
+            has_failed: false,
+            gathered: ByteQueue::new(alloc),
             who,
         })
     }
@@ -126,11 +141,78 @@ impl Wired {
         match self.stream.write(bytes) {
             Ok(count) => {
                 self.may_write = count == bytes.len();
+                self.has_written = true;
                 Ok(count)
             }
             Err(fault) => {
                 self.may_write = fault.kind() == io::ErrorKind::Interrupted;
                 Err(halted(fault.kind()))
+            }
+        }
+    }
+
+    /// Gathers these bytes, to be sent with those behind them by the next `flush`. What is written first over a connection is
+    /// sent at once, since it tells whether the connection is there; so is what there is no memory to gather. What doesn't fit
+    /// is gathered once the system took what was there.
+    pub(crate) fn gather(&mut self, bytes: &[u8]) -> Result<usize, Halt>
+        ensures { IfOk result (λ count. count ≤ length bytes.now) }
+    {
+        if self.has_failed {
+            return Err(Halt::Ended);
+        }
+        if self.gathered.waiting().len().saturating_add(bytes.len()) > GATHERED {
+            self.flush();
+        }
+        if !self.may_write {
+            return Err(Halt::Later);
+        }
+        if self.has_written && self.gathered.push(bytes).is_ok() {
+            return Ok(bytes.len());
+        }
+        self.flush();
+        if self.gathered.waiting().is_empty() {
+            self.write(bytes)
+        } else {
+            Err(Halt::Later)
+        }
+    }
+
+    /// Sends what was gathered, as much of it as there is room for: none of it waits then, or there is no more room, or the
+    /// connection has failed.
+    pub(crate) fn flush(&mut self)
+        ensures sent { IsSent self.new }
+        ensures who { self.new.who ≡ self.old.who }
+    {
+        for _ in 0..u64::MAX {
+            if !self.send() {
+                return;
+            }
+        }
+        self.has_failed = true;
+    }
+
+    /// Has the system take what was gathered, as much of it as there is room for. It says whether a signal broke that off, so
+    /// that it is to be tried again.
+    fn send(&mut self) -> bool
+        ensures sent { result ≡ false → IsSent self.new }
+        ensures who { self.new.who ≡ self.old.who }
+    {
+        let gathered = self.gathered.waiting();
+        if gathered.is_empty() || !self.may_write {
+            return false;
+        }
+        match self.stream.write(gathered) {
+            Ok(count) => {
+                self.may_write = count == gathered.len();
+                if count <= gathered.len() {
+                    self.gathered.skip(count);
+                }
+                false
+            }
+            Err(fault) => {
+                self.may_write = fault.kind() == io::ErrorKind::Interrupted;
+                self.has_failed = halted(fault.kind()) == Halt::Ended;
+                self.may_write
             }
         }
     }

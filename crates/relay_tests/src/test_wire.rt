@@ -82,6 +82,10 @@ impl Wire for TestWire {
         self.inner.write(line, bytes)
     }
 
+    fn flush(&mut self) {
+        self.inner.flush();
+    }
+
     fn know(&mut self, line: Line) {
         self.inner.know(line);
     }
