@@ -12,6 +12,8 @@ import importlib.util
 import sys
 from pathlib import Path
 
+from processes_seats import Seating
+
 TOP = Path(__file__).resolve().parent.parent
 sys.dont_write_bytecode = True
 
@@ -29,6 +31,8 @@ nodes = module_of("nodes")
 BEAT, HANGUP, REPEAT, TURN = 50.0, 300.0, 100.0, 20.0
 CALL, REDIAL, ASK_AGAIN, FORWARD_AGAIN = 0.02, 20.0, 20.0, 20.0
 END_READ = 10.0
+# A process that was up for so long and heard nobody waits for nobody to catch up with.
+ALONE = 1000.0
 # After so long a system that wasn't answered asks again for a connection, as Linux does once in two seconds.
 ASK_FOR_IT = 1000.0
 # What is measured counts for two such parts of time at least.
@@ -108,6 +112,31 @@ class Measures:
         """How long a peer is silent until its connection is closed, where one that is present is silent for so long at most."""
         times = self.limits.silences
         return max(times * silence, self.counted.lately(now), times * self.closings.lately(now))
+
+
+def to_act(table):
+    """The seat to act of a hand that runs."""
+    return (table.hand.turn + table.hand.number) % table.game.players
+
+
+class Node(nodes.Node):
+    """A node that keeps what its list says of the acts of each seat: whether one was its own, and how many of the newest in a
+    row were default actions."""
+
+    def lose_all(self):
+        super().lose_all()
+        self.acts = {seat: (False, 0) for seat in range(len(self.match.names))}
+
+    def take(self, command):
+        table = self.table
+        if command[0] == 1 or not table.runs():
+            super().take(command)
+            return
+        seat, before = to_act(table), table.hand.text
+        super().take(command)
+        if table.hand.text != before:
+            has_acted, defaults = self.acts[seat]
+            self.acts[seat] = (has_acted, defaults + 1) if command[0] == 3 else (True, 0)
 
 
 class Stored(dict):
@@ -190,7 +219,7 @@ class Peer:
 class Process:
     def __init__(self, world, number):
         self.world, self.number = world, number
-        self.node = nodes.Node(world.match, number)
+        self.node = Node(world.match, number)
         self.node.accepted = Stored()
         self.up, self.life, self.ended, self.logs = False, 0, False, []
 
@@ -207,7 +236,8 @@ class Process:
         self.work_since = self.behind_since = None
         self.ticked, self.in_vain, self.calls = None, 0, Longest()
         self.was_led, self.unquorate, self.over_since, self.silence = False, None, None, 1000.0
-        self.quorate_since, self.replays, self.seated, self.ordered = now, False, {}, None
+        self.quorate_since, self.replays, self.seating, self.ordered = now, False, Seating(self), None
+        self.has_caught_up = False
         self.next_beat, self.turn_began = now, now
         self.log = []
         self.logs.append(self.log)
@@ -245,6 +275,7 @@ class Process:
         if self.up and life == self.life:
             self.paused = False
             self.discount(length)
+            self.seating.pass_by(length)
             self.turn(life)
 
     def discount(self, length):
@@ -293,6 +324,7 @@ class Process:
             self.wake = self.world.now
             self.world.at(self.world.now, self.turn, self.life)
         else:
+            self.seating.read_all()
             self.wake = max(min(self.until, self.next_beat, self.next_forward()), self.world.now + 0.05)
             self.world.at(self.wake, self.awake, self.life, self.wake)
 
@@ -513,6 +545,7 @@ class Process:
         now = self.world.now
         self.hear(peer)
         peer.number_got, peer.seats = number, seats
+        self.seating.hear(peer.number)
         if peer.probe is not None and peer.probe[0] <= got:
             peer.trip, peer.probe = now - peer.probe[1], None
             peer.measures.go_there_and_back(peer.trip, now)
@@ -617,6 +650,7 @@ class Process:
             until, work, behind, self.replays, quorate, self.silence = self.world.clock.ask(self.known())
         self.until = until if until is not None else now
         self.hang_up(quorate)
+        self.catch_up(quorate and not self.replays)
         if self.ends():
             self.end()
             return True
@@ -640,26 +674,17 @@ class Process:
             for bot in self.world.bots:
                 bot.drop_at(self.number)
 
+    def catch_up(self, is_with_others):
+        """It has caught up once it has a quorum and doesn't replay, or has been up for a second and heard nobody. That it is behind
+        nobody isn't enough: two of three that were started again hear of each other first."""
+        is_alone = self.world.now - self.began >= ALONE and not any(peer.beat for peer in self.peers.values())
+        self.has_caught_up = self.has_caught_up or is_with_others or is_alone
+
     # A seat that holds the table for too long is played for.
-
-    def sits_at(self, peer, seat):
-        """Whether a present peer has told that the seat sits there."""
-        return peer.wire is not None and peer.beat is not None and self.world.now - peer.heard < self.silence and seat in peer.seats
-
-    def awaited(self, seat):
-        """A line for the program."""
-        now, here = self.world.now, seat in self.seats()
-        others = [peer.number for peer in self.peers.values() if self.sits_at(peer, seat)]
-        present = [p.number for p in self.peers.values() if p.wire is not None and p.beat is not None and now - p.heard < self.silence]
-        rank = sum(number < self.number for number in (others if here else present))
-        since = max(micros(self.moved), micros(self.quorate_since), self.seated.get(seat, 0))
-        ordered = "-" if self.ordered is None or self.ordered < self.moved else micros(self.ordered)
-        words = [micros(now), micros(self.world.patience), int(self.is_over()), int(self.node.table.runs()), int(self.unquorate is None)]
-        return [*words, int(self.replays), int(here), int(bool(others)), rank, since, ordered]
 
     def seat(self, seat):
         """A bot took a seat here."""
-        self.seated[seat] = self.world.clock.seated_after(self.seated.get(seat), micros(self.moved), micros(self.world.now))
+        self.seating.taken.add(seat)
 
     def seats(self):
         """The seats that sit here."""
@@ -667,16 +692,19 @@ class Process:
 
     def order_if_due(self):
         """Asks whether the seat to act is to be played for; whether that is ordered."""
-        table = self.node.table
-        if self.world.patience is None or not table.runs():
+        if self.world.patience is None:
             return False
-        hand = table.hand
-        until = self.world.clock.ask_away(self.awaited((hand.turn + hand.number) % table.game.players))
+        self.seating.look(self.unquorate is None)
+        if not self.node.table.runs():
+            return False
+        seat = to_act(self.node.table)
+        until = self.seating.order(seat)
         if until is not None:
             self.until = min(self.until, until)
             return False
         self.ordered = self.world.now
-        self.world.orders += 1
+        self.world.tell("order", self.number, self.node.front, "for", seat)
+        self.world.order(seat)
         self.call(lambda: self.node.call(self.node.away))
         return True
 

@@ -55,10 +55,6 @@ class Clock:
         """When to order that the seat to act is played for, None for now."""
         return until_of(self.answer(words))
 
-    def seated_after(self, earlier, moved, now):
-        """Since when a seat is waited for where a bot takes it now, in whole microseconds."""
-        return int(self.answer(["-" if earlier is None else earlier, moved, now])[0])
-
     def answer(self, words):
         self.program.stdin.write((" ".join(map(str, words)) + "\n").encode())
         self.program.stdin.flush()
@@ -113,8 +109,15 @@ class Bot:
 
     def greet(self, life):
         if self.is_at(life):
+            self.world.processes[self.at].seat(self.seat)
+            self.begin(life)
+
+    def begin(self, life):
+        """It says its version; where nodes greet so, it is told nothing before the node has caught up."""
+        if self.is_at(life) and self.world.greets and not self.world.processes[self.at].has_caught_up:
+            self.world.after(1.0, self.begin, life)
+        elif self.is_at(life):
             node, seat = self.world.processes[self.at].node, self.seat
-            self.world.processes[self.at].seat(seat)
             self.give(lambda: node.sessions.update({seat: nodes.Session(seat)}))
             self.give(lambda: node.hear(seat, b"VERSION:2.0.0\r"))
 
@@ -167,7 +170,7 @@ class Bot:
 class World:
     """All of a run. `options` are what a batch says of it, `faults` is called as the match goes on."""
 
-    def __init__(self, clock, seed, count=3, hands=20, way=0.05, sync=0.4, think=0.05, at=(0, 0), stays=False, tells_ends=False, by_beats=False, busy=0.0, patience=None, votes=0, players=None, bot_patience=BOT_PATIENCE, stuck=STUCK, unheard=UNHEARD, verbose=False):
+    def __init__(self, clock, seed, count=3, hands=20, way=0.05, sync=0.4, think=0.05, at=(0, 0), stays=False, tells_ends=False, by_beats=False, busy=0.0, patience=None, start=600_000.0, gives_up=True, greets=False, votes=0, players=None, bot_patience=BOT_PATIENCE, stuck=STUCK, unheard=UNHEARD, verbose=False):
         self.clock, self.random, self.count = clock, random.Random(seed), count
         self.limits, self.bot_patience, self.stuck, self.unheard = clock.limits(), bot_patience, stuck, unheard
         self.now, self.queue, self.events = 0.0, [], 0
@@ -178,8 +181,11 @@ class World:
         self.by_beats = by_beats
         # Now and then something waits for a processor, for so many milliseconds at most.
         self.busy = busy
-        # How long a seat may hold the table; without it nobody is played for, and nobody was so far.
+        # How long a seat may hold the table; without it nobody is played for, and nobody was so far. How long seats that
+        # haven't come are waited for, whether a seat at which nobody is may be given up, and whether a node tells a seat nothing
+        # before it has caught up.
         self.patience, self.orders = patience, 0
+        self.start, self.gives_up, self.greets = start, gives_up, greets
         self.match = Match(count, hands)
         self.wires, self.cuts, self.slow, self.gone = [], set(), {}, set()
         self.processes = [Process(self, number) for number in range(count)]
@@ -190,6 +196,7 @@ class World:
             self.fill(votes)
         self.applied, self.last_applied, self.longest, self.ticks = 0, 0.0, 0.0, 0
         self.fault_at, self.gaps, self.faults = None, [], 0
+        self.on_order = lambda seat: None
         self.on_progress, self.on_end, self.writes = (lambda front: None), (lambda: None), (lambda process, receiver, message: True)
         self.held_until = 0.0
         # When commands were applied, where a run keeps that, and how soon one came once all was well.
@@ -253,6 +260,11 @@ class World:
         self.wires = [wire for wire in self.wires if len(wire.closed) < 2]
         for wire in self.wires:
             wire.heal()
+
+    def order(self, seat):
+        """It is ordered that a seat is played for."""
+        self.orders += 1
+        self.on_order(seat)
 
     # How the match goes on.
 

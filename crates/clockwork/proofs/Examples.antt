@@ -5,7 +5,6 @@ use Rattle.clockwork.specs.declared.known.Link.{Link}
 use Rattle.clockwork.specs.declared.known.Link.TheVariants.{Closed, Open}
 use Rattle.clockwork.specs.declared.known.Peer.{Peer}
 use Rattle.clockwork.specs.declared.known.Known.{Known}
-use Rattle.clockwork.specs.declared.action_timeout.Awaited.{Awaited}
 use Rattle.clockwork.specs.declared.answer.Due.TheVariants.{Now, Nothing}
 use Rattle.clockwork.specs.declared.standing.Standing.TheVariants.{Campaigns, Fresh, Led, Lost, Idle, Follows}
 use Rattle.clockwork.specs.Silence.{closing}
@@ -16,7 +15,6 @@ use Rattle.clockwork.specs.Helping.{lag_within, lagging, has_passed, lagging_lef
 use Rattle.clockwork.specs.Standings.{idle_since, gone_since, standing_over, standing_behind, standing_to}
 use Rattle.clockwork.specs.Work.{has_work, is_reopened, one_reopened, steps_by_number, steps_behind, is_untold, idle_wait, row_left, one_campaigns, campaigns_by, yield_left, back_left, work_left}
 use Rattle.clockwork.specs.Dues.{due_in, behind_left, awaited, due_of}
-use Rattle.clockwork.specs.ActionTimeout.{is_ours, away_left, away_due_of, seated_after, HasWaitedFor, IsOrderedLongAgo}
 use Rattle.clockwork.specs.Laws.{replays, LongAgo, HasWaited, IsReason, to_catch_up, for_a_peer, to_work, to_be_heard, IsLinkPast, longest_wait, heard_again}
 
 -- ---- waits
@@ -487,82 +485,3 @@ a_second_and_a_step_at_rest any = refl
 doubled_for_each_tick_in_vain : (any : Known) → longest_wait (record (lost any) { longest_call = 1000000; ticks = Some (record { last = 1000000; in_vain = 1 }) }) ≡ 16030000
 unfolding slowest pace_of times present told silence_of most_of
 doubled_for_each_tick_in_vain any = refl
-
--- ---- patience
-
--- a seat that sits here alone has held the table for ten seconds, of twenty
-abbrev held : Awaited
-held = record { time = 50000000; patience = 20000000; over = false; hand_runs = true; quorate = true; replays = false; sits_here = true; sits_elsewhere = false; rank = 0; since = 40000000; ordered = None }
-
-ten_are_left : away_due_of held ≡ Nothing 51000000
-unfolding away_due_of is_ours away_left due_in
-ten_are_left = refl
-
-it_is_played_for : away_due_of (record held { since = 30000000 }) ≡ Now
-unfolding away_due_of is_ours away_left due_in
-it_is_played_for = refl
-
-not_a_moment_before : away_due_of (record held { since = 30000001 }) ≡ Nothing 50000001
-unfolding away_due_of is_ours away_left due_in
-not_a_moment_before = refl
-
-two_steps_later_behind_two_others : away_due_of (record held { rank = 2; since = 29950000 }) ≡ Nothing 50010000
-unfolding away_due_of is_ours away_left due_in
-two_steps_later_behind_two_others = refl
-
-two_steps_later_where_it_sits_nowhere : away_due_of (record held { sits_here = false; rank = 2; since = 29950000 }) ≡ Nothing 50010000
-unfolding away_due_of is_ours away_left due_in
-two_steps_later_where_it_sits_nowhere = refl
-
-not_again_for_eight_seconds : away_due_of (record held { since = 0; ordered = Some 42500000 }) ≡ Nothing 50500000
-unfolding away_due_of is_ours away_left due_in
-not_again_for_eight_seconds = refl
-
-nor_for_the_patience_where_that_is_shorter : away_due_of (record held { patience = 3000000; since = 0; ordered = Some 47000001 }) ≡ Nothing 50000001
-unfolding away_due_of is_ours away_left due_in
-nor_for_the_patience_where_that_is_shorter = refl
-
-not_where_it_sits_elsewhere : is_ours (record held { sits_here = false; sits_elsewhere = true }) ≡ false
-unfolding is_ours
-not_where_it_sits_elsewhere = refl
-
-who_sits_here_too_is_ours : is_ours (record held { sits_elsewhere = true }) ≡ true
-unfolding is_ours
-who_sits_here_too_is_ours = refl
-
-not_after_the_end : is_ours (record held { over = true }) ≡ false
-unfolding is_ours
-not_after_the_end = refl
-
-not_between_hands : is_ours (record held { hand_runs = false }) ≡ false
-unfolding is_ours
-not_between_hands = refl
-
-not_apart : is_ours (record held { quorate = false }) ≡ false
-unfolding is_ours
-not_apart = refl
-
-not_while_it_replays : is_ours (record held { replays = true }) ≡ false
-unfolding is_ours
-not_while_it_replays = refl
-
-it_has_held_the_table : HasWaitedFor (record held { since = 30000000 })
-it_has_held_the_table = omega arith
-
-it_has_not_for_so_long : HasWaitedFor (record held { since = 30000001 }) → ⊥
-it_has_not_for_so_long waited = omega arith
-
-ordered_eight_seconds_ago : IsOrderedLongAgo (record held { ordered = Some 42000000 })
-ordered_eight_seconds_ago = omega arith
-
-ordered_just_now : IsOrderedLongAgo (record held { ordered = Some 42000001 }) → ⊥
-ordered_just_now ago = omega arith
-
-first_seating : seated_after None 100 150 ≡ 150
-first_seating = refl
-
-seated_since_before_the_front_moved : seated_after (Some 99) 100 150 ≡ 150
-seated_since_before_the_front_moved = refl
-
-seated_again_while_it_stands : seated_after (Some 100) 100 150 ≡ 100
-seated_again_while_it_stands = refl

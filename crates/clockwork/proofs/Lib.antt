@@ -5,3 +5,7 @@ mod Ticking
 mod Later
 mod Ordering
 mod Measures
+mod Fairness
+mod Awakening
+mod SeatExamples
+mod Sightings

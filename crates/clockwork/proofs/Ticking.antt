@@ -148,7 +148,7 @@ behind_of_none known is none =
     let both = max_parts (left known.time (max known.behind_since known.moved) (behind_wait_in known + steps_by_number known (slow_in known))) (again known.time known.ticks (behind_wait_in known) (most_of (slow_in known))) none in
     to_catch_up is (has_waited known known.ticks (behind_wait_in known) (most_of (slow_in known)) both.1)
 
-cases_none : (a b : ℕ) → min a b ≡ 0 → (a ≡ 0) ⊎ (b ≡ 0)
+pub cases_none : (a b : ℕ) → min a b ≡ 0 → (a ≡ 0) ⊎ (b ≡ 0)
 cases_none a b is = elim (cases_eq a 0) [ inl none ↦ inl none | inr some ↦ inr (omega (arith, some)) ]
 
 either_of_none : (known : Known) → behind known ≡ false → has_work known ≡ true

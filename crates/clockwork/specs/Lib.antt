@@ -11,3 +11,7 @@ pub mod Laws
 pub mod ActionTimeout
 pub mod PeerReports
 pub mod Watches
+pub mod SeatWatches
+pub mod Openings
+pub mod Wakings
+pub mod Orders

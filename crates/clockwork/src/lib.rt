@@ -15,6 +15,10 @@
 //! ones: how long a node waits for answers (`pace`), how long a silent peer counts as present, and after which silence its
 //! connection is closed. They are not one, since a lost leader is to be missed long before a campaign is given up.
 //!
+//! Whether the seat to act is played for says `order_due`, by what is kept of each seat (`SeatWatch`: where it sits, since when it
+//! is waited for, whether it is given up), of the match (`Opening`: whether each seat has come) and of the process itself
+//! (`Waking`: whether it slept, and what it has heard since).
+//!
 //! The tests of `clockwork_lines` have the rules row by row, and `tests/processes_sim` lets simulated processes tick by them.
 #![tactic(auto)]
 
@@ -26,23 +30,31 @@ mod known;
 pub mod laws;
 pub mod limits;
 mod longest;
+mod opening;
+mod order;
 mod peer_report;
 mod presence;
 mod ranks;
+mod seat_watch;
 pub mod silence;
 mod standing;
 mod waits;
+mod waking;
 mod watch;
 mod work;
 
-pub use action_timeout::{Awaited, away_due, seated_after};
+pub use action_timeout::Awaited;
 pub use answer::Due;
 pub use clock::due;
 pub use known::{Known, Link, OpenLink, Peer, PeerReport, Ticks};
 pub use longest::{Longest, Measure};
+pub use opening::Opening;
+pub use order::{Expected, order_due};
 pub use peer_report::report_after;
 pub use presence::{is_behind, is_quorate, most_silence, pace};
 pub use ranks::rank;
+pub use seat_watch::{Acts, At, Place, SeatLook, SeatWatch};
 pub use silence::{closing, is_heard};
+pub use waking::{Happening, Waking};
 pub use watch::{Seen, Watch};
 pub use work::{has_work, replays};

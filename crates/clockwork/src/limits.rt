@@ -6,6 +6,9 @@ pub const LATEST: u64 = 0x4000_0000_0000_0000;
 /// How many other nodes a match has at most.
 pub const MOST_PEERS: usize = 6;
 
+/// How many nodes it has at most.
+pub const MOST_NODES: usize = 7;
+
 /// Two ticks of a process are at least so far apart.
 pub const SPACE: u64 = 5_000;
 
@@ -48,6 +51,22 @@ pub const BEHIND: u64 = 2_000_000;
 
 /// The order to play for a seat isn't given again before so long has passed, or the patience where that is shorter.
 pub const ORDERED_AGAIN: u64 = 8_000_000;
+
+/// The longest patience, a day.
+pub const LONGEST_PATIENCE: u64 = 86_400_000_000;
+
+/// Of a seat that is given up so many turns wait a while, and all further ones don't.
+pub const SLOW_TURNS: u32 = 20;
+
+/// How long each of these waits, unless the patience is shorter.
+pub const SLOW_TURN: u64 = 500_000;
+
+/// A process slept where its clock leapt by more than so long, beyond what it asked to wait and its own calls took: as long as
+/// the shortest patience.
+pub const LEAP: u64 = 100_000;
+
+/// Behind a sleep so many further beats of a peer are awaited.
+pub const FURTHER: u8 = 2;
 
 /// A process looks again after at most so long, whatever it waits for.
 pub const LOOK: u64 = 1_000_000;

@@ -68,7 +68,7 @@ fn quiet(ticks: Option<Ticks>) -> Option<Ticks>
 }
 
 /// Since when something is so that is so now or isn't.
-fn since(earlier: Option<u64>, is_so: bool, now: u64) -> Option<u64>
+pub(crate) fn since(earlier: Option<u64>, is_so: bool, now: u64) -> Option<u64>
     ensures { result ≡ since earlier is_so now }
 {
     if !is_so {

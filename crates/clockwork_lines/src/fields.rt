@@ -1,20 +1,17 @@
-ghost use Rattle.std.specs.Prelude.{◌≤◌, ◌≡◌, length};
-ghost use Rattle.clockwork.specs.declared.limits.TheConstants.{LATEST, MOST_PEERS};
+ghost use Rattle.std.specs.Prelude.{◌<◌, ◌≤◌, ◌≡◌, length};
+ghost use Rattle.clockwork.specs.declared.limits.TheConstants.{LATEST, LONGEST_PATIENCE, MOST_PEERS, MOST_NODES};
 
-use clockwork::limits::{LATEST, MOST_PEERS};
-use clockwork::{Awaited, Known, Link, Longest, OpenLink, Peer, PeerReport, Ticks};
+use clockwork::limits::{LATEST, LONGEST_PATIENCE, MOST_NODES, MOST_PEERS};
+use clockwork::{
+    Acts, At, Awaited, Expected, Happening, Known, Link, Longest, OpenLink, Opening, Peer,
+    PeerReport, Place, SeatLook, SeatWatch, Ticks, Waking,
+};
 use std::alloc::{AllocError, Global};
 
 /// How many words of a line tell of the process itself, and of each peer.
 const OWN: usize = 17;
 
 const OF_A_PEER: usize = 13;
-
-/// How many words a line has that tells of the seat to act.
-pub const OF_A_SEAT: usize = 11;
-
-/// How many words a line has that tells when a bot took a seat.
-pub const OF_A_SEATING: usize = 3;
 
 /// How many words a line has that tells of a measure and of those before it.
 pub const OF_A_MEASURE: usize = 6;
@@ -34,7 +31,7 @@ pub fn is_whole(words: usize) -> bool {
 }
 
 /// The number at a place, where there is one.
-pub fn optional(numbers: &[Option<u64>], place: usize) -> Option<u64> {
+fn optional(numbers: &[Option<u64>], place: usize) -> Option<u64> {
     match numbers.get(place) {
         Some(number) => *number,
         None => None,
@@ -42,7 +39,7 @@ pub fn optional(numbers: &[Option<u64>], place: usize) -> Option<u64> {
 }
 
 /// The number at a place; 0 where there is none.
-pub fn number(numbers: &[Option<u64>], place: usize) -> u64 {
+fn number(numbers: &[Option<u64>], place: usize) -> u64 {
     optional(numbers, place).unwrap_or(0)
 }
 
@@ -58,8 +55,136 @@ fn flag(numbers: &[Option<u64>], place: usize) -> bool {
     number(numbers, place) != 0
 }
 
+/// What is kept of a seat, by the words of a line.
+pub fn seat_of(numbers: &[Option<u64>]) -> SeatWatch {
+    let mut seat = SeatWatch::new();
+    for node in 0..MOST_NODES {
+        seat.places[node] = Place {
+            sits: flag(numbers, 2 * node),
+            begun: optional(numbers, 2 * node + 1),
+        };
+    }
+    seat.has_come = flag(numbers, 14);
+    seat.nowhere = optional(numbers, 15);
+    seat.has_sat = flag(numbers, 16);
+    seat.defaults = small(numbers, 17);
+    seat.given_up = small_of(optional(numbers, 18));
+    seat
+}
+
+fn small_of(number: Option<u64>) -> Option<u32> {
+    match number {
+        Some(number) => Some(number.min(0xFFFF_FFFF) as u32),
+        None => None,
+    }
+}
+
+/// How a seat is seen at a node, by the words behind those of what is kept of it.
+pub fn at_of(numbers: &[Option<u64>], node: usize) -> At
+    requires { node < MOST_NODES }
+{
+    match number(numbers, 19 + node) {
+        0 => At::Gone,
+        1 => At::Empty,
+        2 => At::Sits,
+        _ => At::Taken,
+    }
+}
+
+/// What the list says of its acts, and what a look has beside; when the front last moved.
+pub fn look_of(numbers: &[Option<u64>]) -> (Acts, SeatLook, u64) {
+    let acts = Acts {
+        has_acted: flag(numbers, 26),
+        defaults: small(numbers, 27),
+    };
+    let seen = SeatLook {
+        quorate: flag(numbers, 28),
+        gives_up: flag(numbers, 29),
+        patience: number(numbers, 30),
+        now: number(numbers, 32),
+    };
+    (acts, seen, number(numbers, 31))
+}
+
+/// Since when seats are played for behind a look, by the words of a line.
+pub fn opening_of(numbers: &[Option<u64>]) -> Opening {
+    let mut opening = Opening {
+        first: optional(numbers, 0),
+        opened: optional(numbers, 1),
+    };
+    opening.look(
+        flag(numbers, 2),
+        flag(numbers, 3),
+        number(numbers, 4),
+        number(numbers, 5),
+    );
+    opening
+}
+
+/// What a process has heard since it slept, behind what the words of a line say that happened.
+pub fn waking_of(numbers: &[Option<u64>]) -> Waking {
+    let mut waking = Waking::new();
+    waking.has_read = flag(numbers, 0);
+    for node in 0..MOST_NODES {
+        waking.beats[node] = byte(numbers, 1 + node);
+    }
+    waking.stood = number(numbers, 8);
+    waking.slept = number(numbers, 9);
+    match happening_of(numbers) {
+        Happening::Passed { lost } => waking.pass(lost),
+        Happening::Stood { since } => waking.stand(since),
+        Happening::ReadAll => waking.read_all(),
+        Happening::Beat { node } => waking.hear(node),
+    }
+    waking
+}
+
+fn happening_of(numbers: &[Option<u64>]) -> Happening {
+    match number(numbers, 10) {
+        0 => Happening::Passed {
+            lost: number(numbers, 11),
+        },
+        1 => Happening::ReadAll,
+        2 => Happening::Beat {
+            node: byte(numbers, 11),
+        },
+        _ => Happening::Stood {
+            since: number(numbers, 11),
+        },
+    }
+}
+
+/// How many nodes the match of that process has.
+pub fn nodes_of(numbers: &[Option<u64>], place: usize) -> u8
+    ensures { result ≤ MOST_NODES }
+{
+    byte(numbers, place).min(MOST_NODES as u8)
+}
+
+/// What is known of the seat to act and of the process, by the words of a line.
+pub fn expected_of(numbers: &[Option<u64>]) -> Expected
+    ensures time { result.awaited.time ≤ LATEST }
+    ensures patience { result.awaited.patience ≤ LONGEST_PATIENCE }
+    ensures rank { result.awaited.rank ≤ MOST_PEERS }
+    ensures nodes { result.nodes ≤ MOST_NODES }
+{
+    let awaited = awaited_of(numbers);
+    Expected {
+        awaited: Awaited {
+            patience: awaited.patience.min(LONGEST_PATIENCE),
+            ..awaited
+        },
+        is_awake: flag(numbers, 11),
+        is_open: flag(numbers, 12),
+        turns: small_of(optional(numbers, 13)),
+        stood: number(numbers, 14),
+        slept: number(numbers, 15),
+        nodes: nodes_of(numbers, 16),
+    }
+}
+
 /// What is known of the seat to act, by the words of a line.
-pub fn awaited_of(numbers: &[Option<u64>]) -> Awaited
+fn awaited_of(numbers: &[Option<u64>]) -> Awaited
     ensures time { result.time ≤ LATEST }
     ensures patience { result.patience ≤ LATEST }
     ensures rank { result.rank ≤ MOST_PEERS }
