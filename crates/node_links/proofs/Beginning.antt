@@ -1,5 +1,5 @@
 -- What a call begins of what waits, and by what a Hello is taken in one.
-use Rattle.std.proofs.Common.{◌≡◌, inl, inr, ℕ, ◌==◌, ◌||◌, Bool, true, false, if◌then◌else◌, List, length, Option, Some, None, Result, Ok, Err, refl, sym, subst}
+use Rattle.std.proofs.Common.{◌≡◌, inl, inr, ℕ, ◌==◌, Bool, true, false, if◌then◌else◌, List, length, Option, Some, None, Result, Ok, Err, refl, sym, subst}
 use Rattle.peer_codes.specs.declared.hello.Hello.{Hello}
 use Rattle.peer_codes.specs.Connections as channels
 use Rattle.peer_codes.specs.Outgoings as coded
@@ -20,7 +20,7 @@ use Rattle.node_links.specs.Connections.{begun_next}
 use Rattle.node_links.specs.Coding as codeds
 use Rattle.node_links.specs.Coding.{matched, taken, settled_stage}
 use Rattle.node_links.specs.Steps.{opened, settled}
-use Rattle.node_links.specs.Judging.{is_coded, is_second, judged_match, judged_known, both, judged, IsKnown}
+use Rattle.node_links.specs.Judging.{is_coded, judged_match, judged_known, both, judged, IsKnown}
 use Rattle.node_links.specs.Going.{taken_in, taken_at}
 
 -- ---- what waits
@@ -30,8 +30,8 @@ either_begun w true one other is is_other = is
 either_begun w false one other is is_other = is_other
 
 by_phase : (phase : Phase) (c : PlainConnection) (w : Waits) → IsBegun w (plains.begun_by phase c w).1
-by_phase (phases.Open hello) c w = either_begun w (has_next w) (plains.begun_open c w) (c, w) (inr refl) (inl refl)
-by_phase phases.Greeting c w = inl refl
+by_phase (phases.Open hello) c w = either_begun w (has_next hello.version w) (plains.begun_open hello.version c w) (c, w) (inr (hello.version, refl)) (inl refl)
+by_phase (phases.Greeting mine) c w = inl refl
 by_phase (phases.Asked hello) c w = inl refl
 by_phase (phases.Closed fault) c w = inl refl
 
@@ -47,7 +47,7 @@ pub plain_begun : (c : PlainConnection) (old new : Waits) → new ≡ (begun_nex
 plain_begun c old new e = subst (λ (w : Waits). IsBegun old w) (sym e) (next_begun c old)
 
 by_stage : (stage : Stage) (c : CodedConnection) (w : Waits) → IsBegun w (codeds.begun_by stage c w).1
-by_stage (stages.Open hello) c w = either_begun w (has_next w) (codeds.begun_open c w) (c, w) (inr refl) (inl refl)
+by_stage (stages.Open hello) c w = either_begun w (has_next hello.version w) (codeds.begun_open hello.version c w) (c, w) (inr (hello.version, refl)) (inl refl)
 by_stage stages.Greeting c w = inl refl
 by_stage (stages.Asked hello) c w = inl refl
 by_stage (stages.Matched hello) c w = inl refl
@@ -68,12 +68,12 @@ known_of false fault (Err other) two e = absurd cc
 known_of false fault (Ok done) two e = sym e
 
 opened_known : (own : Own) (dialled : Option ℕ) (met : List Met) (hello : Hello) (verdict : Result (Unit {0}) PeerFault) → verdict ≡ judged own dialled met hello → IsKnown own met None (taken_in (opened verdict hello))
-opened_known own dialled met hello (Ok done) e = known_of (is_coded hello.link || is_second hello.version) _ (judged_match own dialled hello) (judged_known own met hello) e
+opened_known own dialled met hello (Ok done) e = known_of (is_coded hello.link) _ (judged_match own dialled hello) (judged_known own met hello) e
 opened_known own dialled met hello (Err fault) e = tt
 
 phase_known : (own : Own) (dialled : Option ℕ) (met : List Met) (phase : Phase) → IsKnown own met (taken_in phase) (taken_in (settled own dialled met phase))
 phase_known own dialled met (phases.Asked hello) = opened_known own dialled met hello (judged own dialled met hello) refl
-phase_known own dialled met phases.Greeting = tt
+phase_known own dialled met (phases.Greeting mine) = tt
 phase_known own dialled met (phases.Open hello) = tt
 phase_known own dialled met (phases.Closed fault) = tt
 

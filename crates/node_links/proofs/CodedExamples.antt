@@ -1,7 +1,7 @@
 -- Connections with codes on values: what is judged when, what comes, what waits, and what a frame that is told goes by.
 use Rattle.std.proofs.Common.{◌≡◌, ℕ, ◌+◌, List, [], ◌∷◌, ◌++◌, length, replicate, true, false, Option, Some, None, Ok, Err, refl, ap, subst}
 use Rattle.paxos_wire.specs.Reading.{ballot_at}
-use Rattle.peer_codes.specs.declared.fault.RecordFault.TheVariants.{BadHello}
+use Rattle.peer_codes.specs.declared.fault.RecordFault.TheVariants.{BadKind}
 use Rattle.peer_codes.specs.declared.connection_fault.ConnectionFault.TheVariants as channel_faults
 use Rattle.peer_codes.specs.declared.event.Event.TheVariants as events
 use Rattle.peer_codes.specs.declared.frame.Frame.{Frame}
@@ -12,6 +12,7 @@ use Rattle.peer_codes.specs.declared.hello.Link.TheVariants as links
 use Rattle.peer_codes.specs.declared.key.Key.{Key}
 use Rattle.peer_codes.specs.declared.kind.Kind.{Kind}
 use Rattle.peer_codes.specs.declared.kind.Kind.TheVariants as kind_of
+use Rattle.peer_codes.specs.declared.records.Record.{Record}
 use Rattle.peer_codes.specs.declared.records.Record.TheVariants as record_of
 use Rattle.peer_codes.specs.declared.role.Role.TheVariants.{Caller, Called}
 use Rattle.peer_codes.specs.declared.way.Way.{Way}
@@ -23,15 +24,18 @@ use Rattle.byteorder.specs.Endian.{big_bytes}
 use Rattle.peer_codes.specs.Kinds.{kind_byte}
 use Rattle.peer_codes.specs.Spelling.{enveloped, hello_text, record_text}
 use Rattle.node_links.specs.declared.own.Own.{Own}
+use Rattle.node_links.specs.declared.own.Known.TheVariants.{Nothing, One}
 use Rattle.node_links.specs.declared.own.Met.{Met}
+use Rattle.node_links.specs.declared.further.Further.TheVariants as furthers
 use Rattle.node_links.specs.declared.peer_fault.Mismatch.TheVariants.{Digest}
 use Rattle.node_links.specs.declared.peer_fault.Whose.TheVariants as whose
 use Rattle.node_links.specs.declared.peer_fault.PeerFault.TheVariants as faults
+use Rattle.node_links.specs.declared.heard.Heard.{Heard}
 use Rattle.node_links.specs.declared.heard.Heard.TheVariants as heards
 use Rattle.node_links.specs.declared.phase.Phase.TheVariants as phases
 use Rattle.node_links.specs.declared.stage.Stage.TheVariants as stages
 use Rattle.node_links.specs.Coding.{coded_step, settled_stage, has_said_hello, given, closed}
-use Rattle.node_links.specs.Talks.{Piece, way_behind, bytes_of, role_of, hellos_of, IsOfKind, IsHelloIn, IsWritten, SaysCoded}
+use Rattle.node_links.specs.Talks.{Piece, way_behind, bytes_of, role_of, hellos_of, IsOfKind, IsHelloIn, IsWritten, SaysPlain, SaysCoded, HeardBy}
 use Rattle.node_links.specs.Going.{PlainAt}
 
 -- ---- node 0 of three, and node 1 that dialled it
@@ -56,18 +60,18 @@ abbrev mine : Hello
 mine = hello_by 0 1 9 4
 
 abbrev unmet : Met
-unmet = record { kept = None; is_here = false }
+unmet = record { lives = Nothing; is_here = false }
 
 -- node 1 is here by another connection, and its store had another life
 abbrev here : List Met
-here = unmet ∷ record { kept = Some (life 4); is_here = true } ∷ []
+here = unmet ∷ record { lives = One (life 4); is_here = true } ∷ []
 
 abbrev gone_back : List Met
-gone_back = unmet ∷ record { kept = Some (life 4); is_here = false } ∷ []
+gone_back = unmet ∷ record { lives = One (life 4); is_here = false } ∷ []
 
 -- ---- what is judged when
 
-pub other_match_at_once : settled_stage own None [] (stages.Asked (hello_by 1 0 8 3)) ≡ stages.Closed (faults.OtherMatch Digest)
+pub other_match_at_once : settled_stage own None [] (stages.Asked (hello_by 1 0 8 3)) ≡ stages.Closed (faults.OtherMatch (Digest (record { here = 151587081; there = 134744072 })))
 other_match_at_once = refl
 
 -- that it is here says one who may have no key
@@ -104,9 +108,12 @@ frame_before_it_is_open = refl
 pub frame_told : coded_step (stages.Open theirs) (Ok (events.Frame frame)) ≡ record { stage = stages.Open theirs; heard = Ok (heards.Frame frame) }
 frame_told = refl
 
--- a Hello of another version than the first isn't taken
-pub second_hello : coded_step stages.Greeting (Ok (events.Greeted (record theirs { version = Second }))) ≡ closed (faults.Record BadHello)
-second_hello = refl
+-- a record of a further kind: behind a Hello of the second version, and of the first
+pub more_told : coded_step (stages.Open (record theirs { version = Second })) (Ok (events.More (record { kind = 9; bytes = record { items = [] } }))) ≡ record { stage = stages.Open (record theirs { version = Second }); heard = Ok (heards.Further furthers.Unknown) }
+more_told = refl
+
+pub more_behind_the_first : coded_step (stages.Open theirs) (Ok (events.More (record { kind = 9; bytes = record { items = [] } }))) ≡ closed (faults.Record BadKind)
+more_behind_the_first = refl
 
 -- ---- what waits
 
@@ -175,6 +182,13 @@ never_enveloped kind content e = never_empty (big_bytes 4 (length content + 1)) 
 pub nothing_written : IsWritten mine [] → ⊥
 nothing_written (more, e) = never_enveloped kind_of.Hello (hello_text mine) (none_in (record_text (record_of.Hello mine)) more e)
 
+abbrev IsOfPeer : Heard → Type 0
+IsOfPeer (heards.Frame found) = Unit {0}
+IsOfPeer (heards.Beat beat) = Unit {0}
+IsOfPeer (heards.Further further) = Unit {0}
+IsOfPeer (heards.Hello hello) = ⊥
+IsOfPeer (heards.Proved hello) = ⊥
+
 abbrev left : Option Hello → List ℕ → Outgoing
 left waits begun = record { hello = waits; proof = None; beat = None; more = None; frame = None; begun = record { items = begun }; written = 0 }
 
@@ -188,19 +202,37 @@ hello_unfinished = refl
 pub hello_said : has_said_hello (left None []) ≡ true
 hello_said = refl
 
--- where nothing came no frame is told
-pub nothing_told : (wrote : List ℕ) → SaysCoded key own 1 frame (record { dialled = None; came = []; wrote = wrote }) → ⊥
+-- where nothing came nothing was said
+nothing_said : (kind : Kind) (body wrote : List ℕ) → SaysCoded key own 1 kind body (record { dialled = None; came = []; wrote = wrote }) → ⊥
 unfolding kind_in
-nothing_told wrote says =
+nothing_said kind body wrote says =
     let none : says.hello ≡ [] = none_in says.hello _ says.text in
     let e : kind_in [] ≡ Ok kind_of.Hello = subst (λ (t : List ℕ). kind_in t ≡ Ok kind_of.Hello) none says.hello_is.0 in absurd cc
 
+-- no frame, no beat and no record of a further kind
+pub nothing_told : (heard : Heard) (wrote : List ℕ) → IsOfPeer heard → HeardBy (Some key) own 1 heard (record { dialled = None; came = []; wrote = wrote }) → ⊥
+nothing_told (heards.Frame found) wrote is says = nothing_said kind_of.Frame found.bytes.items wrote says
+nothing_told (heards.Beat beat) wrote is (body, reading, says) = nothing_said kind_of.Beat body wrote says
+nothing_told (heards.Further further) wrote is (more, says, reading) = nothing_said (kind_of.More more.kind) more.bytes.items wrote says
+nothing_told (heards.Hello hello) wrote is says = is
+nothing_told (heards.Proved hello) wrote is says = is
+
 -- ---- without codes
 
+plain_unsaid : (last : Record) (wrote : List ℕ) → SaysPlain own 1 last None [] → ⊥
+plain_unsaid last wrote says = never_enveloped kind_of.Hello (hello_text says.hello) (none_in (record_text (record_of.Hello says.hello)) _ says.text)
+
+pub nothing_heard : (heard : Heard) (wrote : List ℕ) → IsOfPeer heard → HeardBy None own 1 heard (record { dialled = None; came = []; wrote = wrote }) → ⊥
+nothing_heard (heards.Frame found) wrote is says = plain_unsaid (record_of.Frame found) wrote says
+nothing_heard (heards.Beat beat) wrote is says = plain_unsaid (record_of.Beat beat) wrote says
+nothing_heard (heards.Further further) wrote is (more, says, reading) = plain_unsaid (record_of.More more) wrote says
+nothing_heard (heards.Hello hello) wrote is says = is
+nothing_heard (heards.Proved hello) wrote is says = is
+
 -- before anything was read all that came waits
-pub nothing_read : PlainAt own None (1 ∷ 2 ∷ []) (1 ∷ 2 ∷ []) phases.Greeting
+pub nothing_read : PlainAt own None (1 ∷ 2 ∷ []) (1 ∷ 2 ∷ []) (phases.Greeting None)
 nothing_read = refl
 
 -- what came can't have gone
-pub something_gone : PlainAt own None (1 ∷ []) [] phases.Greeting → ⊥
+pub something_gone : PlainAt own None (1 ∷ []) [] (phases.Greeting None) → ⊥
 something_gone e = absurd cc

@@ -5,10 +5,11 @@ use Rattle.std.proofs.lemmas.Bool.{eqb-true, and_parts}
 use Rattle.std.proofs.lemmas.List.{take-append-drop}
 use Rattle.peer_codes.specs.declared.connection_fault.ConnectionFault.{ConnectionFault}
 use Rattle.peer_codes.specs.declared.connection_fault.ConnectionFault.TheVariants as channel_faults
+use Rattle.peer_codes.specs.declared.fault.RecordFault.{RecordFault}
 use Rattle.peer_codes.specs.declared.fault.RecordFault.TheVariants.{BadHello}
 use Rattle.peer_codes.specs.declared.event.Event.{Event}
 use Rattle.peer_codes.specs.declared.event.Event.TheVariants as events
-use Rattle.peer_codes.specs.declared.frame.Frame.{Frame}
+use Rattle.peer_codes.specs.declared.more.More.{More}
 use Rattle.peer_codes.specs.declared.version.Version.{Version}
 use Rattle.peer_codes.specs.declared.version.Version.TheVariants.{First, Second}
 use Rattle.peer_codes.specs.declared.hello.Hello.{Hello}
@@ -27,12 +28,13 @@ use Rattle.peer_codes.specs.Beginning.{Begins as ChannelBegins}
 use Rattle.peer_codes.specs.Codes.{after, covered}
 use Rattle.peer_codes.specs.Connections.{Reads, Next, begun_next}
 use Rattle.peer_codes.specs.Faults.{needed, front}
-use Rattle.peer_codes.specs.Histories.{across}
+use Rattle.peer_codes.specs.Histories.{across, IsCoded}
 use Rattle.peer_codes.specs.Outgoings.{unwritten}
 use Rattle.peer_codes.specs.Reading.{hello_of}
 use Rattle.peer_codes.specs.Versions.{same_version}
 use Rattle.peer_codes.specs.Steps.{only_coded, of_version, greeted, front_step, step_by, stepped, proof_of, ways_of}
 use Rattle.peer_codes.specs.Telling.{ToldBy, IsGreeting, IsOpened, IsHeard}
+use Rattle.node_links.specs.declared.further.Further.{Further}
 use Rattle.node_links.specs.declared.heard.Heard.{Heard}
 use Rattle.node_links.specs.declared.heard.Heard.TheVariants as heards
 use Rattle.node_links.specs.declared.peer_fault.PeerFault.{PeerFault}
@@ -41,9 +43,10 @@ use Rattle.node_links.specs.declared.stage.Stage.{Stage}
 use Rattle.node_links.specs.declared.stage.Stage.TheVariants as stages
 use Rattle.node_links.specs.declared.coded_connection.CodedConnection.{CodedConnection}
 use Rattle.node_links.specs.declared.connection.Connection.TheVariants.{Coded}
-use Rattle.node_links.specs.Coding.{greeted as greeted_in, coded_step, taken, peer_at, Hears, HearsOrWaits, HearsProof, NextCoded, has_said_hello, given}
-use Rattle.node_links.specs.Talks.{Talk, way_behind, bytes_of, role_of, hellos_of, their_way, IsHelloIn, IsWritten, SaysCoded, SaysBy, Says}
-use Rattle.node_links.specs.Going.{Begins, HasHello, Awaits, Proved, CodedAt, CodedOn, CodedGoes, GoesOn, Goes, peer_of, TellsFrame}
+use Rattle.node_links.specs.Coding.{on_further, coded_step, taken, peer_at, Hears, HearsOrWaits, HearsProof, NextCoded, has_said_hello, given}
+use Rattle.node_links.specs.Telling.{read_behind}
+use Rattle.node_links.specs.Talks.{Talk, way_behind, bytes_of, role_of, hellos_of, their_way, IsHelloIn, IsWritten, TakesCoded, SaysCoded, SaysFurther, HeardBy, SaysHeard}
+use Rattle.node_links.specs.Going.{Begins, HasHello, Awaits, Proved, CodedAt, CodedOn, CodedGoes, GoesOn, Goes, peer_of, Tells}
 
 abbrev Told : Type 0
 Told = Result Heard PeerFault
@@ -124,11 +127,11 @@ step_behind key mine bytes hello is same =
     ap (λ (k : Result Kind _). (step_by key (phases.Greeting mine) k (drop 5 bytes)).phase) is.0 ∙ ap (λ (h : Option Hello). (greeted key mine (of_version mine h)).phase) is.1 ∙ ap (λ (h : Option Hello). (greeted key mine h).phase) (of_same mine hello same)
 
 -- the phase behind the other's Hello
-greeted_awaits : (key : Key) (dialled : Option ℕ) (mine : Option Hello) (theirs : Hello) → HasHello dialled mine → Awaits key dialled mine theirs (greeted key.bytes mine (Some theirs)).phase
-greeted_awaits key None None theirs has = (refl, refl)
-greeted_awaits key None (Some mine) theirs has = absurd cc
-greeted_awaits key (Some number) None theirs has = absurd has
-greeted_awaits key (Some number) (Some mine) theirs has = refl
+greeted_awaits : (key : Key) (dialled : Option ℕ) (mine : Option Hello) (theirs : Hello) → OfVersion mine theirs → HasHello dialled mine → Awaits key dialled mine theirs (greeted key.bytes mine (Some theirs)).phase
+greeted_awaits key None None theirs same has = (refl, refl)
+greeted_awaits key None (Some mine) theirs same has = absurd cc
+greeted_awaits key (Some number) None theirs same has = absurd has
+greeted_awaits key (Some number) (Some mine) theirs same has = (same, refl)
 
 mine_is : (a b : Option Hello) → phases.Greeting a ≡ phases.Greeting b → a ≡ b
 mine_is a b e = cc
@@ -137,17 +140,18 @@ own_proof_none : (key : List ℕ) (given mine : Option Hello) (theirs : Hello) (
 own_proof_none key None mine theirs earlier e none = refl
 own_proof_none key (Some given) mine theirs earlier e none = absurd cc
 
-greets : (own : Own) (talk : Talk) (old new : Channel) (theirs : Hello) → theirs.version ≡ First → Reads old new (Ok (events.Greeted theirs)) → IsGreeting theirs old new → CodedOn own talk old stages.Greeting → CodedOn own talk new (stages.Asked theirs)
-greets own talk old new theirs first reads is goes =
+greets : (own : Own) (talk : Talk) (old new : Channel) (theirs : Hello) → Reads old new (Ok (events.Greeted theirs)) → IsGreeting theirs old new → CodedOn own talk old stages.Greeting → CodedOn own talk new (stages.Asked theirs)
+greets own talk old new theirs reads is goes =
     let bytes : List ℕ = front old.came.waiting in
     let hello_is : IsHelloIn theirs bytes = (is.came.kind_is, ap (λ (t : List ℕ). only_coded (hello_of t)) is.came.content_is ∙ is.hello_is) in
     let same : is.own ≡ goes.mine = mine_is is.own goes.mine (sym is.greeting ∙ goes.at.1) in
+    let version : OfVersion goes.mine theirs = subst (λ (o : Option Hello). OfVersion o theirs) same is.version in
     let phase_is : new.phase ≡ (greeted old.key.bytes goes.mine (Some theirs)).phase =
-    ap (λ (c : Channel). c.phase) reads.others ∙ (ap (λ (p : Phase). (front_step old.key.bytes p bytes).phase) goes.at.1 ∙ step_behind old.key.bytes goes.mine bytes theirs hello_is (subst (λ (o : Option Hello). OfVersion o theirs) same is.version)) in
+    ap (λ (c : Channel). c.phase) reads.others ∙ (ap (λ (p : Phase). (front_step old.key.bytes p bytes).phase) goes.at.1 ∙ step_behind old.key.bytes goes.mine bytes theirs hello_is version) in
     on own talk new (stages.Asked theirs) old.key new.came.waiting (greeted old.key.bytes goes.mine (Some theirs)).phase goes.mine goes.key (key_kept old new _ reads) refl phase_is
     (begins_alike goes.mine talk.wrote old.out new.out (ap (λ (o : Outgoing). unwritten o) is.out) (ap (λ (o : Outgoing). o.hello) is.out)
     (λ none. ap (λ (o : Outgoing). o.proof) is.out ∙ own_proof_none old.key.bytes is.own goes.mine theirs old.out.proof same none) goes.begins)
-    (record { hello = bytes; is = hello_is; first = first; text = goes.at.0 ∙ front_taken old new _ reads }, greeted_awaits old.key talk.dialled goes.mine theirs goes.at.2)
+    (record { hello = bytes; is = hello_is; text = goes.at.0 ∙ front_taken old new _ reads }, greeted_awaits old.key talk.dialled goes.mine theirs version goes.at.2)
 
 theirs_is : (a b : Proof) (v w : Ways) → phases.Proving a v ≡ phases.Proving b w → a ≡ b
 theirs_is a b v w e = cc
@@ -200,13 +204,14 @@ opens : (own : Own) (talk : Talk) (old new : Channel) (theirs : Hello) (mine : O
 opens own talk old new theirs None reads is said key begins (matches, greeted, awaits) = let e : phases.Proving is.theirs is.ways ≡ phases.Asked theirs = sym is.awaited ∙ awaits.1 in absurd cc
 opens own talk old new theirs (Some mine) reads is said key begins (matches, greeted, awaits) =
     let role : Role = role_of talk.dialled in
-    let both = sym is.awaited ∙ awaits in
+    let both = sym is.awaited ∙ awaits.1 in
     let proof : is.theirs ≡ proof_of old.key.bytes (across role) (hellos_of role mine theirs) = theirs_is _ _ _ _ both in
     let ways : is.ways ≡ ways_of old.key.bytes role (across role) (hellos_of role mine theirs) = ways_is _ _ _ _ both in
     on own talk new (stages.Proved theirs) old.key new.came.waiting new.phase (Some mine) key (key_kept old new _ reads) refl refl (begins_on own mine talk.wrote old new events.Opened reads begins) (
       matches,
       record {
         first = is_written mine talk.wrote old.out said begins;
+        version = awaits.0;
         ways = is.ways;
         open_is = is.opens;
         hello = greeted.hello;
@@ -231,6 +236,7 @@ pieces key role mine theirs wrote came old new kind body taken is at =
     let here : is.ways.reading ≡ way_behind (their_way key role mine theirs) at.said = ap (λ (w : Ways). w.reading) same ∙ at.reading in
     record {
       first = at.first;
+      version = at.version;
       ways = record { reading = after is.ways.reading (length body); writing = is.ways.writing };
       open_is = is.goes_on;
       hello = at.hello;
@@ -251,13 +257,12 @@ hears own talk old new theirs event kind body (Some mine) reads is key begins at
     on own talk new (stages.Open theirs) old.key new.came.waiting new.phase (Some mine) key (key_kept old new _ reads) refl refl (begins_on own mine talk.wrote old new event reads begins)
     (at.0, pieces old.key (role_of talk.dialled) mine theirs talk.wrote talk.came old new kind body (front_taken old new _ reads) is at.1)
 
-greets_in : (v : Version) (own : Own) (talk : Talk) (old new : Channel) (theirs : Hello) → theirs.version ≡ v → Reads old new (Ok (events.Greeted theirs)) → IsGreeting theirs old new → CodedOn own talk old stages.Greeting
-    → CodedGoes own talk new (greeted_in v theirs).stage
-greets_in First own talk old new theirs version reads is goes = greets own talk old new theirs version reads is goes
-greets_in Second own talk old new theirs version reads is goes = tt
+further_goes : (own : Own) (talk : Talk) (new : Channel) (theirs : Hello) (read : Result Further RecordFault) → CodedOn own talk new (stages.Open theirs) → CodedGoes own talk new (on_further theirs read).stage
+further_goes own talk new theirs (Ok further) goes = goes
+further_goes own talk new theirs (Err fault) goes = tt
 
 event_goes : (own : Own) (talk : Talk) (old new : Channel) (stage : Stage) (event : Event) → Reads old new (Ok event) → ToldBy event old new → MayRead stage old.out → CodedGoes own talk old stage → CodedGoes own talk new (coded_step stage (Ok event)).stage
-event_goes own talk old new stages.Greeting (events.Greeted theirs) reads is may goes = greets_in theirs.version own talk old new theirs refl reads is goes
+event_goes own talk old new stages.Greeting (events.Greeted theirs) reads is may goes = greets own talk old new theirs reads is goes
 event_goes own talk old new stages.Greeting events.Opened reads is may goes = tt
 event_goes own talk old new stages.Greeting (events.Frame frame) reads is may goes = tt
 event_goes own talk old new stages.Greeting (events.Beat beat) reads is may goes = tt
@@ -271,7 +276,8 @@ event_goes own talk old new (stages.Matched theirs) (events.More more) reads is 
 event_goes own talk old new (stages.Proved theirs) event reads is may goes = tt
 event_goes own talk old new (stages.Open theirs) (events.Greeted other) reads is may goes = tt
 event_goes own talk old new (stages.Open theirs) events.Opened reads is may goes = tt
-event_goes own talk old new (stages.Open theirs) (events.More more) reads is may goes = tt
+event_goes own talk old new (stages.Open theirs) (events.More more) reads is may goes =
+    further_goes own talk new theirs (read_behind theirs more) (hears own talk old new theirs (events.More more) (kind_of.More more.kind) more.bytes.items goes.mine reads is.heard goes.key goes.begins goes.at)
 event_goes own talk old new (stages.Open theirs) (events.Frame frame) reads is may goes = hears own talk old new theirs (events.Frame frame) kind_of.Frame frame.bytes.items goes.mine reads is goes.key goes.begins goes.at
 event_goes own talk old new (stages.Open theirs) (events.Beat beat) reads (body, reading, is) may goes = hears own talk old new theirs (events.Beat beat) kind_of.Beat body goes.mine reads is goes.key goes.begins goes.at
 event_goes own talk old new (stages.Closed fault) event reads is may goes = tt
@@ -322,19 +328,19 @@ next_goes stands waits own talk (stages.Open hello) old new result same next goe
 pub coded_nexts : (stands : Stands) (waits : WaitsEach) (old new : CodedConnection) (result : Option Told) → NextCoded old.stage old result new → GoesOn (Coded old) (Coded new)
 coded_nexts stands waits old new result next own talk goes = ∥∥₁_map goes (λ g. next_goes stands waits own talk old.stage old new result refl next g)
 
--- ---- a frame that is told
+-- ---- what is told
 
-frame_came : (own : Own) (talk : Talk) (old new : Channel) (theirs : Hello) (frame : Frame) (from : ℕ) (mine : Option Hello) → Reads old new (Ok (events.Frame frame)) → IsHeard kind_of.Frame frame.bytes.items old new → theirs.ends.from ≡ from
-    → Begins mine talk.wrote old.out → CodedAt own talk old.key old.came.waiting old.phase mine (stages.Open theirs) → SaysCoded old.key own from frame talk
-frame_came own talk old new theirs frame from None reads is from_is begins at = absurd at.1
-frame_came own talk old new theirs frame from (Some mine) reads is from_is begins (takes, at) =
+abbrev came_coded : (own : Own) (talk : Talk) (old new : Channel) (theirs mine : Hello) (kind : Kind) (body : List ℕ) (from : ℕ) → old.came.waiting ≡ front old.came.waiting ++ new.came.waiting → IsHeard kind body old new → theirs.ends.from ≡ from
+    → IsCoded mine → TakesCoded own talk.dialled theirs → Proved old.key (role_of talk.dialled) mine theirs talk.wrote talk.came old.came.waiting old.phase → SaysCoded old.key own from kind body talk
+came_coded own talk old new theirs mine kind body from taken is from_is coded takes at =
     let same : is.ways ≡ at.ways = open_ways is.ways at.ways (sym is.open_was ∙ at.open_is) in
     let here : is.ways.reading ≡ way_behind (their_way old.key (role_of talk.dialled) mine theirs) at.said = ap (λ (w : Ways). w.reading) same ∙ at.reading in
     record {
       mine = mine;
-      nonce = begins.0;
+      nonce = coded;
       first = at.first;
       theirs = theirs;
+      version = at.version;
       from_is = from_is;
       takes = takes;
       hello = at.hello;
@@ -344,85 +350,98 @@ frame_came own talk old new theirs frame from (Some mine) reads is from_is begin
       said = at.said;
       are = at.are;
       last = front old.came.waiting;
-      frame_is = (is.came.kind_is, is.came.content_is ∙ ap (λ (w : Way). covered w kind_of.Frame frame.bytes.items) here);
+      last_is = (is.came.kind_is, is.came.content_is ∙ ap (λ (w : Way). covered w kind body) here);
       rest = new.came.waiting;
-      text = at.text ∙ ap (λ (t : List ℕ). at.hello ++ (at.proof ++ (bytes_of at.said ++ t))) (front_taken old new _ reads);
+      text = at.text ∙ ap (λ (t : List ℕ). at.hello ++ (at.proof ++ (bytes_of at.said ++ t))) taken;
     }
 
-says_by : (own : Own) (key : Key) (from : ℕ) (frame : Frame) (talk : Talk) → own.key ≡ Some key → SaysCoded key own from frame talk → Says own from frame talk
-says_by own key from frame talk e says = subst (λ (k : Option Key). SaysBy k own from frame talk) (sym e) says
+record_came : (own : Own) (talk : Talk) (old new : Channel) (theirs : Hello) (event : Event) (kind : Kind) (body : List ℕ) (from : ℕ) (mine : Option Hello) → Reads old new (Ok event) → IsHeard kind body old new → theirs.ends.from ≡ from
+    → Begins mine talk.wrote old.out → CodedAt own talk old.key old.came.waiting old.phase mine (stages.Open theirs) → SaysCoded old.key own from kind body talk
+record_came own talk old new theirs event kind body from None reads is from_is begins at = absurd at.1
+record_came own talk old new theirs event kind body from (Some mine) reads is from_is begins (takes, at) = came_coded own talk old new theirs mine kind body from (front_taken old new _ reads) is from_is begins.0 takes at
 
-frame_of : (a b : Frame) → ◌≡◌ {A = Told} (Ok (heards.Frame a)) (Ok (heards.Frame b)) → a ≡ b
-frame_of a b e = cc
+further_came : (own : Own) (talk : Talk) (old new : Channel) (theirs : Hello) (more : More) (further : Further) (from : ℕ) (mine : Option Hello) → Reads old new (Ok (events.More more)) → IsHeard (kind_of.More more.kind) more.bytes.items old new
+    → read_behind theirs more ≡ Ok further → theirs.ends.from ≡ from → Begins mine talk.wrote old.out → CodedAt own talk old.key old.came.waiting old.phase mine (stages.Open theirs) → SaysFurther (Some old.key) own from further talk
+further_came own talk old new theirs more further from None reads is read from_is begins at = absurd at.1
+further_came own talk old new theirs more further from (Some mine) reads is read from_is begins (takes, at) =
+    (more, came_coded own talk old new theirs mine (kind_of.More more.kind) more.bytes.items from (front_taken old new _ reads) is from_is begins.0 takes at, read)
+
+says_by : (own : Own) (key : Key) (from : ℕ) (heard found : Heard) (talk : Talk) → own.key ≡ Some key → ◌≡◌ {A = Told} (Ok heard) (Ok found) → HeardBy (Some key) own from found talk → SaysHeard own from heard talk
+says_by own key from heard found talk e same says =
+    let is : found ≡ heard = cc in
+    subst (λ (k : Option Key). HeardBy k own from heard talk) (sym e) (subst (λ (h : Heard). HeardBy (Some key) own from h talk) is says)
 
 from_of : (a b : ℕ) → Some a ≡ Some b → a ≡ b
 from_of a b e = cc
 
-greeting_no_frame : (v : Version) (hello : Hello) (frame : Frame) → Ok (heards.Frame frame) ≡ (greeted_in v hello).heard → ⊥
-greeting_no_frame First hello frame e = absurd cc
-greeting_no_frame Second hello frame e = absurd cc
+more_says : (own : Own) (talk : Talk) (old new : Channel) (theirs : Hello) (more : More) (read : Result Further RecordFault) (heard : Heard) (from : ℕ) → Reads old new (Ok (events.More more)) → IsHeard (kind_of.More more.kind) more.bytes.items old new
+    → read_behind theirs more ≡ read → Ok heard ≡ (on_further theirs read).heard → peer_at (on_further theirs read).stage ≡ Some from → CodedOn own talk old (stages.Open theirs) → SaysHeard own from heard talk
+more_says own talk old new theirs more (Err fault) heard from reads is read e peer goes = absurd cc
+more_says own talk old new theirs more (Ok further) heard from reads is read e peer goes =
+    says_by own old.key from heard (heards.Further further) talk goes.key e (further_came own talk old new theirs more further from goes.mine reads is read (from_of theirs.ends.from from peer) goes.begins goes.at)
 
-event_says : (stands : Stands) (own : Own) (talk : Talk) (old new : Channel) (stage : Stage) (event : Event) (frame : Frame) (from : ℕ) → Next old.phase old (Some (Ok event)) new → Ok (heards.Frame frame) ≡ (coded_step stage (Ok event)).heard
-    → peer_at (coded_step stage (Ok event)).stage ≡ Some from → CodedGoes own talk old stage → Says own from frame talk
-event_says stands own talk old new stages.Greeting (events.Greeted other) frame from next e peer goes = absurd (greeting_no_frame other.version other frame e)
-event_says stands own talk old new stages.Greeting events.Opened frame from next e peer goes = absurd cc
-event_says stands own talk old new stages.Greeting (events.Frame found) frame from next e peer goes = absurd cc
-event_says stands own talk old new stages.Greeting (events.Beat beat) frame from next e peer goes = absurd cc
-event_says stands own talk old new stages.Greeting (events.More more) frame from next e peer goes = absurd cc
-event_says stands own talk old new (stages.Asked theirs) event frame from next e peer goes = absurd cc
-event_says stands own talk old new (stages.Matched theirs) (events.Greeted other) frame from next e peer goes = absurd cc
-event_says stands own talk old new (stages.Matched theirs) events.Opened frame from next e peer goes = absurd cc
-event_says stands own talk old new (stages.Matched theirs) (events.Frame found) frame from next e peer goes = absurd cc
-event_says stands own talk old new (stages.Matched theirs) (events.Beat beat) frame from next e peer goes = absurd cc
-event_says stands own talk old new (stages.Matched theirs) (events.More more) frame from next e peer goes = absurd cc
-event_says stands own talk old new (stages.Proved theirs) event frame from next e peer goes = absurd cc
-event_says stands own talk old new (stages.Open theirs) (events.Greeted other) frame from next e peer goes = absurd cc
-event_says stands own talk old new (stages.Open theirs) events.Opened frame from next e peer goes = absurd cc
-event_says stands own talk old new (stages.Open theirs) (events.Beat beat) frame from next e peer goes = absurd cc
-event_says stands own talk old new (stages.Open theirs) (events.More more) frame from next e peer goes = absurd cc
-event_says stands own talk old new (stages.Closed fault) event frame from next e peer goes = absurd cc
-event_says stands own talk old new (stages.Open theirs) (events.Frame found) frame from next e peer goes =
-    subst (λ (f : Frame). Says own from f talk) (frame_of found frame (sym e))
-    (says_by own old.key from found talk goes.key
-    (frame_came own talk old new theirs found from goes.mine (read_of old new (events.Frame found) next) (stands old new (events.Frame found) next) (from_of theirs.ends.from from peer) goes.begins goes.at))
+open_says : (own : Own) (talk : Talk) (old new : Channel) (theirs : Hello) (event : Event) (heard : Heard) (from : ℕ) → Reads old new (Ok event) → ToldBy event old new → Ok heard ≡ (coded_step (stages.Open theirs) (Ok event)).heard
+    → peer_at (coded_step (stages.Open theirs) (Ok event)).stage ≡ Some from → CodedOn own talk old (stages.Open theirs) → SaysHeard own from heard talk
+open_says own talk old new theirs (events.Greeted other) heard from reads is e peer goes = absurd cc
+open_says own talk old new theirs events.Opened heard from reads is e peer goes = absurd cc
+open_says own talk old new theirs (events.Frame frame) heard from reads is e peer goes =
+    says_by own old.key from heard (heards.Frame frame) talk goes.key e (record_came own talk old new theirs (events.Frame frame) kind_of.Frame frame.bytes.items from goes.mine reads is (from_of theirs.ends.from from peer) goes.begins goes.at)
+open_says own talk old new theirs (events.Beat beat) heard from reads (body, reading, is) e peer goes =
+    says_by own old.key from heard (heards.Beat beat) talk goes.key e
+    (body, reading, record_came own talk old new theirs (events.Beat beat) kind_of.Beat body from goes.mine reads is (from_of theirs.ends.from from peer) goes.begins goes.at)
+open_says own talk old new theirs (events.More more) heard from reads is e peer goes = more_says own talk old new theirs more (read_behind theirs more) heard from reads is.heard refl e peer goes
 
-came_says : (stands : Stands) (own : Own) (talk : Talk) (old new : Channel) (stage : Stage) (came : Came) (frame : Frame) (from : ℕ) → Next old.phase old (Some came) new → Ok (heards.Frame frame) ≡ (coded_step stage came).heard
-    → peer_at (coded_step stage came).stage ≡ Some from → CodedGoes own talk old stage → Says own from frame talk
-came_says stands own talk old new stage (Err fault) frame from next e peer goes = absurd cc
-came_says stands own talk old new stage (Ok event) frame from next e peer goes = event_says stands own talk old new stage event frame from next e peer goes
+event_says : (stands : Stands) (own : Own) (talk : Talk) (old new : Channel) (stage : Stage) (event : Event) (heard : Heard) (from : ℕ) → Next old.phase old (Some (Ok event)) new → Ok heard ≡ (coded_step stage (Ok event)).heard
+    → peer_at (coded_step stage (Ok event)).stage ≡ Some from → CodedGoes own talk old stage → SaysHeard own from heard talk
+event_says stands own talk old new stages.Greeting (events.Greeted other) heard from next e peer goes = absurd cc
+event_says stands own talk old new stages.Greeting events.Opened heard from next e peer goes = absurd cc
+event_says stands own talk old new stages.Greeting (events.Frame frame) heard from next e peer goes = absurd cc
+event_says stands own talk old new stages.Greeting (events.Beat beat) heard from next e peer goes = absurd cc
+event_says stands own talk old new stages.Greeting (events.More more) heard from next e peer goes = absurd cc
+event_says stands own talk old new (stages.Asked theirs) event heard from next e peer goes = absurd cc
+event_says stands own talk old new (stages.Matched theirs) (events.Greeted other) heard from next e peer goes = absurd cc
+event_says stands own talk old new (stages.Matched theirs) events.Opened heard from next e peer goes = absurd cc
+event_says stands own talk old new (stages.Matched theirs) (events.Frame frame) heard from next e peer goes = absurd cc
+event_says stands own talk old new (stages.Matched theirs) (events.Beat beat) heard from next e peer goes = absurd cc
+event_says stands own talk old new (stages.Matched theirs) (events.More more) heard from next e peer goes = absurd cc
+event_says stands own talk old new (stages.Proved theirs) event heard from next e peer goes = absurd cc
+event_says stands own talk old new (stages.Closed fault) event heard from next e peer goes = absurd cc
+event_says stands own talk old new (stages.Open theirs) event heard from next e peer goes = open_says own talk old new theirs event heard from (read_of old new event next) (stands old new event next) e peer goes
 
-hears_says : (stands : Stands) (own : Own) (talk : Talk) (old new : CodedConnection) (frame : Frame) (from : ℕ) → Hears old new (Ok (heards.Frame frame)) → peer_at new.stage ≡ Some from → GoesOf own talk old → Says own from frame talk
-hears_says stands own talk old new frame from hears peer goes =
-    came_says stands own talk old.channel new.channel old.stage hears.came frame from hears.next hears.told_is (subst (λ (s : Stage). peer_at s ≡ Some from) hears.stage peer) goes
+came_says : (stands : Stands) (own : Own) (talk : Talk) (old new : Channel) (stage : Stage) (came : Came) (heard : Heard) (from : ℕ) → Next old.phase old (Some came) new → Ok heard ≡ (coded_step stage came).heard
+    → peer_at (coded_step stage came).stage ≡ Some from → CodedGoes own talk old stage → SaysHeard own from heard talk
+came_says stands own talk old new stage (Err fault) heard from next e peer goes = absurd cc
+came_says stands own talk old new stage (Ok event) heard from next e peer goes = event_says stands own talk old new stage event heard from next e peer goes
+
+hears_says : (stands : Stands) (own : Own) (talk : Talk) (old new : CodedConnection) (heard : Heard) (from : ℕ) → Hears old new (Ok heard) → peer_at new.stage ≡ Some from → GoesOf own talk old → SaysHeard own from heard talk
+hears_says stands own talk old new heard from hears peer goes =
+    came_says stands own talk old.channel new.channel old.stage hears.came heard from hears.next hears.told_is (subst (λ (s : Stage). peer_at s ≡ Some from) hears.stage peer) goes
 
 none_told : (told : Told) → Some told ≡ None → ⊥
 none_told told e = absurd cc
 
-fault_told : (frame : Frame) (fault : PeerFault) → ◌≡◌ {A = Option Told} (Some (Ok (heards.Frame frame))) (Some (Err fault)) → ⊥
-fault_told frame fault e = absurd cc
+fault_told : (heard : Heard) (fault : PeerFault) → ◌≡◌ {A = Option Told} (Some (Ok heard)) (Some (Err fault)) → ⊥
+fault_told heard fault e = absurd cc
 
-proof_says : (stands : Stands) (own : Own) (talk : Talk) (said : Bool) (old new : CodedConnection) (frame : Frame) (from : ℕ) → HearsProof said old (Some (Ok (heards.Frame frame))) new → peer_at new.stage ≡ Some from → GoesOf own talk old
-    → Says own from frame talk
-proof_says stands own talk true old new frame from next peer goes = hears_says stands own talk old new frame from next peer goes
-proof_says stands own talk false old new frame from next peer goes = absurd (none_told (Ok (heards.Frame frame)) next.0)
+proof_says : (stands : Stands) (own : Own) (talk : Talk) (said : Bool) (old new : CodedConnection) (heard : Heard) (from : ℕ) → HearsProof said old (Some (Ok heard)) new → peer_at new.stage ≡ Some from → GoesOf own talk old
+    → SaysHeard own from heard talk
+proof_says stands own talk true old new heard from next peer goes = hears_says stands own talk old new heard from next peer goes
+proof_says stands own talk false old new heard from next peer goes = absurd (none_told (Ok heard) next.0)
 
-next_says : (stands : Stands) (own : Own) (talk : Talk) (stage : Stage) (old new : CodedConnection) (frame : Frame) (from : ℕ) → NextCoded stage old (Some (Ok (heards.Frame frame))) new → peer_at new.stage ≡ Some from → GoesOf own talk old
-    → Says own from frame talk
-next_says stands own talk (stages.Asked hello) old new frame from next peer goes = absurd (none_told (Ok (heards.Frame frame)) next.0)
-next_says stands own talk (stages.Proved hello) old new frame from next peer goes = absurd (none_told (Ok (heards.Frame frame)) next.0)
-next_says stands own talk (stages.Closed fault) old new frame from next peer goes = absurd (fault_told frame fault next.0)
-next_says stands own talk stages.Greeting old new frame from next peer goes = hears_says stands own talk old new frame from next peer goes
-next_says stands own talk (stages.Matched hello) old new frame from next peer goes = proof_says stands own talk (has_said_hello old.channel.out) old new frame from next peer goes
-next_says stands own talk (stages.Open hello) old new frame from next peer goes = hears_says stands own talk old new frame from next peer goes
+next_says : (stands : Stands) (own : Own) (talk : Talk) (stage : Stage) (old new : CodedConnection) (heard : Heard) (from : ℕ) → NextCoded stage old (Some (Ok heard)) new → peer_at new.stage ≡ Some from → GoesOf own talk old
+    → SaysHeard own from heard talk
+next_says stands own talk (stages.Asked hello) old new heard from next peer goes = absurd (none_told (Ok heard) next.0)
+next_says stands own talk (stages.Proved hello) old new heard from next peer goes = absurd (none_told (Ok heard) next.0)
+next_says stands own talk (stages.Closed fault) old new heard from next peer goes = absurd (fault_told heard fault next.0)
+next_says stands own talk stages.Greeting old new heard from next peer goes = hears_says stands own talk old new heard from next peer goes
+next_says stands own talk (stages.Matched hello) old new heard from next peer goes = proof_says stands own talk (has_said_hello old.channel.out) old new heard from next peer goes
+next_says stands own talk (stages.Open hello) old new heard from next peer goes = hears_says stands own talk old new heard from next peer goes
 
-coded_tells : (stands : Stands) (old new : CodedConnection) (frame : Frame) → NextCoded old.stage old (Some (Ok (heards.Frame frame))) new → (own : Own) (talk : Talk) (from : ℕ) → Goes own talk (Coded old)
-    → peer_of (Coded new) ≡ Some from → ∥ Says own from frame talk ∥₁
-coded_tells stands old new frame next own talk from goes peer = ∥∥₁_map goes (λ g. next_says stands own talk old.stage old new frame from next peer g)
+coded_told : (stands : Stands) (old new : CodedConnection) (heard : Heard) → NextCoded old.stage old (Some (Ok heard)) new → (own : Own) (talk : Talk) (from : ℕ) → Goes own talk (Coded old) → peer_of (Coded new) ≡ Some from
+    → ∥ SaysHeard own from heard talk ∥₁
+coded_told stands old new heard next own talk from goes peer = ∥∥₁_map goes (λ g. next_says stands own talk old.stage old new heard from next peer g)
 
-pub coded_frames : (stands : Stands) (old new : CodedConnection) (result : Option Told) → NextCoded old.stage old result new → TellsFrame result (Coded old) (Coded new)
-coded_frames stands old new None next = tt
-coded_frames stands old new (Some (Err fault)) next = tt
-coded_frames stands old new (Some (Ok (heards.Hello hello))) next = tt
-coded_frames stands old new (Some (Ok (heards.Proved hello))) next = tt
-coded_frames stands old new (Some (Ok (heards.Beat beat))) next = tt
-coded_frames stands old new (Some (Ok (heards.Frame frame))) next = coded_tells stands old new frame next
+pub coded_tells : (stands : Stands) (old new : CodedConnection) (result : Option Told) → NextCoded old.stage old result new → Tells result (Coded old) (Coded new)
+coded_tells stands old new None next = tt
+coded_tells stands old new (Some (Err fault)) next = tt
+coded_tells stands old new (Some (Ok heard)) next = coded_told stands old new heard next

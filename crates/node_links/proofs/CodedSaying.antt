@@ -7,6 +7,7 @@ use Rattle.peer_codes.specs.declared.version.Version.TheVariants.{First}
 use Rattle.peer_codes.specs.declared.hello.Hello.{Hello}
 use Rattle.peer_codes.specs.declared.key.Key.{Key}
 use Rattle.peer_codes.specs.declared.kind.Kind.{Kind}
+use Rattle.peer_codes.specs.declared.more.More.{More}
 use Rattle.peer_codes.specs.declared.records.Record.{Record}
 use Rattle.peer_codes.specs.declared.records.Record.TheVariants as record_of
 use Rattle.peer_codes.specs.declared.role.Role.TheVariants.{Caller, Called}
@@ -17,7 +18,7 @@ use Rattle.peer_codes.specs.declared.outgoing.Outgoing.{Outgoing}
 use Rattle.peer_codes.specs.declared.connection.Connection.{Connection as Channel}
 use Rattle.peer_codes.specs.Beginning.{Begins as ChannelBegins, TextBegun, HelloBegun, ProofBegun, CodedBegun}
 use Rattle.peer_codes.specs.Codes.{after}
-use Rattle.peer_codes.specs.Connections.{met as met_by, turned_away, answered, begun_next}
+use Rattle.peer_codes.specs.Connections.{met as met_by, turned_away, answered, takes_more, with_more, begun_next}
 use Rattle.peer_codes.specs.Histories.{IsCoded, said_phase}
 use Rattle.peer_codes.specs.Outgoings.{unwritten}
 use Rattle.peer_codes.specs.Spelling.{record_text}
@@ -29,8 +30,9 @@ use Rattle.node_links.specs.declared.stage.Stage.{Stage}
 use Rattle.node_links.specs.declared.stage.Stage.TheVariants as stages
 use Rattle.node_links.specs.declared.coded_connection.CodedConnection.{CodedConnection}
 use Rattle.node_links.specs.declared.connection.Connection.TheVariants.{Coded}
-use Rattle.node_links.specs.Coding.{settled_stage, matched, taken, in_first, given, and_frame, begun_open, begun_by, begun_where, begun_coded}
+use Rattle.node_links.specs.Coding.{settled_stage, matched, taken, given, and_frame, begun_open, begun_by, begun_where, begun_coded}
 use Rattle.node_links.specs.Judging.{judged_match, judged_known}
+use Rattle.node_links.specs.Versions.{in_version, version_at}
 use Rattle.node_links.specs.Waits.{Waits}
 use Rattle.node_links.specs.Waiting.{next_of, has_next}
 use Rattle.node_links.specs.Talks.{Talk, bytes_of, hellos_of}
@@ -64,13 +66,14 @@ coded_listens own c key own_key stage phase key_is waiting out = begun_of own No
 -- ---- a piece more
 
 piece_on : (own : Own) (came waiting piece : List ℕ) (theirs : Hello) → Greeted came waiting theirs → Greeted (came ++ piece) (waiting ++ piece) theirs
-piece_on own came waiting piece theirs at = record { hello = at.hello; is = at.is; first = at.first; text = ap (λ (t : List ℕ). t ++ piece) at.text ∙ append_assoc at.hello waiting piece }
+piece_on own came waiting piece theirs at = record { hello = at.hello; is = at.is; text = ap (λ (t : List ℕ). t ++ piece) at.text ∙ append_assoc at.hello waiting piece }
 
 piece_behind : (key : Key) (mine : Option Hello) (theirs : Hello) (talk : Talk) (waiting piece : List ℕ) (phase : Phase) → ProvedBy key mine theirs talk waiting phase
     → ProvedBy key mine theirs (record talk { came = talk.came ++ piece }) (waiting ++ piece) phase
 piece_behind key None theirs talk waiting piece phase at = absurd at
 piece_behind key (Some mine) theirs talk waiting piece phase at = record {
   first = at.first;
+  version = at.version;
   ways = at.ways;
   open_is = at.open_is;
   hello = at.hello;
@@ -156,37 +159,37 @@ answers own talk c stage theirs mine coded version phase key begins at =
     (subst (λ (b : Bool). CodedOn own talk (cond b (met_by theirs mine c) (turned_away mine c)) stage) (sym (version_same theirs.version mine.version version))
     (record { key = key; mine = Some mine; begins = (coded, inl (begins.0, refl)); at = at }))
 
-called_awaits : (key : Key) (dialled : Option ℕ) (mine theirs : Hello) → dialled ≡ None → Awaits key dialled (Some mine) theirs (proving key.bytes Called Caller (hellos_of Called mine theirs))
-called_awaits key None mine theirs e = refl
-called_awaits key (Some number) mine theirs e = absurd cc
+called_awaits : (key : Key) (dialled : Option ℕ) (mine theirs : Hello) → dialled ≡ None → mine.version ≡ theirs.version → Awaits key dialled (Some mine) theirs (proving key.bytes Called Caller (hellos_of Called mine theirs))
+called_awaits key None mine theirs e version = (version, refl)
+called_awaits key (Some number) mine theirs e version = absurd cc
 
-asked_answers : (own : Own) (talk : Talk) (c : Channel) (theirs mine : Hello) (given : Option Hello) → IsCoded mine → mine.version ≡ First → own.key ≡ Some c.key → Begins given talk.wrote c.out → Greeted talk.came c.came.waiting theirs
+asked_answers : (own : Own) (talk : Talk) (c : Channel) (theirs mine : Hello) (given : Option Hello) → IsCoded mine → mine.version ≡ theirs.version → own.key ≡ Some c.key → Begins given talk.wrote c.out → Greeted talk.came c.came.waiting theirs
     → Awaits c.key talk.dialled given theirs c.phase → CodedOn own talk c (stages.Asked theirs) → CodedOn own talk (answered c.phase mine c) (stages.Asked theirs)
-asked_answers own talk c theirs mine None coded first key begins greeted awaits goes = answers own talk c (stages.Asked theirs) theirs mine coded (greeted.first ∙ sym first) awaits.1 key begins (greeted, called_awaits c.key talk.dialled mine theirs awaits.0)
-asked_answers own talk c theirs mine (Some given) coded first key begins greeted awaits goes = unanswered own talk c (stages.Asked theirs) mine _ awaits refl goes
+asked_answers own talk c theirs mine None coded version key begins greeted awaits goes = answers own talk c (stages.Asked theirs) theirs mine coded (sym version) awaits.1 key begins (greeted, called_awaits c.key talk.dialled mine theirs awaits.0 version)
+asked_answers own talk c theirs mine (Some given) coded version key begins greeted awaits goes = unanswered own talk c (stages.Asked theirs) mine _ awaits.1 refl goes
 
-matched_answers : (own : Own) (talk : Talk) (c : Channel) (theirs mine : Hello) (given : Option Hello) → IsCoded mine → mine.version ≡ First → own.key ≡ Some c.key → Begins given talk.wrote c.out → Matches own talk.dialled theirs
+matched_answers : (own : Own) (talk : Talk) (c : Channel) (theirs mine : Hello) (given : Option Hello) → IsCoded mine → mine.version ≡ theirs.version → own.key ≡ Some c.key → Begins given talk.wrote c.out → Matches own talk.dialled theirs
     → Greeted talk.came c.came.waiting theirs → Awaits c.key talk.dialled given theirs c.phase → CodedOn own talk c (stages.Matched theirs) → CodedOn own talk (answered c.phase mine c) (stages.Matched theirs)
-matched_answers own talk c theirs mine None coded first key begins matches greeted awaits goes = answers own talk c (stages.Matched theirs) theirs mine coded (greeted.first ∙ sym first) awaits.1 key begins (matches, greeted, called_awaits c.key talk.dialled mine theirs awaits.0)
-matched_answers own talk c theirs mine (Some given) coded first key begins matches greeted awaits goes = unanswered own talk c (stages.Matched theirs) mine _ awaits refl goes
+matched_answers own talk c theirs mine None coded version key begins matches greeted awaits goes = answers own talk c (stages.Matched theirs) theirs mine coded (sym version) awaits.1 key begins (matches, greeted, called_awaits c.key talk.dialled mine theirs awaits.0 version)
+matched_answers own talk c theirs mine (Some given) coded version key begins matches greeted awaits goes = unanswered own talk c (stages.Matched theirs) mine _ awaits.1 refl goes
 
 open_phase : (key : Key) (mine : Option Hello) (theirs : Hello) (talk : Talk) (waiting : List ℕ) (phase : Phase) → ProvedBy key mine theirs talk waiting phase → (ways : Ways) × (phase ≡ phases.Open ways)
 open_phase key None theirs talk waiting phase at = absurd at
 open_phase key (Some mine) theirs talk waiting phase at = (at.ways, at.open_is)
 
-answer_goes : (own : Own) (talk : Talk) (c : Channel) (stage : Stage) (mine : Hello) → IsCoded mine → mine.version ≡ First → CodedGoes own talk c stage → CodedGoes own talk (answered c.phase mine c) stage
-answer_goes own talk c (stages.Closed fault) mine coded first goes = tt
-answer_goes own talk c stages.Greeting mine coded first goes = unanswered own talk c stages.Greeting mine (phases.Greeting goes.mine) goes.at.1 refl goes
-answer_goes own talk c (stages.Asked theirs) mine coded first goes = asked_answers own talk c theirs mine goes.mine coded first goes.key goes.begins goes.at.0 goes.at.1 goes
-answer_goes own talk c (stages.Matched theirs) mine coded first goes = matched_answers own talk c theirs mine goes.mine coded first goes.key goes.begins goes.at.0 goes.at.1 goes.at.2 goes
-answer_goes own talk c (stages.Proved theirs) mine coded first goes =
-    let is = open_phase c.key goes.mine theirs talk c.came.waiting c.phase goes.at.1 in unanswered own talk c (stages.Proved theirs) mine (phases.Open is.0) is.1 refl goes
-answer_goes own talk c (stages.Open theirs) mine coded first goes =
-    let is = open_phase c.key goes.mine theirs talk c.came.waiting c.phase goes.at.1 in unanswered own talk c (stages.Open theirs) mine (phases.Open is.0) is.1 refl goes
+answer_goes : (own : Own) (talk : Talk) (c : Channel) (stage : Stage) (mine : Hello) → IsCoded mine → CodedGoes own talk c stage → CodedGoes own talk (answered c.phase (in_version (version_at stage) mine) c) stage
+answer_goes own talk c (stages.Closed fault) mine coded goes = tt
+answer_goes own talk c stages.Greeting mine coded goes = unanswered own talk c stages.Greeting (in_version First mine) (phases.Greeting goes.mine) goes.at.1 refl goes
+answer_goes own talk c (stages.Asked theirs) mine coded goes = asked_answers own talk c theirs (in_version theirs.version mine) goes.mine coded refl goes.key goes.begins goes.at.0 goes.at.1 goes
+answer_goes own talk c (stages.Matched theirs) mine coded goes = matched_answers own talk c theirs (in_version theirs.version mine) goes.mine coded refl goes.key goes.begins goes.at.0 goes.at.1 goes.at.2 goes
+answer_goes own talk c (stages.Proved theirs) mine coded goes =
+    let is = open_phase c.key goes.mine theirs talk c.came.waiting c.phase goes.at.1 in unanswered own talk c (stages.Proved theirs) (in_version theirs.version mine) (phases.Open is.0) is.1 refl goes
+answer_goes own talk c (stages.Open theirs) mine coded goes =
+    let is = open_phase c.key goes.mine theirs talk c.came.waiting c.phase goes.at.1 in unanswered own talk c (stages.Open theirs) (in_version theirs.version mine) (phases.Open is.0) is.1 refl goes
 
-pub coded_answers : (old new : CodedConnection) (mine : Hello) → IsCoded mine → new ≡ record old { channel = answered old.channel.phase (in_first mine) old.channel } → GoesOn (Coded old) (Coded new)
+pub coded_answers : (old new : CodedConnection) (mine : Hello) → IsCoded mine → new ≡ record old { channel = answered old.channel.phase (in_version (version_at old.stage) mine) old.channel } → GoesOn (Coded old) (Coded new)
 coded_answers old new mine coded e own talk goes =
-    ∥∥₁_map goes (λ g. subst (λ (c : CodedConnection). CodedGoes own talk c.channel c.stage) (sym e) (answer_goes own talk old.channel old.stage (in_first mine) coded refl g))
+    ∥∥₁_map goes (λ g. subst (λ (c : CodedConnection). CodedGoes own talk c.channel c.stage) (sym e) (answer_goes own talk old.channel old.stage mine coded g))
 
 -- ---- a record that is begun
 
@@ -259,6 +262,7 @@ said_proved : (key : Key) (mine : Option Hello) (theirs : Hello) (talk : Talk) (
 said_proved key None theirs talk waiting ways count at = absurd at
 said_proved key (Some mine) theirs talk waiting ways count at = record {
   first = at.first;
+  version = at.version;
   ways = record { reading = ways.reading; writing = after ways.writing count };
   open_is = refl;
   hello = at.hello;
@@ -276,9 +280,9 @@ said_at : (own : Own) (talk : Talk) (waiting : List ℕ) (key : Key) (ways : Way
     → CodedAt own talk key waiting (phases.Open (record { reading = ways.reading; writing = after ways.writing count })) mine stage
 said_at own talk waiting key ways count mine stages.Greeting at = let f : phases.Open ways ≡ phases.Greeting mine = at.1 in absurd cc
 said_at own talk waiting key ways count None (stages.Asked theirs) at = let f : phases.Open ways ≡ phases.Asked theirs = at.1.1 in absurd cc
-said_at own talk waiting key ways count (Some mine) (stages.Asked theirs) (greeted, f) = absurd cc
+said_at own talk waiting key ways count (Some mine) (stages.Asked theirs) (greeted, (version, f)) = absurd cc
 said_at own talk waiting key ways count None (stages.Matched theirs) at = let f : phases.Open ways ≡ phases.Asked theirs = at.2.1 in absurd cc
-said_at own talk waiting key ways count (Some mine) (stages.Matched theirs) (matches, greeted, f) = absurd cc
+said_at own talk waiting key ways count (Some mine) (stages.Matched theirs) (matches, greeted, (version, f)) = absurd cc
 said_at own talk waiting key ways count mine (stages.Proved theirs) at = (at.0, said_proved key mine theirs talk waiting ways count at.1)
 said_at own talk waiting key ways count mine (stages.Open theirs) at = (at.0, said_proved key mine theirs talk waiting ways count at.1)
 said_at own talk waiting key ways count mine (stages.Closed fault) at = tt
@@ -318,6 +322,10 @@ if_goes : (own : Own) (talk : Talk) (c d : Channel) (stage : Stage) (b : Bool) �
 if_goes own talk c d stage true one other = one
 if_goes own talk c d stage false one other = other
 
+more_goes : (own : Own) (talk : Talk) (c : Channel) (stage : Stage) (more : More) (b : Bool) → CodedGoes own talk c stage → CodedGoes own talk (with_more b more c) stage
+more_goes own talk c stage more true goes = left_goes own talk c (record c.out { more = Some more }) stage refl refl refl goes
+more_goes own talk c stage more false goes = goes
+
 given_goes : (own : Own) (talk : Talk) (c : Channel) (stage : Stage) (said : Option Record) → CodedGoes own talk c stage → CodedGoes own talk (given c said) stage
 given_goes own talk c stage None goes = goes
 given_goes own talk c stage (Some (record_of.Beat beat)) goes = left_goes own talk c (record c.out { beat = Some beat }) stage refl refl refl goes
@@ -325,7 +333,7 @@ given_goes own talk c stage (Some (record_of.Frame frame)) goes =
     if_goes own talk (record c { out = record c.out { frame = and_frame c.out.frame frame } }) c stage (nat_le LEAST_FRAME (length frame.bytes.items)) (left_goes own talk c (record c.out { frame = and_frame c.out.frame frame }) stage refl refl refl goes) goes
 given_goes own talk c stage (Some (record_of.Hello hello)) goes = goes
 given_goes own talk c stage (Some (record_of.Proof proof)) goes = goes
-given_goes own talk c stage (Some (record_of.More more)) goes = goes
+given_goes own talk c stage (Some (record_of.More more)) goes = more_goes own talk c stage more (takes_more c.phase c.out.more more.kind) goes
 
 abbrev GoesOf : Own → Talk → CodedConnection → Type 0
 GoesOf own talk c = CodedGoes own talk c.channel c.stage
@@ -336,7 +344,7 @@ either_goes own talk false c w p one other = other
 
 by_goes : (begins : BeginsEach) (own : Own) (talk : Talk) (stage : Stage) (c : CodedConnection) (w : Waits) → GoesOf own talk c → GoesOf own talk (begun_by stage c w).0
 by_goes begins own talk (stages.Open theirs) c w goes =
-    either_goes own talk (has_next w) c w (begun_open c w) (channel_begins begins own talk (given c.channel (next_of w)) c.stage (given_goes own talk c.channel c.stage (next_of w) goes)) goes
+    either_goes own talk (has_next theirs.version w) c w (begun_open theirs.version c w) (channel_begins begins own talk (given c.channel (next_of theirs.version w)) c.stage (given_goes own talk c.channel c.stage (next_of theirs.version w) goes)) goes
 by_goes begins own talk stages.Greeting c w goes = goes
 by_goes begins own talk (stages.Asked theirs) c w goes = goes
 by_goes begins own talk (stages.Matched theirs) c w goes = goes
@@ -371,6 +379,7 @@ written_proved : (key : Key) (mine : Option Hello) (theirs : Hello) (talk : Talk
 written_proved key None theirs talk waiting bytes phase at = absurd at
 written_proved key (Some mine) theirs talk waiting bytes phase at = record {
   first = (at.first.0 ++ bytes, ap (λ (t : List ℕ). t ++ bytes) at.first.1 ∙ append_assoc (record_text (record_of.Hello mine)) at.first.0 bytes);
+  version = at.version;
   ways = at.ways;
   open_is = at.open_is;
   hello = at.hello;

@@ -1,6 +1,7 @@
 -- Hellos that are taken or not, connections that open or close, and when peers are dialled, told and asked; near misses.
-use Rattle.std.proofs.Common.{◌≡◌, ℕ, ◌-◌, List, [], ◌∷◌, ◌++◌, replicate, true, false, Option, Some, None, Ok, Err, refl, ap, codes}
-use Rattle.peer_codes.specs.declared.fault.RecordFault.TheVariants.{BadHello}
+use Rattle.std.proofs.Common.{◌≡◌, ℕ, ◌-◌, List, [], ◌∷◌, ◌++◌, replicate, true, false, Option, Some, None, Result, Ok, Err, refl, ap, codes}
+use Rattle.std.specs.Fmt.{digits}
+use Rattle.peer_codes.specs.declared.fault.RecordFault.TheVariants.{BadLength, BadKind, BadHello}
 use Rattle.peer_codes.specs.declared.hello.Life.{Life}
 use Rattle.peer_codes.specs.declared.hello.Link.{Link}
 use Rattle.peer_codes.specs.declared.hello.Link.TheVariants.{Plain, Coded}
@@ -8,17 +9,22 @@ use Rattle.peer_codes.specs.declared.version.Version.TheVariants.{First, Second}
 use Rattle.peer_codes.specs.declared.hello.Hello.{Hello}
 use Rattle.peer_codes.specs.declared.beat.Beat.{Beat}
 use Rattle.peer_codes.specs.declared.frame.Frame.{Frame}
+use Rattle.peer_codes.specs.declared.more.More.{More}
 use Rattle.peer_codes.specs.declared.records.Record.TheVariants as record_of
 use Rattle.peer_codes.specs.Spelling.{record_text}
 use Rattle.node_links.specs.declared.own.Own.{Own}
 use Rattle.node_links.specs.declared.own.Met.{Met}
 use Rattle.node_links.specs.declared.peer_fault.Mismatch.TheVariants.{Digest, Nodes, Number}
 use Rattle.node_links.specs.declared.peer_fault.Whose.TheVariants as whose
+use Rattle.node_links.specs.declared.peer_fault.PeerFault.{PeerFault}
+use Rattle.node_links.specs.declared.heard.Heard.{Heard}
 use Rattle.node_links.specs.declared.peer_fault.PeerFault.TheVariants as faults
 use Rattle.node_links.specs.declared.heard.Heard.TheVariants as heards
 use Rattle.node_links.specs.declared.phase.Phase.{Phase}
 use Rattle.node_links.specs.declared.phase.Phase.TheVariants as phases
 use Rattle.node_links.specs.declared.plain_connection.PlainConnection.{PlainConnection}
+use Rattle.node_links.specs.declared.coded_connection.CodedConnection.{CodedConnection}
+use Rattle.node_links.specs.declared.connection.Connection.TheVariants.{Plain as PlainOne, Coded as CodedOne}
 use Rattle.node_links.specs.declared.dial.Dial.TheVariants as dials
 use Rattle.node_links.specs.declared.dial.DialDue.TheVariants as dues
 use Rattle.node_links.specs.declared.pulse.Pulse.{Pulse}
@@ -28,8 +34,9 @@ use Rattle.node_links.specs.Steps.{closed, stepped, settled}
 use Rattle.node_links.specs.Waits.{Waits}
 use Rattle.node_links.specs.Waiting.{newest, has_next, next_of, rest_of}
 use Rattle.node_links.specs.Connections.{Next, begun_next}
+use Rattle.node_links.specs.Kinds.{IsCalling, TakesIn, NextBy, answered_by}
 use Rattle.node_links.specs.Dialling.{connect_wait, due_of, answered_dial, opened_dial, ended_dial}
-use Rattle.node_links.specs.Pausing.{pause_after}
+use Rattle.node_links.specs.Pausing.{pause_after, closed_pause}
 use Rattle.node_links.specs.Noting.{fault_place, is_told}
 use Rattle.node_links.specs.Pulses.{wait_of, beat_of, heard_at}
 use Rattle.node_links.specs.Asking.{asked_slot, is_again}
@@ -40,14 +47,25 @@ use Rattle.node_links.specs.declared.owed.Question.{Question}
 use Rattle.node_links.specs.declared.owed.Owed.{Owed}
 use Rattle.node_links.specs.declared.refusals.Refusals.{Refusals}
 use Rattle.node_links.specs.Owing.{question_in, answered_in, asked_by, heard_by, serves}
-use Rattle.node_links.specs.Refusing.{noted, and_refused}
+use Rattle.node_links.specs.Refusing.{refused_by, due_at}
+use Rattle.node_links.specs.declared.own.Known.TheVariants.{Nothing, One, Two}
+use Rattle.node_links.specs.declared.lives.Lives.{Lives}
+use Rattle.node_links.specs.declared.settings.Settings.{Settings}
+use Rattle.node_links.specs.declared.further.Further.TheVariants as furthers
+use Rattle.node_links.specs.declared.turning.DialEnd.TheVariants as ends
+use Rattle.node_links.specs.Knowing.{and_life}
+use Rattle.node_links.specs.Lives.{lives_of, lives_text, lives_more}
+use Rattle.node_links.specs.Telling.{settings_of, settings_text, further_of}
+use Rattle.node_links.specs.declared.turning.Turn.TheVariants as turns
+use Rattle.node_links.specs.Versions.{turn_behind}
 
 -- ---- faults
 
 pub store_replaced_line : peer_fault_line (faults.StoreReplaced whose.Own) ≡ codes "127 StoreReplaced"
 store_replaced_line = refl
 
-pub other_digest_line : peer_fault_line (faults.OtherMatch Digest) ≡ codes "123 OtherMatch digest"
+pub other_digest_line : peer_fault_line (faults.OtherMatch (Digest (record { here = 439041101; there = 10 }))) ≡ codes "123 OtherMatch digest: here 1a2b3c4d, there 0000000a"
+unfolding digits
 other_digest_line = refl
 
 pub bad_hello_is_122 : peer_fault_code (faults.Record BadHello) ≡ 122
@@ -62,7 +80,7 @@ abbrev own : Own
 own = record { number = 0; nodes = 3; digest = record { bytes = replicate 32 9 }; life = life 6; key = None }
 
 abbrev met : Met
-met = record { kept = None; is_here = false }
+met = record { lives = Nothing; is_here = false }
 
 abbrev known : List Met
 known = met ∷ met ∷ met ∷ []
@@ -80,8 +98,8 @@ coded_hello = hello_by 1 0 5 8 None (Coded (record { bytes = replicate 32 8 }))
 pub codes_before_all : judged own None known coded_hello ≡ Err (faults.Record BadHello)
 codes_before_all = refl
 
--- of another version than the first
-pub second_version : judged own None known (record hello { version = Second }) ≡ Err (faults.Record BadHello)
+-- the second version is judged as the first
+pub second_version : judged own None known (record hello { version = Second }) ≡ Ok tt
 second_version = refl
 
 pub first_hello_taken : judged own None known hello ≡ Ok tt
@@ -92,14 +110,14 @@ pub own_life_kept_taken : judged own None known (hello_by 1 0 3 9 (Some (life 6)
 own_life_kept_taken = refl
 
 -- and this one keeps its life
-pub kept_life_taken : judged own None (met ∷ record { kept = Some (life 5); is_here = false } ∷ met ∷ []) hello ≡ Ok tt
+pub kept_life_taken : judged own None (met ∷ record { lives = One (life 5); is_here = false } ∷ met ∷ []) hello ≡ Ok tt
 kept_life_taken = refl
 
-pub other_digest : judged own None known (hello_by 1 0 3 8 None Plain) ≡ Err (faults.OtherMatch Digest)
+pub other_digest : judged own None known (hello_by 1 0 3 8 None Plain) ≡ Err (faults.OtherMatch (Digest (record { here = 151587081; there = 134744072 })))
 other_digest = refl
 
 -- five nodes, and another digest: the digest is told
-pub digest_before_nodes : judged own None known (hello_by 1 0 5 8 None Plain) ≡ Err (faults.OtherMatch Digest)
+pub digest_before_nodes : judged own None known (hello_by 1 0 5 8 None Plain) ≡ Err (faults.OtherMatch (Digest (record { here = 151587081; there = 134744072 })))
 digest_before_nodes = refl
 
 pub five_nodes : judged own None known (hello_by 1 0 5 9 None Plain) ≡ Err (faults.OtherMatch Nodes)
@@ -124,15 +142,87 @@ pub dialled_answers : is_awaited 2 (Some 0) (record { from = 0; to = 2; nodes = 
 dialled_answers = refl
 
 -- a second connection of node 1, whose store has another life too
-pub already_here : judged own None (met ∷ record { kept = Some (life 4); is_here = true } ∷ met ∷ []) hello ≡ Err faults.AlreadyHere
+pub already_here : judged own None (met ∷ record { lives = One (life 4); is_here = true } ∷ met ∷ []) hello ≡ Err faults.AlreadyHere
 already_here = refl
 
 -- node 1 keeps another life of node 0: it is node 0 whose store was made anew
 pub own_store_anew : judged own None known (hello_by 1 0 3 9 (Some (life 7)) Plain) ≡ Err (faults.StoreReplaced whose.Own)
 own_store_anew = refl
 
-pub other_store_anew : judged own None (met ∷ record { kept = Some (life 4); is_here = false } ∷ met ∷ []) hello ≡ Err (faults.StoreReplaced whose.Other)
+pub other_store_anew : judged own None (met ∷ record { lives = One (life 4); is_here = false } ∷ met ∷ []) hello ≡ Err (faults.StoreReplaced whose.Other)
 other_store_anew = refl
+
+-- two lives of its store are known, of which one is this
+pub two_lives : judged own None (met ∷ record { lives = Two; is_here = false } ∷ met ∷ []) hello ≡ Err (faults.StoreReplaced whose.Other)
+two_lives = refl
+
+pub same_life_again : and_life (One (life 5)) (Some (life 5)) ≡ One (life 5)
+same_life_again = refl
+
+pub second_life : and_life (One (life 5)) (Some (life 6)) ≡ Two
+second_life = refl
+
+-- ---- lives and settings that are told
+
+-- of three nodes: the first and the third have one
+abbrev three_lives : Lives
+three_lives = record { nodes = 3; lives = Some (life 5) ∷ None ∷ Some (life 6) ∷ None ∷ None ∷ None ∷ None ∷ [] }
+
+abbrev lives_bytes : List ℕ
+lives_bytes = replicate 16 5 ++ (replicate 16 0 ++ replicate 16 6)
+
+pub lives_as_bytes : lives_text three_lives ≡ lives_bytes
+lives_as_bytes = refl
+
+pub bytes_as_lives : lives_of 3 lives_bytes ≡ Ok three_lives
+bytes_as_lives = refl
+
+-- they are those of three nodes and of no four
+pub lives_of_another_match : lives_of 4 lives_bytes ≡ Err BadLength
+lives_of_another_match = refl
+
+abbrev settings : Settings
+settings = record { patience = 12000; start = 0; away = 5000; tokens = replicate 8 7 }
+
+pub settings_as_bytes : settings_text settings ≡ 0 ∷ 0 ∷ 46 ∷ 224 ∷ 0 ∷ 0 ∷ 0 ∷ 0 ∷ 0 ∷ 0 ∷ 19 ∷ 136 ∷ 7 ∷ 7 ∷ 7 ∷ 7 ∷ 7 ∷ 7 ∷ 7 ∷ 7 ∷ []
+settings_as_bytes = refl
+
+pub bytes_as_settings : settings_of (settings_text settings) ≡ Ok settings
+bytes_as_settings = refl
+
+-- a kind that isn't known here is passed over, of whatever bytes
+pub unknown_passed_over : further_of 3 (record { kind = 9; bytes = record { items = 1 ∷ 2 ∷ [] } }) ≡ Ok furthers.Unknown
+unknown_passed_over = refl
+
+-- ---- in which version a peer is dialled
+
+pub second_first : turn_behind [] ≡ turns.Second
+second_first = refl
+
+-- one that answers the second by its own Hello of the first is dialled in the first
+pub first_then : turn_behind (ends.Greeted First ∷ []) ≡ turns.First
+first_then = refl
+
+-- one that closes the second, answers the probe and closes the second again
+pub first_behind_a_probe : turn_behind (ends.Silent ∷ ends.Greeted First ∷ ends.Silent ∷ []) ≡ turns.First
+first_behind_a_probe = refl
+
+-- a proxy whose node isn't there, and then is: whether it comes before the probe or behind it, no connection opens in the first
+pub never_first : turn_behind (ends.Silent ∷ ends.Silent ∷ ends.Silent ∷ []) ≡ turns.Probe
+never_first = refl
+
+pub second_behind_a_probe : turn_behind (ends.Greeted First ∷ ends.Silent ∷ ends.Silent ∷ ends.Silent ∷ []) ≡ turns.Again
+second_behind_a_probe = refl
+
+pub second_behind_a_connection : turn_behind (ends.Opened ∷ ends.Greeted First ∷ []) ≡ turns.Second
+second_behind_a_connection = refl
+
+-- 0.1 s behind the first that was closed without a byte, and 1 s behind the twelfth
+pub closed_once : closed_pause 1 ≡ 100000
+closed_once = refl
+
+pub closed_often : closed_pause 12 ≡ 1000000
+closed_often = refl
 
 -- ---- connections
 
@@ -145,15 +235,29 @@ beat = record { number = 1; got = 0; front = 37; campaigns = true; over = false;
 pub frame_comes : stepped (phases.Open hello) (record_of.Frame frame) ≡ record { phase = phases.Open hello; heard = Ok (heards.Frame frame) }
 frame_comes = refl
 
-pub frame_before_the_hello : stepped phases.Greeting (record_of.Frame frame) ≡ closed faults.UnexpectedRecord
+pub frame_before_the_hello : stepped (phases.Greeting None) (record_of.Frame frame) ≡ closed faults.UnexpectedRecord
 frame_before_the_hello = refl
 
 pub second_hello : stepped (phases.Open hello) (record_of.Hello hello) ≡ closed faults.UnexpectedRecord
 second_hello = refl
 
 -- it is refused where it is judged, so that it is answered
-pub coded_hello_comes : (stepped phases.Greeting (record_of.Hello coded_hello)).phase ≡ phases.Asked coded_hello
+pub coded_hello_comes : (stepped (phases.Greeting None) (record_of.Hello coded_hello)).phase ≡ phases.Asked coded_hello
 coded_hello_comes = refl
+
+-- who dialled in the second version takes no answer in the first
+pub other_version_answers : stepped (phases.Greeting (Some Second)) (record_of.Hello hello) ≡ closed (faults.Record BadHello)
+other_version_answers = refl
+
+abbrev more : More
+more = record { kind = 9; bytes = record { items = [] } }
+
+-- a record of a further kind: behind a Hello of the second version, and of the first
+pub more_comes : stepped (phases.Open (record hello { version = Second })) (record_of.More more) ≡ record { phase = phases.Open (record hello { version = Second }); heard = Ok (heards.Further furthers.Unknown) }
+more_comes = refl
+
+pub more_behind_the_first : stepped (phases.Open hello) (record_of.More more) ≡ closed (faults.Record BadKind)
+more_behind_the_first = refl
 
 pub taken_hello_opens : settled own None known (phases.Asked hello) ≡ phases.Open hello
 taken_hello_opens = refl
@@ -164,19 +268,26 @@ refused_hello_closes = refl
 -- ---- what waits, and what is written
 
 abbrev waits : Waits
-waits = record { beat = Some beat; frames = frame ∷ [] }
+waits = record { beat = Some beat; lives = Some three_lives; settings = None; frames = frame ∷ [] }
 
-pub beat_first : next_of waits ≡ Some (record_of.Beat beat)
+pub beat_first : next_of Second waits ≡ Some (record_of.Beat beat)
 beat_first = refl
 
-pub both_wait : has_next waits ≡ true
+pub both_wait : has_next First waits ≡ true
 both_wait = refl
 
-pub nothing_waits : has_next (rest_of (rest_of waits)) ≡ false
+-- on a connection of the second version the lives go behind the beat, on one of the first they wait
+pub lives_behind : next_of Second (rest_of Second waits) ≡ Some (record_of.More (lives_more three_lives))
+lives_behind = refl
+
+pub nothing_waits : has_next Second (rest_of Second (rest_of Second (rest_of Second waits))) ≡ false
 nothing_waits = refl
 
-pub frame_behind : next_of (rest_of waits) ≡ Some (record_of.Frame frame)
+pub frame_behind : next_of First (rest_of First waits) ≡ Some (record_of.Frame frame)
 frame_behind = refl
+
+pub lives_wait_on : rest_of First (rest_of First waits) ≡ record { beat = None; lives = Some three_lives; settings = None; frames = [] }
+lives_wait_on = refl
 
 abbrev three : List ℕ
 three = 1 ∷ 2 ∷ 3 ∷ []
@@ -198,7 +309,7 @@ abbrev idle : Phase → Option Hello → PlainConnection
 idle phase mine = record { phase = phase; came = record { waiting = []; room = 0 }; out = record { hello = mine; begun = record { items = [] }; written = 0 } }
 
 -- on an open connection the beat is begun, and the frame waits on
-pub beat_begun : (begun_next (idle (phases.Open hello) None) waits).1 ≡ record { beat = None; frames = frame ∷ [] }
+pub beat_begun : (begun_next (idle (phases.Open hello) None) waits).1 ≡ record { beat = None; lives = Some three_lives; settings = None; frames = frame ∷ [] }
 unfolding begun_next
 beat_begun = refl
 
@@ -207,7 +318,7 @@ pub beat_written : (begun_next (idle (phases.Open hello) None) waits).0.out.begu
 unfolding begun_next
 beat_written = refl
 
-pub frame_written : (begun_next (idle (phases.Open hello) None) (rest_of waits)).0.out.begun.items ≡ record_text (record_of.Frame frame)
+pub frame_written : (begun_next (idle (phases.Open hello) None) (rest_of First waits)).0.out.begun.items ≡ record_text (record_of.Frame frame)
 unfolding begun_next
 frame_written = refl
 
@@ -225,6 +336,27 @@ nothing_begun = refl
 pub hello_begun : (begun_next (idle (phases.Closed faults.AlreadyHere) (Some hello)) waits).0.out.begun.items ≡ record_text (record_of.Hello hello)
 unfolding begun_next
 hello_begun = refl
+
+-- ---- connections of either kind
+
+-- who was dialled doesn't call
+pub listening-not_calling : IsCalling hello (PlainOne (idle (phases.Greeting None) None)) → ⊥
+listening-not_calling is = let e : phases.Greeting None ≡ phases.Greeting (Some First) = is.0 in absurd cc
+
+-- a Hello that waits to be judged lets nothing be told
+pub nothing_before_it_is_judged : (told : Result Heard PeerFault) (new : PlainConnection) → NextBy (PlainOne (idle (phases.Asked hello) None)) (Some told) (PlainOne new) → ⊥
+nothing_before_it_is_judged told new next = let e : Some told ≡ None = next.0 in absurd cc
+
+-- the answer is in the version that came, and with codes none without a nonce
+pub answered_as_it_came : answered_by (record hello { version = Second }) (PlainOne (idle (phases.Asked hello) None)) ≡ PlainOne (idle (phases.Asked hello) (Some hello))
+answered_as_it_came = refl
+
+pub no_answer_without_a_nonce : (c : CodedConnection) → answered_by hello (CodedOne c) ≡ CodedOne c
+no_answer_without_a_nonce c = refl
+
+-- a piece that comes isn't lost
+pub piece_lost : TakesIn (1 ∷ []) (PlainOne (idle (phases.Open hello) None)) (PlainOne (idle (phases.Open hello) None)) → ⊥
+piece_lost takes = let e : ◌≡◌ {A = List ℕ} [] (1 ∷ []) = takes.1 in absurd cc
 
 -- ---- when a peer is dialled: moments in microseconds
 
@@ -266,10 +398,10 @@ pub pause_waited_for : due_of (ended_dial (dials.Dialled 1000 500000) 2000 (Some
 pause_waited_for = refl
 
 -- another match, once and again: a second, two, four, eight and no more
-pub first_refusal : pause_after (faults.OtherMatch Digest) 0 ≡ 1000000
+pub first_refusal : pause_after (faults.OtherMatch (Digest (record { here = 1; there = 2 }))) 0 ≡ 1000000
 first_refusal = refl
 
-pub second_refusal : pause_after (faults.OtherMatch Digest) 1000000 ≡ 2000000
+pub second_refusal : pause_after (faults.OtherMatch (Digest (record { here = 1; there = 2 }))) 1000000 ≡ 2000000
 second_refusal = refl
 
 pub fifth_refusal : pause_after faults.WrongProof 8000000 ≡ 8000000
@@ -407,16 +539,24 @@ other_ballot = refl
 -- ---- callers who were refused
 
 abbrev refusals : Refusals
-refusals = record { since = Some (record { count = 2; fault = faults.UnexpectedRecord }); noted = Some 5000 }
+refusals = record {
+  peer = None;
+  since = None ∷ None ∷ None ∷ Some (record { count = 1; fault = faults.OtherMatch Nodes }) ∷ None ∷ None ∷ Some (record { count = 2; fault = faults.UnexpectedRecord }) ∷ None ∷ None ∷ [];
+  noted = None ∷ None ∷ None ∷ None ∷ None ∷ None ∷ Some 5000 ∷ None ∷ None ∷ [];
+}
 
-pub not_noted_yet : noted refusals 1004999 ≡ None
+pub not_noted_yet : due_at refusals 6 1004999 ≡ None
 not_noted_yet = refl
 
-pub noted_a_second_later : noted refusals 1005000 ≡ Some (record { count = 2; fault = faults.UnexpectedRecord })
+pub noted_a_second_later : due_at refusals 6 1005000 ≡ Some (record { count = 2; fault = faults.UnexpectedRecord })
 noted_a_second_later = refl
 
-pub last_fault_told : and_refused faults.AlreadyHere refusals.since ≡ record { count = 3; fault = faults.AlreadyHere }
-last_fault_told = refl
+-- one of another number is noted at once, whatever that one had
+pub other_number_noted : due_at refusals 3 5001 ≡ Some (record { count = 1; fault = faults.OtherMatch Nodes })
+other_number_noted = refl
+
+pub counted : due_at (refused_by (faults.OtherMatch Number) refusals) 3 5001 ≡ Some (record { count = 2; fault = faults.OtherMatch Number })
+counted = refl
 
 pub none_goes_again : is_due (record { last = None; sent = 0 }) 900000 ≡ false
 none_goes_again = refl

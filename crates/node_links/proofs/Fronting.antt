@@ -8,7 +8,6 @@ use Rattle.peer_codes.specs.declared.frame.Frame.{Frame}
 use Rattle.peer_codes.specs.declared.hello.Hello.{Hello}
 use Rattle.peer_codes.specs.declared.kind.Kind.{Kind}
 use Rattle.peer_codes.specs.declared.kind.Kind.TheVariants as kind_of
-use Rattle.peer_codes.specs.declared.records.Record.{Record}
 use Rattle.peer_codes.specs.declared.records.Record.TheVariants as record_of
 use Rattle.peer_codes.specs.Reading.{content_of, is_frame}
 use Rattle.peer_codes.specs.Faults.{needed, kind_in, content_read, reading}

@@ -12,26 +12,32 @@ use Rattle.node_links.specs.declared.heard.Heard.{Heard}
 use Rattle.node_links.specs.declared.phase.Phase.{Phase}
 use Rattle.node_links.specs.declared.phase.Phase.TheVariants as phases
 use Rattle.node_links.specs.declared.plain_connection.PlainConnection.{PlainConnection}
-use Rattle.node_links.specs.Steps.{on_open, step_by}
+use Rattle.node_links.specs.Steps.{on_further, on_open, step_by}
+use Rattle.node_links.specs.Telling.{IsRead, read_behind}
+use Rattle.node_links.specs.declared.further.Further.{Further}
 use Rattle.node_links.specs.Connections.{IsFront, Reads, Next}
 use Rattle.node_links.specs.Hearing.{IsSaid, texts, SaidIsHeard}
 
 abbrev pub ToldApart : Type 0
 ToldApart = (r s : Record) (a b : List ℕ) → IsRecord r → IsRecord s → record_text r ++ a ≡ record_text s ++ b → (r ≡ s) × (a ≡ b)
 
-is_record : (said : Record) → IsSaid said → IsRecord said
-is_record (record_of.Frame frame) is = is
-is_record (record_of.Beat beat) is = is
-is_record (record_of.Hello hello) is = absurd is
-is_record (record_of.Proof proof) is = absurd is
-is_record (record_of.More more) is = absurd is
+is_record : (other : Hello) (said : Record) → IsSaid other said → IsRecord said
+is_record other (record_of.Frame frame) is = is
+is_record other (record_of.Beat beat) is = is
+is_record other (record_of.Hello hello) is = absurd is
+is_record other (record_of.Proof proof) is = absurd is
+is_record other (record_of.More more) is = is.0
 
-stays_open : (other : Hello) (said : Record) → IsSaid said → (on_open other said).phase ≡ phases.Open other
+read_open : (other : Hello) (read : Result Further RecordFault) → IsRead read → (on_further other read).phase ≡ phases.Open other
+read_open other (Ok further) is = refl
+read_open other (Err fault) is = absurd is
+
+stays_open : (other : Hello) (said : Record) → IsSaid other said → (on_open other said).phase ≡ phases.Open other
 stays_open other (record_of.Frame frame) is = refl
 stays_open other (record_of.Beat beat) is = refl
 stays_open other (record_of.Hello hello) is = absurd is
 stays_open other (record_of.Proof proof) is = absurd is
-stays_open other (record_of.More more) is = absurd is
+stays_open other (record_of.More more) is = read_open other (read_behind other more) is.1
 
 -- what is read in front of a record's text is that record
 read_is : ToldApart → (bytes : List ℕ) (read : Result Record RecordFault) (left : List ℕ) (said : Record) (rest : List ℕ) → IsRecord said → bytes ≡ record_text said ++ rest → IsFront bytes read left
@@ -47,10 +53,10 @@ record One (old new : PlainConnection) (other : Hello) (told : Result Heard Peer
   pub left : new.came.waiting ≡ rest
 
 -- one call on an open connection
-one_read : ToldApart → (old new : PlainConnection) (other : Hello) (told : Result Heard PeerFault) (said : Record) (rest : List ℕ) → IsSaid said → old.phase ≡ phases.Open other
+one_read : ToldApart → (old new : PlainConnection) (other : Hello) (told : Result Heard PeerFault) (said : Record) (rest : List ℕ) → IsSaid other said → old.phase ≡ phases.Open other
     → old.came.waiting ≡ record_text said ++ rest → Reads old new told → One old new other told said rest
 one_read apart old new other told said rest is is_open text reads =
-    let same = read_is apart old.came.waiting reads.read new.came.waiting said rest (is_record said is) text reads.front in
+    let same = read_is apart old.came.waiting reads.read new.came.waiting said rest (is_record other said is) text reads.front in
     let step : step_by old.phase reads.read ≡ on_open other said = ap (λ (p : Phase). step_by p reads.read) is_open ∙ ap (λ (r : Result Record RecordFault). step_by (phases.Open other) r) same.0 in
     record {
       told_is = reads.told_is ∙ ap (λ s. s.heard) step;

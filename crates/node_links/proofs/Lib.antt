@@ -1,3 +1,5 @@
+pub mod Stepping
+pub mod LivesLaws
 pub mod PlainGoing
 pub mod Fronting
 pub mod Taking
@@ -5,6 +7,7 @@ pub mod CodedGoing
 pub mod CodedSaying
 pub mod Opening
 pub mod Beginning
+pub mod Headings
 mod HistoryLaws
 mod HearingLaws
 mod DialLaws

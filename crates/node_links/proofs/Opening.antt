@@ -21,7 +21,7 @@ hello_is : (a b : Hello) → Some a ≡ Some b → a ≡ b
 hello_is a b e = cc
 
 plain_opens : (own : Own) (dialled : Option ℕ) (came waiting : List ℕ) (phase : Phase) (hello : Hello) → Some hello ≡ taken_in phase → PlainAt own dialled came waiting phase → OpensPlain own hello dialled came
-plain_opens own dialled came waiting phases.Greeting hello e at = absurd cc
+plain_opens own dialled came waiting (phases.Greeting mine) hello e at = absurd cc
 plain_opens own dialled came waiting (phases.Asked theirs) hello e at = absurd cc
 plain_opens own dialled came waiting (phases.Closed fault) hello e at = absurd cc
 plain_opens own dialled came waiting (phases.Open theirs) hello e at =
@@ -34,6 +34,7 @@ proved_opens key own talk out (Some mine) theirs waiting phase begins takes at =
   mine = mine;
   nonce = begins.0;
   first = at.first;
+  version = at.version;
   takes = takes;
   hello = at.hello;
   hello_is = at.hello_is;

@@ -2,12 +2,14 @@
 use Rattle.std.proofs.Common.{◌≡◌, ℕ, ◌==◌, Bool, true, false, if◌then◌else◌, List, [], ◌∷◌, ◌++◌, length, append_assoc, append-nil, Option, Some, None, Result, Ok, Err, refl, sym, ap, subst, ◌∙◌}
 use Rattle.std.proofs.Math.Logic.{∥∥₁_map}
 use Rattle.peer_codes.specs.declared.fault.RecordFault.{RecordFault}
-use Rattle.peer_codes.specs.declared.frame.Frame.{Frame}
 use Rattle.peer_codes.specs.declared.hello.Hello.{Hello}
+use Rattle.peer_codes.specs.declared.key.Key.{Key}
+use Rattle.peer_codes.specs.declared.version.Version.{Version}
 use Rattle.peer_codes.specs.declared.records.Record.{Record}
 use Rattle.peer_codes.specs.declared.records.Record.TheVariants as record_of
 use Rattle.peer_codes.specs.Fits.{IsRecord}
 use Rattle.peer_codes.specs.Spelling.{record_text}
+use Rattle.node_links.specs.declared.further.Further.{Further}
 use Rattle.node_links.specs.declared.heard.Heard.{Heard}
 use Rattle.node_links.specs.declared.heard.Heard.TheVariants as heards
 use Rattle.node_links.specs.declared.peer_fault.PeerFault.{PeerFault}
@@ -21,14 +23,13 @@ use Rattle.node_links.specs.Outgoings.{unwritten}
 use Rattle.node_links.specs.Connections.{IsFront, Reads, Next, peer_in, said_next, begun_open, begun_by, begun_first, begun_next}
 use Rattle.node_links.specs.Hearing.{IsSaid, AreSaid, texts}
 use Rattle.node_links.specs.Judging.{judged}
-use Rattle.node_links.specs.Steps.{stepped, step_by, opened, settled}
+use Rattle.node_links.specs.Steps.{is_version, on_further, stepped, step_by, opened, settled}
+use Rattle.node_links.specs.Telling.{IsRead, read_behind}
 use Rattle.node_links.specs.Waits.{Waits}
 use Rattle.node_links.specs.Waiting.{next_of, has_next}
-use Rattle.node_links.specs.Talks.{Talk, SaysPlain, SaysBy, Says}
-use Rattle.node_links.specs.Going.{PlainAt, GoesOn, GoesOnWith, GoesOnWritten, Goes, silence, peer_of, TellsFrame}
-
-abbrev Told : Type 0
-Told = Result Heard PeerFault
+use Rattle.node_links.specs.Talks.{Talk, SaysPlain, HeardBy, SaysHeard}
+use Rattle.node_links.specs.Going.{PlainAt, GoesOn, GoesOnWith, GoesOnWritten, Goes, silence, peer_of, Tells}
+use Rattle.node_links.proofs.Stepping.{Told, greeted_phase, greeted_heard, further_phase, further_heard}
 
 -- ---- texts
 
@@ -37,14 +38,14 @@ one_more [] r rest = ap (λ (t : List ℕ). t ++ rest) (append-nil (record_text 
 one_more (s ∷ said) r rest =
     append_assoc (record_text s) (texts (said ++ r ∷ [])) rest ∙ (ap (λ (t : List ℕ). record_text s ++ t) (one_more said r rest) ∙ sym (append_assoc (record_text s) (texts said) (record_text r ++ rest)))
 
-are_more : (said : List Record) (r : Record) → AreSaid said → IsSaid r → AreSaid (said ++ r ∷ [])
-are_more [] r are is = (is, tt)
-are_more (s ∷ said) r are is = (are.0, are_more said r are.1 is)
+are_more : (other : Hello) (said : List Record) (r : Record) → AreSaid other said → IsSaid other r → AreSaid other (said ++ r ∷ [])
+are_more other [] r are is = (is, tt)
+are_more other (s ∷ said) r are is = (are.0, are_more other said r are.1 is)
 
 -- ---- a piece more
 
 piece_at : (own : Own) (dialled : Option ℕ) (came waiting piece : List ℕ) (phase : Phase) → PlainAt own dialled came waiting phase → PlainAt own dialled (came ++ piece) (waiting ++ piece) phase
-piece_at own dialled came waiting piece phases.Greeting at = ap (λ (t : List ℕ). t ++ piece) at
+piece_at own dialled came waiting piece (phases.Greeting mine) at = ap (λ (t : List ℕ). t ++ piece) at
 piece_at own dialled came waiting piece (phases.Asked hello) at = record { is = at.is; text = ap (λ (t : List ℕ). t ++ piece) at.text ∙ append_assoc (record_text (record_of.Hello hello)) waiting piece }
 piece_at own dialled came waiting piece (phases.Open hello) at = record {
   is = at.is;
@@ -58,25 +59,26 @@ piece_at own dialled came waiting piece (phases.Closed fault) at = tt
 
 -- ---- a record
 
-said_at : (own : Own) (dialled : Option ℕ) (came waiting rest : List ℕ) (hello : Hello) (r : Record) → IsSaid r → waiting ≡ record_text r ++ rest → PlainAt own dialled came waiting (phases.Open hello) → PlainAt own dialled came rest (phases.Open hello)
+said_at : (own : Own) (dialled : Option ℕ) (came waiting rest : List ℕ) (hello : Hello) (r : Record) → IsSaid hello r → waiting ≡ record_text r ++ rest → PlainAt own dialled came waiting (phases.Open hello) → PlainAt own dialled came rest (phases.Open hello)
 said_at own dialled came waiting rest hello r is text at = record {
   is = at.is;
   takes = at.takes;
   said = at.said ++ r ∷ [];
-  are = are_more at.said r at.are is;
+  are = are_more hello at.said r at.are is;
   text = at.text ∙ ap (λ (t : List ℕ). record_text (record_of.Hello hello) ++ t) (ap (λ (t : List ℕ). texts at.said ++ t) text ∙ sym (one_more at.said r rest));
 }
 
 stepped_at : (own : Own) (dialled : Option ℕ) (came waiting rest : List ℕ) (phase : Phase) (said : Record) → IsRecord said → waiting ≡ record_text said ++ rest → PlainAt own dialled came waiting phase → PlainAt own dialled came rest (stepped phase said).phase
-stepped_at own dialled came waiting rest phases.Greeting (record_of.Hello hello) is text at = record { is = is; text = at ∙ text }
-stepped_at own dialled came waiting rest phases.Greeting (record_of.Proof proof) is text at = tt
-stepped_at own dialled came waiting rest phases.Greeting (record_of.More more) is text at = tt
-stepped_at own dialled came waiting rest phases.Greeting (record_of.Frame frame) is text at = tt
-stepped_at own dialled came waiting rest phases.Greeting (record_of.Beat beat) is text at = tt
+stepped_at own dialled came waiting rest (phases.Greeting mine) (record_of.Hello hello) is text at = greeted_phase (is_version mine hello.version) (λ (p : Phase). PlainAt own dialled came rest p) hello (λ same. record { is = is; text = at ∙ text }) (λ fault. tt)
+stepped_at own dialled came waiting rest (phases.Greeting mine) (record_of.Proof proof) is text at = tt
+stepped_at own dialled came waiting rest (phases.Greeting mine) (record_of.More more) is text at = tt
+stepped_at own dialled came waiting rest (phases.Greeting mine) (record_of.Frame frame) is text at = tt
+stepped_at own dialled came waiting rest (phases.Greeting mine) (record_of.Beat beat) is text at = tt
 stepped_at own dialled came waiting rest (phases.Asked hello) said is text at = tt
 stepped_at own dialled came waiting rest (phases.Open other) (record_of.Hello hello) is text at = tt
 stepped_at own dialled came waiting rest (phases.Open other) (record_of.Proof proof) is text at = tt
-stepped_at own dialled came waiting rest (phases.Open other) (record_of.More more) is text at = tt
+stepped_at own dialled came waiting rest (phases.Open other) (record_of.More more) is text at =
+    further_phase (read_behind other more) (λ (p : Phase). PlainAt own dialled came rest p) other (λ further read. said_at own dialled came waiting rest other (record_of.More more) (is, subst (λ (r : Result Further RecordFault). IsRead r) (sym read) tt) text at) (λ fault. tt)
 stepped_at own dialled came waiting rest (phases.Open other) (record_of.Frame frame) is text at = said_at own dialled came waiting rest other (record_of.Frame frame) is text at
 stepped_at own dialled came waiting rest (phases.Open other) (record_of.Beat beat) is text at = said_at own dialled came waiting rest other (record_of.Beat beat) is text at
 stepped_at own dialled came waiting rest (phases.Closed fault) said is text at = tt
@@ -101,72 +103,85 @@ same_at own dialled came old new e at = subst (λ (c : PlainConnection). AtOf ow
 next_at : (own : Own) (dialled : Option ℕ) (came : List ℕ) (phase : Phase) (old new : PlainConnection) (result : Option Told) → Next phase old result new → AtOf own dialled came old → AtOf own dialled came new
 next_at own dialled came (phases.Asked hello) old new result next at = same_at own dialled came old new next.1 at
 next_at own dialled came (phases.Closed fault) old new result next at = same_at own dialled came old new next.1 at
-next_at own dialled came phases.Greeting old new None next at = same_at own dialled came old new next.1 at
-next_at own dialled came phases.Greeting old new (Some told) next at = reads_at own dialled came old new told next at
+next_at own dialled came (phases.Greeting mine) old new None next at = same_at own dialled came old new next.1 at
+next_at own dialled came (phases.Greeting mine) old new (Some told) next at = reads_at own dialled came old new told next at
 next_at own dialled came (phases.Open other) old new None next at = same_at own dialled came old new next.1 at
 next_at own dialled came (phases.Open other) old new (Some told) next at = reads_at own dialled came old new told next at
 
--- ---- a frame
+-- ---- what is told
 
-frame_is : (a b : Frame) → ◌≡◌ {A = Told} (Ok (heards.Frame a)) (Ok (heards.Frame b)) → a ≡ b
-frame_is a b e = cc
+heard_is : (a b : Heard) → ◌≡◌ {A = Told} (Ok a) (Ok b) → a ≡ b
+heard_is a b e = cc
 
 from_of : (a b : ℕ) → Some a ≡ Some b → a ≡ b
 from_of a b e = cc
 
-frame_said : (own : Own) (dialled : Option ℕ) (came waiting rest : List ℕ) (hello : Hello) (found frame : Frame) (from : ℕ) → found ≡ frame → hello.ends.from ≡ from → IsRecord (record_of.Frame found) → waiting ≡ record_text (record_of.Frame found) ++ rest
-    → PlainAt own dialled came waiting (phases.Open hello) → SaysPlain own from frame dialled came
-frame_said own dialled came waiting rest hello found frame from same from_is is text at = record {
+abbrev record_said : (own : Own) (dialled : Option ℕ) (came waiting rest : List ℕ) (hello : Hello) (last : Record) (from : ℕ) → hello.ends.from ≡ from → IsRecord last → waiting ≡ record_text last ++ rest
+    → PlainAt own dialled came waiting (phases.Open hello) → SaysPlain own from last dialled came
+record_said own dialled came waiting rest hello last from from_is is text at = record {
   hello = hello;
   is = at.is;
   from_is = from_is;
   takes = at.takes;
   said = at.said;
   are = at.are;
-  frame_is = subst (λ (f : Frame). IsRecord (record_of.Frame f)) same is;
+  last_is = is;
   rest = rest;
-  text =
-      at.text ∙ ap (λ (t : List ℕ). record_text (record_of.Hello hello) ++ (texts at.said ++ t)) (text ∙ ap (λ (f : Frame). record_text (record_of.Frame f) ++ rest) same);
+  text = at.text ∙ ap (λ (t : List ℕ). record_text (record_of.Hello hello) ++ (texts at.said ++ t)) text;
 }
 
-stepped_says : (own : Own) (dialled : Option ℕ) (came waiting rest : List ℕ) (phase : Phase) (said : Record) (frame : Frame) (from : ℕ) → IsRecord said → waiting ≡ record_text said ++ rest → PlainAt own dialled came waiting phase
-    → Ok (heards.Frame frame) ≡ (stepped phase said).heard → peer_in (stepped phase said).phase ≡ Some from → SaysPlain own from frame dialled came
-stepped_says own dialled came waiting rest phases.Greeting (record_of.Hello hello) frame from is text at e peer = absurd cc
-stepped_says own dialled came waiting rest phases.Greeting (record_of.Proof proof) frame from is text at e peer = absurd cc
-stepped_says own dialled came waiting rest phases.Greeting (record_of.More more) frame from is text at e peer = absurd cc
-stepped_says own dialled came waiting rest phases.Greeting (record_of.Frame other) frame from is text at e peer = absurd cc
-stepped_says own dialled came waiting rest phases.Greeting (record_of.Beat beat) frame from is text at e peer = absurd cc
-stepped_says own dialled came waiting rest (phases.Asked hello) said frame from is text at e peer = absurd cc
-stepped_says own dialled came waiting rest (phases.Open other) (record_of.Hello hello) frame from is text at e peer = absurd cc
-stepped_says own dialled came waiting rest (phases.Open other) (record_of.Proof proof) frame from is text at e peer = absurd cc
-stepped_says own dialled came waiting rest (phases.Open other) (record_of.More more) frame from is text at e peer = absurd cc
-stepped_says own dialled came waiting rest (phases.Open other) (record_of.Frame found) frame from is text at e peer =
-    frame_said own dialled came waiting rest other found frame from (frame_is found frame (sym e)) (from_of other.ends.from from peer) is text at
-stepped_says own dialled came waiting rest (phases.Open other) (record_of.Beat beat) frame from is text at e peer = absurd cc
-stepped_says own dialled came waiting rest (phases.Closed fault) said frame from is text at e peer = absurd cc
+abbrev PlainSays : Own → ℕ → Talk → Heard → Type 0
+PlainSays own from talk heard = HeardBy None own from heard talk
 
-step_says : (own : Own) (dialled : Option ℕ) (came waiting rest : List ℕ) (phase : Phase) (read : Result Record RecordFault) (frame : Frame) (from : ℕ) → IsFront waiting read rest → PlainAt own dialled came waiting phase
-    → Ok (heards.Frame frame) ≡ (step_by phase read).heard → peer_in (step_by phase read).phase ≡ Some from → SaysPlain own from frame dialled came
-step_says own dialled came waiting rest phase (Err fault) frame from front at e peer = absurd cc
-step_says own dialled came waiting rest phase (Ok said) frame from front at e peer = stepped_says own dialled came waiting rest phase said frame from front.0 front.1 at e peer
+says_as : (own : Own) (from : ℕ) (talk : Talk) (heard found : Heard) → ◌≡◌ {A = Told} (Ok heard) (Ok found) → PlainSays own from talk found → PlainSays own from talk heard
+says_as own from talk heard found e says = subst (λ (h : Heard). PlainSays own from talk h) (sym (heard_is heard found e)) says
 
-reads_says : (own : Own) (dialled : Option ℕ) (came : List ℕ) (old new : PlainConnection) (frame : Frame) (from : ℕ) → Reads old new (Ok (heards.Frame frame)) → AtOf own dialled came old → peer_in new.phase ≡ Some from → SaysPlain own from frame dialled came
-reads_says own dialled came old new frame from reads at peer =
+stepped_says : (own : Own) (talk : Talk) (waiting rest : List ℕ) (phase : Phase) (said : Record) (heard : Heard) (from : ℕ) → IsRecord said → waiting ≡ record_text said ++ rest → PlainAt own talk.dialled talk.came waiting phase
+    → Ok heard ≡ (stepped phase said).heard → peer_in (stepped phase said).phase ≡ Some from → PlainSays own from talk heard
+stepped_says own talk waiting rest (phases.Greeting mine) (record_of.Hello hello) heard from is text at e peer =
+    greeted_heard (is_version mine hello.version) (λ (t : Told). Ok heard ≡ t → PlainSays own from talk heard) hello (λ f. says_as own from talk heard (heards.Hello hello) f tt) (λ fault f. absurd cc) e
+stepped_says own talk waiting rest (phases.Greeting mine) (record_of.Proof proof) heard from is text at e peer = absurd cc
+stepped_says own talk waiting rest (phases.Greeting mine) (record_of.More more) heard from is text at e peer = absurd cc
+stepped_says own talk waiting rest (phases.Greeting mine) (record_of.Frame frame) heard from is text at e peer = absurd cc
+stepped_says own talk waiting rest (phases.Greeting mine) (record_of.Beat beat) heard from is text at e peer = absurd cc
+stepped_says own talk waiting rest (phases.Asked hello) said heard from is text at e peer = absurd cc
+stepped_says own talk waiting rest (phases.Open other) (record_of.Hello hello) heard from is text at e peer = absurd cc
+stepped_says own talk waiting rest (phases.Open other) (record_of.Proof proof) heard from is text at e peer = absurd cc
+stepped_says own talk waiting rest (phases.Open other) (record_of.More more) heard from is text at e peer =
+    further_heard (read_behind other more) (λ (t : Told). Ok heard ≡ t → PlainSays own from talk heard) other
+    (λ further read f. says_as own from talk heard (heards.Further further) f (
+      more,
+      record_said own talk.dialled talk.came waiting rest other (record_of.More more) from (from_of other.ends.from from (subst (λ (r : Result Further RecordFault). peer_in (on_further other r).phase ≡ Some from) read peer)) is text at,
+      read,
+    )) (λ fault f. absurd cc) e
+stepped_says own talk waiting rest (phases.Open other) (record_of.Frame frame) heard from is text at e peer =
+    says_as own from talk heard (heards.Frame frame) e (record_said own talk.dialled talk.came waiting rest other (record_of.Frame frame) from (from_of other.ends.from from peer) is text at)
+stepped_says own talk waiting rest (phases.Open other) (record_of.Beat beat) heard from is text at e peer =
+    says_as own from talk heard (heards.Beat beat) e (record_said own talk.dialled talk.came waiting rest other (record_of.Beat beat) from (from_of other.ends.from from peer) is text at)
+stepped_says own talk waiting rest (phases.Closed fault) said heard from is text at e peer = absurd cc
+
+step_says : (own : Own) (talk : Talk) (waiting rest : List ℕ) (phase : Phase) (read : Result Record RecordFault) (heard : Heard) (from : ℕ) → IsFront waiting read rest → PlainAt own talk.dialled talk.came waiting phase
+    → Ok heard ≡ (step_by phase read).heard → peer_in (step_by phase read).phase ≡ Some from → PlainSays own from talk heard
+step_says own talk waiting rest phase (Err fault) heard from front at e peer = absurd cc
+step_says own talk waiting rest phase (Ok said) heard from front at e peer = stepped_says own talk waiting rest phase said heard from front.0 front.1 at e peer
+
+reads_says : (own : Own) (talk : Talk) (old new : PlainConnection) (heard : Heard) (from : ℕ) → Reads old new (Ok heard) → AtOf own talk.dialled talk.came old → peer_in new.phase ≡ Some from → PlainSays own from talk heard
+reads_says own talk old new heard from reads at peer =
     let next : new.phase ≡ (step_by old.phase reads.read).phase = ap (λ (c : PlainConnection). c.phase) reads.others in
-    step_says own dialled came old.came.waiting new.came.waiting old.phase reads.read frame from reads.front at reads.told_is (subst (λ (p : Phase). peer_in p ≡ Some from) next peer)
+    step_says own talk old.came.waiting new.came.waiting old.phase reads.read heard from reads.front at reads.told_is (subst (λ (p : Phase). peer_in p ≡ Some from) next peer)
 
 none_told : (told : Told) → Some told ≡ None → ⊥
 none_told told e = absurd cc
 
-fault_told : (frame : Frame) (fault : PeerFault) → ◌≡◌ {A = Option Told} (Some (Ok (heards.Frame frame))) (Some (Err fault)) → ⊥
-fault_told frame fault e = absurd cc
+fault_told : (heard : Heard) (fault : PeerFault) → ◌≡◌ {A = Option Told} (Some (Ok heard)) (Some (Err fault)) → ⊥
+fault_told heard fault e = absurd cc
 
-next_says : (own : Own) (dialled : Option ℕ) (came : List ℕ) (phase : Phase) (old new : PlainConnection) (frame : Frame) (from : ℕ) → Next phase old (Some (Ok (heards.Frame frame))) new → AtOf own dialled came old → peer_in new.phase ≡ Some from
-    → SaysPlain own from frame dialled came
-next_says own dialled came (phases.Asked hello) old new frame from next at peer = absurd (none_told (Ok (heards.Frame frame)) next.0)
-next_says own dialled came (phases.Closed fault) old new frame from next at peer = absurd (fault_told frame fault next.0)
-next_says own dialled came phases.Greeting old new frame from next at peer = reads_says own dialled came old new frame from next at peer
-next_says own dialled came (phases.Open other) old new frame from next at peer = reads_says own dialled came old new frame from next at peer
+next_says : (own : Own) (talk : Talk) (phase : Phase) (old new : PlainConnection) (heard : Heard) (from : ℕ) → Next phase old (Some (Ok heard)) new → AtOf own talk.dialled talk.came old → peer_in new.phase ≡ Some from
+    → PlainSays own from talk heard
+next_says own talk (phases.Asked hello) old new heard from next at peer = absurd (none_told (Ok heard) next.0)
+next_says own talk (phases.Closed fault) old new heard from next at peer = absurd (fault_told heard fault next.0)
+next_says own talk (phases.Greeting mine) old new heard from next at peer = reads_says own talk old new heard from next at peer
+next_says own talk (phases.Open other) old new heard from next at peer = reads_says own talk old new heard from next at peer
 
 -- ---- a Hello that is judged
 
@@ -176,7 +191,7 @@ opened_at own dialled met came waiting hello (Ok done) is at = record { is = at.
 opened_at own dialled met came waiting hello (Err fault) is at = tt
 
 settled_at : (own : Own) (dialled : Option ℕ) (met : List Met) (came waiting : List ℕ) (phase : Phase) → PlainAt own dialled came waiting phase → PlainAt own dialled came waiting (settled own dialled met phase)
-settled_at own dialled met came waiting phases.Greeting at = at
+settled_at own dialled met came waiting (phases.Greeting mine) at = at
 settled_at own dialled met came waiting (phases.Asked hello) at = opened_at own dialled met came waiting hello (judged own dialled met hello) refl at
 settled_at own dialled met came waiting (phases.Open hello) at = at
 settled_at own dialled met came waiting (phases.Closed fault) at = tt
@@ -195,8 +210,8 @@ either_alike true c w p is = is
 either_alike false c w p is = (refl, refl)
 
 by_alike : (phase : Phase) (c : PlainConnection) (w : Waits) → IsAlike (begun_by phase c w).0 c
-by_alike (phases.Open other) c w = either_alike (has_next w) c w (begun_open c w) (said_alike c (next_of w))
-by_alike phases.Greeting c w = (refl, refl)
+by_alike (phases.Open other) c w = either_alike (has_next other.version w) c w (begun_open other.version c w) (said_alike c (next_of other.version w))
+by_alike (phases.Greeting mine) c w = (refl, refl)
 by_alike (phases.Asked hello) c w = (refl, refl)
 by_alike (phases.Closed fault) c w = (refl, refl)
 
@@ -214,8 +229,8 @@ begun_alike c w = either_alike (length (unwritten c.out) == 0) c w (begun_first 
 alike_at : (own : Own) (dialled : Option ℕ) (came : List ℕ) (old new : PlainConnection) → IsAlike new old → AtOf own dialled came old → AtOf own dialled came new
 alike_at own dialled came old new alike at = subst (λ (p : Phase). PlainAt own dialled came new.came.waiting p) (sym alike.1) (subst (λ (w : List ℕ). PlainAt own dialled came w old.phase) (sym alike.0) at)
 
-pub plain_begins : (own : Own) (dialled : Option ℕ) (c : PlainConnection) → own.key ≡ None → c.came.waiting ≡ [] → c.phase ≡ phases.Greeting → Goes own (silence dialled) (Plain c)
-plain_begins own dialled c key waiting phase = ∣ (key, subst (λ (p : Phase). PlainAt own dialled [] c.came.waiting p) (sym phase) (sym waiting)) ∣₁
+pub plain_begins : (own : Own) (dialled : Option ℕ) (mine : Option Version) (c : PlainConnection) → own.key ≡ None → c.came.waiting ≡ [] → c.phase ≡ phases.Greeting mine → Goes own (silence dialled) (Plain c)
+plain_begins own dialled mine c key waiting phase = ∣ (key, subst (λ (p : Phase). PlainAt own dialled [] c.came.waiting p) (sym phase) (sym waiting)) ∣₁
 
 pub plain_takes : (old new : PlainConnection) (piece : List ℕ) → new.came.waiting ≡ old.came.waiting ++ piece → new.phase ≡ old.phase → GoesOnWith (Plain old) (Plain new) piece
 plain_takes old new piece waiting phase own talk goes =
@@ -228,19 +243,15 @@ plain_takes old new piece waiting phase own talk goes =
 pub plain_nexts : (old new : PlainConnection) (result : Option Told) → Next old.phase old result new → GoesOn (Plain old) (Plain new)
 plain_nexts old new result next own talk goes = ∥∥₁_map goes (λ g. (g.0, next_at own talk.dialled talk.came old.phase old new result next g.1))
 
-says_by : (own : Own) (from : ℕ) (frame : Frame) (talk : Talk) → own.key ≡ None → SaysPlain own from frame talk.dialled talk.came → Says own from frame talk
-says_by own from frame talk none says = subst (λ (k : Option _). SaysBy k own from frame talk) (sym none) says
+plain_told : (old new : PlainConnection) (heard : Heard) → Next old.phase old (Some (Ok heard)) new → (own : Own) (talk : Talk) (from : ℕ) → Goes own talk (Plain old) → peer_of (Plain new) ≡ Some from
+    → ∥ SaysHeard own from heard talk ∥₁
+plain_told old new heard next own talk from goes peer =
+    ∥∥₁_map goes (λ g. subst (λ (k : Option Key). HeardBy k own from heard talk) (sym g.0) (next_says own talk old.phase old new heard from next g.1 peer))
 
-plain_tells : (old new : PlainConnection) (frame : Frame) → Next old.phase old (Some (Ok (heards.Frame frame))) new → (own : Own) (talk : Talk) (from : ℕ) → Goes own talk (Plain old) → peer_of (Plain new) ≡ Some from → ∥ Says own from frame talk ∥₁
-plain_tells old new frame next own talk from goes peer = ∥∥₁_map goes (λ g. says_by own from frame talk g.0 (next_says own talk.dialled talk.came old.phase old new frame from next g.1 peer))
-
-pub plain_frames : (old new : PlainConnection) (result : Option Told) → Next old.phase old result new → TellsFrame result (Plain old) (Plain new)
-plain_frames old new None next = tt
-plain_frames old new (Some (Err fault)) next = tt
-plain_frames old new (Some (Ok (heards.Hello hello))) next = tt
-plain_frames old new (Some (Ok (heards.Proved hello))) next = tt
-plain_frames old new (Some (Ok (heards.Beat beat))) next = tt
-plain_frames old new (Some (Ok (heards.Frame frame))) next = plain_tells old new frame next
+pub plain_tells : (old new : PlainConnection) (result : Option Told) → Next old.phase old result new → Tells result (Plain old) (Plain new)
+plain_tells old new None next = tt
+plain_tells old new (Some (Err fault)) next = tt
+plain_tells old new (Some (Ok heard)) next = plain_told old new heard next
 
 pub plain_settles : (own : Own) (dialled : Option ℕ) (met : List Met) (old new : PlainConnection) → new.came.waiting ≡ old.came.waiting → new.phase ≡ settled own dialled met old.phase → (talk : Talk) → talk.dialled ≡ dialled
     → Goes own talk (Plain old) → Goes own talk (Plain new)

@@ -1,7 +1,6 @@
 -- What waits for a peer, taken one after another.
-use Rattle.std.proofs.Common.{◌≡◌, List, [], ◌∷◌, Option, Some, None, refl, ap}
+use Rattle.std.proofs.Common.{◌≡◌, List, [], ◌∷◌, Some, None, refl, ap}
 use Rattle.peer_codes.specs.declared.frame.Frame.{Frame}
-use Rattle.peer_codes.specs.declared.records.Record.{Record}
 use Rattle.peer_codes.specs.declared.records.Record.TheVariants as record_of
 use Rattle.node_links.specs.Waiting.{first_of, first_frame}
 

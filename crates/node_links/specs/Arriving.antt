@@ -13,6 +13,7 @@ heard_as (arrivals.Hello hello) frame = heards.Hello hello
 heard_as (arrivals.Proved hello) frame = heards.Proved hello
 heard_as arrivals.Frame frame = heards.Frame frame
 heard_as (arrivals.Beat beat) frame = heards.Beat beat
+heard_as (arrivals.Further further) frame = heards.Further further
 
 -- what is told, where the buffer has this frame
 abbrev pub told : Option (Result Arrived PeerFault) → Frame → Option (Result Heard PeerFault)

@@ -2,8 +2,7 @@
 use Rattle.std.specs.Prelude.{◌≡◌, ℕ, nat_le, ◌==◌, ◌&&◌, Bool, true, false, if◌then◌else◌, List, length, Option, Some, None, is_none, Result, Ok, Err}
 use Rattle.peer_codes.specs.declared.limits.TheConstants.{LEAST_FRAME}
 use Rattle.peer_codes.specs.declared.version.Version.{Version}
-use Rattle.peer_codes.specs.declared.version.Version.TheVariants.{First, Second}
-use Rattle.peer_codes.specs.declared.fault.RecordFault.TheVariants.{BadHello}
+use Rattle.peer_codes.specs.declared.fault.RecordFault.{RecordFault}
 use Rattle.peer_codes.specs.declared.connection_fault.ConnectionFault.{ConnectionFault}
 use Rattle.peer_codes.specs.declared.connection_fault.ConnectionFault.TheVariants as channel_faults
 use Rattle.peer_codes.specs.declared.event.Event.{Event}
@@ -20,6 +19,7 @@ use Rattle.node_links.specs.declared.own.Own.{Own}
 use Rattle.node_links.specs.declared.own.Met.{Met}
 use Rattle.node_links.specs.declared.peer_fault.PeerFault.{PeerFault}
 use Rattle.node_links.specs.declared.peer_fault.PeerFault.TheVariants as faults
+use Rattle.node_links.specs.declared.further.Further.{Further}
 use Rattle.node_links.specs.declared.heard.Heard.{Heard}
 use Rattle.node_links.specs.declared.heard.Heard.TheVariants as heards
 use Rattle.node_links.specs.declared.stage.Stage.{Stage}
@@ -27,6 +27,7 @@ use Rattle.node_links.specs.declared.stage.Stage.TheVariants as stages
 use Rattle.node_links.specs.declared.coded_step.CodedStep.{CodedStep}
 use Rattle.node_links.specs.declared.coded_connection.CodedConnection.{CodedConnection}
 use Rattle.node_links.specs.Judging.{judged_match, judged_known}
+use Rattle.node_links.specs.Telling.{read_behind}
 use Rattle.node_links.specs.Waits.{Waits}
 use Rattle.node_links.specs.Waiting.{next_of, rest_of, has_next}
 
@@ -41,14 +42,9 @@ peer_fault_of channel_faults.UnexpectedRecord = faults.UnexpectedRecord
 abbrev pub closed : PeerFault → CodedStep
 closed fault = record { stage = stages.Closed fault; heard = Err fault }
 
--- one of the first version is judged next; here none speaks another
-abbrev pub greeted : Version → Hello → CodedStep
-greeted First hello = record { stage = stages.Asked hello; heard = Ok (heards.Hello hello) }
-greeted Second hello = closed (faults.Record BadHello)
-
--- first of all comes a Hello
+-- first of all comes a Hello, which is judged next
 abbrev pub on_greeting : Event → CodedStep
-on_greeting (events.Greeted hello) = greeted hello.version hello
+on_greeting (events.Greeted hello) = record { stage = stages.Asked hello; heard = Ok (heards.Hello hello) }
 on_greeting events.Opened = closed faults.UnexpectedRecord
 on_greeting (events.Frame frame) = closed faults.UnexpectedRecord
 on_greeting (events.Beat beat) = closed faults.UnexpectedRecord
@@ -62,13 +58,18 @@ on_matched hello (events.Frame frame) = closed faults.UnexpectedRecord
 on_matched hello (events.Beat beat) = closed faults.UnexpectedRecord
 on_matched hello (events.More more) = closed faults.UnexpectedRecord
 
--- and then frames and beats
+-- a record of a further kind tells this, or closes the connection
+abbrev pub on_further : Hello → Result Further RecordFault → CodedStep
+on_further hello (Ok further) = record { stage = stages.Open hello; heard = Ok (heards.Further further) }
+on_further hello (Err fault) = closed (faults.Record fault)
+
+-- and then frames, beats and records of further kinds
 abbrev pub on_open : Hello → Event → CodedStep
 on_open hello (events.Frame frame) = record { stage = stages.Open hello; heard = Ok (heards.Frame frame) }
 on_open hello (events.Beat beat) = record { stage = stages.Open hello; heard = Ok (heards.Beat beat) }
 on_open hello (events.Greeted other) = closed faults.UnexpectedRecord
 on_open hello events.Opened = closed faults.UnexpectedRecord
-on_open hello (events.More more) = closed faults.UnexpectedRecord
+on_open hello (events.More more) = on_further hello (read_behind hello more)
 
 abbrev pub on_event : Stage → Event → CodedStep
 on_event stages.Greeting event = on_greeting event
@@ -151,30 +152,26 @@ fault_at (stages.Open hello) = None
 
 -- ---- what is written
 
--- the own Hello, in the version in which those that are taken came
-abbrev pub in_first : Hello → Hello
-in_first own = record own { version = First }
-
 abbrev pub and_frame : Option Frame → Frame → Option Frame
 and_frame None frame = Some frame
 and_frame (Some other) frame = Some other
 
--- the channel has this beat or frame to say next
+-- the channel has this to say next
 abbrev pub given : Channel → Option Record → Channel
 given c None = c
 given c (Some (record_of.Beat beat)) = record c { out = record c.out { beat = Some beat } }
 given c (Some (record_of.Frame frame)) = if nat_le LEAST_FRAME (length frame.bytes.items) then record c { out = record c.out { frame = and_frame c.out.frame frame } } else c
 given c (Some (record_of.Hello hello)) = c
 given c (Some (record_of.Proof proof)) = c
-given c (Some (record_of.More more)) = c
+given c (Some (record_of.More more)) = channels.with_more (channels.takes_more c.phase c.out.more more.kind) more c
 
 -- what waits next is coded now, and waits no longer
-abbrev pub begun_open : CodedConnection → Waits → CodedConnection × Waits
-begun_open c w = (record c { channel = channels.begun_next (given c.channel (next_of w)) }, rest_of w)
+abbrev pub begun_open : Version → CodedConnection → Waits → CodedConnection × Waits
+begun_open version c w = (record c { channel = channels.begun_next (given c.channel (next_of version w)) }, rest_of version w)
 
 -- only on an open connection, and where something waits
 abbrev pub begun_by : Stage → CodedConnection → Waits → CodedConnection × Waits
-begun_by (stages.Open hello) c w = if has_next w then begun_open c w else (c, w)
+begun_by (stages.Open hello) c w = if has_next hello.version w then begun_open hello.version c w else (c, w)
 begun_by stages.Greeting c w = (c, w)
 begun_by (stages.Asked hello) c w = (c, w)
 begun_by (stages.Matched hello) c w = (c, w)

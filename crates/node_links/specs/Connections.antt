@@ -7,6 +7,7 @@ use Rattle.peer_codes.specs.declared.records.Record.TheVariants as record_of
 use Rattle.peer_codes.specs.Fits.{IsRecord}
 use Rattle.peer_codes.specs.Spelling.{record_text}
 use Rattle.peer_codes.specs.Faults.{IsPartial, IsFaulty}
+use Rattle.peer_codes.specs.declared.version.Version.{Version}
 use Rattle.node_links.specs.declared.peer_fault.PeerFault.{PeerFault}
 use Rattle.node_links.specs.declared.heard.Heard.{Heard}
 use Rattle.node_links.specs.declared.phase.Phase.{Phase}
@@ -40,20 +41,20 @@ ReadsOrWaits old (Some told) new = Reads old new told
 abbrev pub Next : Phase → PlainConnection → Option (Result Heard PeerFault) → PlainConnection → Type 0
 Next (phases.Asked hello) old result new = (result ≡ None) × (new ≡ old)
 Next (phases.Closed fault) old result new = (result ≡ Some (Err fault)) × (new ≡ old)
-Next phases.Greeting old result new = ReadsOrWaits old result new
+Next (phases.Greeting mine) old result new = ReadsOrWaits old result new
 Next (phases.Open other) old result new = ReadsOrWaits old result new
 
 -- the node at the other end of a connection that is open
 abbrev pub peer_in : Phase → Option ℕ
 peer_in (phases.Open other) = Some other.ends.from
-peer_in phases.Greeting = None
+peer_in (phases.Greeting mine) = None
 peer_in (phases.Asked hello) = None
 peer_in (phases.Closed fault) = None
 
 -- what closed it
 abbrev pub fault_in : Phase → Option PeerFault
 fault_in (phases.Closed fault) = Some fault
-fault_in phases.Greeting = None
+fault_in (phases.Greeting mine) = None
 fault_in (phases.Asked hello) = None
 fault_in (phases.Open other) = None
 
@@ -65,13 +66,13 @@ said_next c None = c
 said_next c (Some said) = record c { out = with_begun (record_text said) c.out }
 
 -- what waits next is begun, and waits no longer
-abbrev pub begun_open : PlainConnection → Waits → PlainConnection × Waits
-begun_open c w = (said_next c (next_of w), rest_of w)
+abbrev pub begun_open : Version → PlainConnection → Waits → PlainConnection × Waits
+begun_open version c w = (said_next c (next_of version w), rest_of version w)
 
 -- nothing is said before the connection is open, nor where nothing waits
 abbrev pub begun_by : Phase → PlainConnection → Waits → PlainConnection × Waits
-begun_by (phases.Open other) c w = if has_next w then begun_open c w else (c, w)
-begun_by phases.Greeting c w = (c, w)
+begun_by (phases.Open other) c w = if has_next other.version w then begun_open other.version c w else (c, w)
+begun_by (phases.Greeting mine) c w = (c, w)
 begun_by (phases.Asked hello) c w = (c, w)
 begun_by (phases.Closed fault) c w = (c, w)
 

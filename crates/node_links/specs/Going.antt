@@ -1,7 +1,6 @@
 -- What a connection goes by: how far it is, by all that came over it and was written to it.
 use Rattle.std.specs.Prelude.{◌≡◌, ◌⊎◌, ℕ, true, List, [], ◌++◌, take, Option, Some, None, Result, Ok, Err}
 use Rattle.peer_codes.specs.declared.hello.Hello.{Hello}
-use Rattle.peer_codes.specs.declared.version.Version.TheVariants.{First}
 use Rattle.peer_codes.specs.declared.hello.Link.{Link}
 use Rattle.peer_codes.specs.declared.key.Key.{Key}
 use Rattle.peer_codes.specs.declared.kind.Kind.TheVariants as kind_of
@@ -21,7 +20,6 @@ use Rattle.peer_codes.specs.Steps.{is_coded, proving}
 use Rattle.node_links.specs.declared.own.Own.{Own}
 use Rattle.node_links.specs.declared.peer_fault.PeerFault.{PeerFault}
 use Rattle.node_links.specs.declared.heard.Heard.{Heard}
-use Rattle.node_links.specs.declared.heard.Heard.TheVariants as heards
 use Rattle.node_links.specs.declared.phase.Phase.{Phase}
 use Rattle.node_links.specs.declared.phase.Phase.TheVariants as phases
 use Rattle.node_links.specs.declared.stage.Stage.{Stage}
@@ -33,7 +31,7 @@ use Rattle.node_links.specs.Connections.{peer_in, fault_in}
 use Rattle.node_links.specs.Hearing.{AreSaid, texts}
 use Rattle.node_links.specs.Judging.{judged_match}
 use Rattle.node_links.specs.Outgoings as plain
-use Rattle.node_links.specs.Talks.{Talk, Takes, TakesCoded, Piece, way_behind, AreCodedOn, bytes_of, role_of, hellos_of, their_way, their_proof, IsHelloIn, IsOfKind, IsWritten, Says, Opens}
+use Rattle.node_links.specs.Talks.{Talk, Takes, TakesCoded, Piece, way_behind, AreCodedOn, bytes_of, role_of, hellos_of, their_way, their_proof, IsHelloIn, IsOfKind, IsWritten, SaysHeard, Opens}
 
 -- ---- without codes
 
@@ -42,16 +40,16 @@ pub record PlainGreeted (came waiting : List ℕ) (hello : Hello) : Type 0 where
   pub is : IsRecord (record_of.Hello hello)
   pub text : came ≡ record_text (record_of.Hello hello) ++ waiting
 
--- all that came: this Hello, which was taken, then these frames and beats, and then so much that isn't read yet
+-- all that came: this Hello, which was taken, then these frames, beats and records of further kinds, and then so much that isn't read yet
 pub record PlainSpoke (own : Own) (dialled : Option ℕ) (came waiting : List ℕ) (hello : Hello) : Type 0 where
   pub is : IsRecord (record_of.Hello hello)
   pub takes : Takes own dialled hello
   pub said : List Record
-  pub are : AreSaid said
+  pub are : AreSaid hello said
   pub text : came ≡ record_text (record_of.Hello hello) ++ (texts said ++ waiting)
 
 abbrev pub PlainAt : Own → Option ℕ → List ℕ → List ℕ → Phase → Type 0
-PlainAt own dialled came waiting phases.Greeting = came ≡ waiting
+PlainAt own dialled came waiting (phases.Greeting mine) = came ≡ waiting
 PlainAt own dialled came waiting (phases.Asked hello) = PlainGreeted came waiting hello
 PlainAt own dialled came waiting (phases.Open hello) = PlainSpoke own dialled came waiting hello
 PlainAt own dialled came waiting (phases.Closed fault) = Unit {0}
@@ -64,11 +62,10 @@ Begins None wrote out = (wrote ++ unwritten out ≡ []) × (out.hello ≡ None) 
 Begins (Some mine) wrote out =
     IsCoded mine × (((wrote ++ unwritten out ≡ []) × (out.hello ≡ Some mine)) ⊎ ((out.hello ≡ None) × ((more : List ℕ) × (wrote ++ unwritten out ≡ record_text (record_of.Hello mine) ++ more))))
 
--- the other's Hello came, of the first version, and so much behind it isn't read yet
+-- the other's Hello came, and so much behind it isn't read yet
 pub record Greeted (came waiting : List ℕ) (theirs : Hello) : Type 0 where
   pub hello : List ℕ
   pub is : IsHelloIn theirs hello
-  pub first : theirs.version ≡ First
   pub text : came ≡ hello ++ waiting
 
 -- who dialled has its own Hello from the beginning, and who was dialled has none yet
@@ -77,18 +74,19 @@ HasHello None mine = mine ≡ None
 HasHello (Some number) None = ⊥
 HasHello (Some number) (Some mine) = Unit {0}
 
--- it waits for the answer of who was dialled, or for the other's proof over both
+-- it waits for the answer of who was dialled, or for the other's proof over both, which are of one version
 abbrev pub Awaits : Key → Option ℕ → Option Hello → Hello → ChannelPhase → Type 0
 Awaits key dialled None theirs phase = (dialled ≡ None) × (phase ≡ channel_phases.Asked theirs)
-Awaits key dialled (Some mine) theirs phase = phase ≡ proving key.bytes (role_of dialled) (across (role_of dialled)) (hellos_of (role_of dialled) mine theirs)
+Awaits key dialled (Some mine) theirs phase = (mine.version ≡ theirs.version) × (phase ≡ proving key.bytes (role_of dialled) (across (role_of dialled)) (hellos_of (role_of dialled) mine theirs))
 
 abbrev pub Matches : Own → Option ℕ → Hello → Type 0
 Matches own dialled theirs = judged_match own dialled theirs ≡ Ok tt
 
--- the own Hello was written; the other's came, then its proof over both, then records coded on its way, and so much that
+-- the own Hello was written; the other's came, of the same version, then its proof over both, then records coded on its way, and so much that
 -- isn't read yet
 pub record Proved (key : Key) (role : Role) (mine theirs : Hello) (wrote came waiting : List ℕ) (phase : ChannelPhase) : Type 0 where
   pub first : IsWritten mine wrote
+  pub version : mine.version ≡ theirs.version
   pub ways : Ways
   pub open_is : phase ≡ channel_phases.Open ways
   pub hello : List ℕ
@@ -169,7 +167,7 @@ peer_of (Coded c) = peer_at c.stage
 
 abbrev pub taken_in : Phase → Option Hello
 taken_in (phases.Open hello) = Some hello
-taken_in phases.Greeting = None
+taken_in (phases.Greeting mine) = None
 taken_in (phases.Asked hello) = None
 taken_in (phases.Closed fault) = None
 
@@ -201,11 +199,8 @@ abbrev pub IsOfKey : Option Key → Link → Type 0
 IsOfKey None link = Unit {0}
 IsOfKey (Some key) link = is_coded link ≡ true
 
--- a frame that a connection tells is one that came as it has to
-abbrev pub TellsFrame : Option (Result Heard PeerFault) → Connection → Connection → Type 0
-TellsFrame None old new = Unit {0}
-TellsFrame (Some (Err fault)) old new = Unit {0}
-TellsFrame (Some (Ok (heards.Hello hello))) old new = Unit {0}
-TellsFrame (Some (Ok (heards.Proved hello))) old new = Unit {0}
-TellsFrame (Some (Ok (heards.Beat beat))) old new = Unit {0}
-TellsFrame (Some (Ok (heards.Frame frame))) old new = (own : Own) (talk : Talk) (from : ℕ) → Goes own talk old → peer_of new ≡ Some from → ∥ Says own from frame talk ∥₁
+-- what a connection tells of its peer came as it has to
+abbrev pub Tells : Option (Result Heard PeerFault) → Connection → Connection → Type 0
+Tells None old new = Unit {0}
+Tells (Some (Err fault)) old new = Unit {0}
+Tells (Some (Ok heard)) old new = (own : Own) (talk : Talk) (from : ℕ) → Goes own talk old → peer_of new ≡ Some from → ∥ SaysHeard own from heard talk ∥₁

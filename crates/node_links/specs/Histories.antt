@@ -2,6 +2,7 @@
 use Rattle.std.specs.Prelude.{◌≡◌, ◌⊎◌, ℕ, List, [], ◌∷◌, Option, Result, Ok}
 use Rattle.peer_codes.specs.declared.fault.RecordFault.{RecordFault}
 use Rattle.peer_codes.specs.declared.hello.Hello.{Hello}
+use Rattle.peer_codes.specs.declared.version.Version.{Version}
 use Rattle.peer_codes.specs.declared.records.Record.{Record}
 use Rattle.peer_codes.specs.declared.records.Record.TheVariants as record_of
 use Rattle.node_links.specs.declared.own.Own.{Own}
@@ -24,10 +25,11 @@ abbrev pub phase_after : Phase → Happening → Phase
 phase_after phase (Came read) = (step_by phase read).phase
 phase_after phase (Judged own dialled met) = settled own dialled met phase
 
--- how far a connection is behind all that happened to it, the newest first
-abbrev pub phase_behind : List Happening → Phase
-phase_behind [] = phases.Greeting
-phase_behind (happening ∷ before) = phase_after (phase_behind before) happening
+-- how far a connection is, of the side that dialled in this version or was dialled, behind all that happened to it, the newest
+-- first
+abbrev pub phase_behind : Option Version → List Happening → Phase
+phase_behind mine [] = phases.Greeting mine
+phase_behind mine (happening ∷ before) = phase_after (phase_behind mine before) happening
 
 -- one of these is such
 abbrev pub Happened : (Happening → Type 0) → List Happening → Type 0

@@ -1,8 +1,7 @@
 -- Which Hello is taken, and the first fault of one that isn't.
-use Rattle.std.specs.Prelude.{◌≡◌, ℕ, ◌==◌, ◌&&◌, ◌||◌, not, nat_lt, Bool, true, false, if◌then◌else◌, List, get_or, Option, Some, None, Result, Ok, Err}
+use Rattle.std.specs.Prelude.{◌≡◌, ℕ, ◌==◌, ◌&&◌, not, nat_lt, Bool, true, false, if◌then◌else◌, List, get_or, Option, Some, None, Result, Ok, Err}
 use Rattle.std.specs.Str.{bytes_eq}
-use Rattle.peer_codes.specs.declared.version.Version.{Version}
-use Rattle.peer_codes.specs.declared.version.Version.TheVariants.{First, Second}
+use Rattle.byteorder.specs.Endian.{big_number}
 use Rattle.peer_codes.specs.declared.hello.Ends.{Ends}
 use Rattle.peer_codes.specs.declared.hello.Life.{Life}
 use Rattle.peer_codes.specs.declared.hello.Link.{Link}
@@ -10,11 +9,14 @@ use Rattle.peer_codes.specs.declared.hello.Link.TheVariants.{Plain, Coded}
 use Rattle.peer_codes.specs.declared.hello.Hello.{Hello}
 use Rattle.peer_codes.specs.declared.fault.RecordFault.TheVariants.{BadHello}
 use Rattle.node_links.specs.declared.own.Own.{Own}
+use Rattle.node_links.specs.declared.own.Known.TheVariants.{Nothing}
 use Rattle.node_links.specs.declared.own.Met.{Met}
+use Rattle.node_links.specs.declared.peer_fault.Digests.{Digests}
 use Rattle.node_links.specs.declared.peer_fault.Mismatch.TheVariants.{Digest, Nodes, Number}
 use Rattle.node_links.specs.declared.peer_fault.Whose.TheVariants as whose
 use Rattle.node_links.specs.declared.peer_fault.PeerFault.{PeerFault}
 use Rattle.node_links.specs.declared.peer_fault.PeerFault.TheVariants as faults
+use Rattle.node_links.specs.Knowing.{is_replaced}
 
 -- of a connection with codes
 abbrev pub is_coded : Link → Bool
@@ -32,7 +34,7 @@ is_other None life = false
 is_other (Some kept) life = not (bytes_eq kept.bytes life.bytes)
 
 abbrev pub unmet : Met
-unmet = record { kept = None; is_here = false }
+unmet = record { lives = Nothing; is_here = false }
 
 -- what is known of a node
 abbrev pub met_at : List Met → ℕ → Met
@@ -43,13 +45,17 @@ abbrev pub judged_node : Own → Met → Hello → Result (Unit {0}) PeerFault
 judged_node own known hello =
     if known.is_here then Err faults.AlreadyHere
     else (if is_other hello.kept own.life then Err (faults.StoreReplaced whose.Own)
-    else (if is_other known.kept hello.life then Err (faults.StoreReplaced whose.Other)
+    else (if is_replaced known.lives hello.life then Err (faults.StoreReplaced whose.Other)
     else Ok tt))
+
+-- the heads of the own digest and of the Hello's
+abbrev pub heads_of : Own → Hello → Digests
+heads_of own hello = record { here = big_number 4 own.digest.bytes; there = big_number 4 hello.digest.bytes }
 
 -- of this match, of as many nodes, and of the node that was to speak
 abbrev pub judged_match : Own → Option ℕ → Hello → Result (Unit {0}) PeerFault
 judged_match own dialled hello =
-    if not (bytes_eq hello.digest.bytes own.digest.bytes) then Err (faults.OtherMatch Digest)
+    if not (bytes_eq hello.digest.bytes own.digest.bytes) then Err (faults.OtherMatch (Digest (heads_of own hello)))
     else (if not (hello.ends.nodes == own.nodes) then Err (faults.OtherMatch Nodes)
     else (if not (is_awaited own.number dialled hello.ends) then Err (faults.OtherMatch Number)
     else Ok tt))
@@ -62,14 +68,10 @@ abbrev pub both : Result (Unit {0}) PeerFault → Result (Unit {0}) PeerFault �
 both (Err fault) next = Err fault
 both (Ok done) next = next
 
-abbrev pub is_second : Version → Bool
-is_second First = false
-is_second Second = true
-
--- on a connection without codes both at once; here none speaks another version than the first
+-- on a connection without codes both at once
 abbrev pub judged : Own → Option ℕ → List Met → Hello → Result (Unit {0}) PeerFault
 judged own dialled met hello =
-    if is_coded hello.link || is_second hello.version then Err (faults.Record BadHello)
+    if is_coded hello.link then Err (faults.Record BadHello)
     else both (judged_match own dialled hello) (judged_known own met hello)
 
 -- where a Hello is taken and none was before, it was judged by this that is known of the other nodes

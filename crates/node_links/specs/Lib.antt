@@ -2,7 +2,11 @@ pub mod Lines
 pub mod Frames
 pub mod Arriving
 pub mod Fronts
+pub mod Knowing
 pub mod Judging
+pub mod Lives
+pub mod Telling
+pub mod Versions
 pub mod Steps
 pub mod Outgoings
 pub mod Waits
@@ -22,3 +26,4 @@ pub mod Noting
 pub mod Coding
 pub mod Talks
 pub mod Going
+pub mod Kinds

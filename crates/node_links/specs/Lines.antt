@@ -1,7 +1,9 @@
 -- What faults print as.
-use Rattle.std.specs.Prelude.{ℕ, List, codes}
+use Rattle.std.specs.Prelude.{ℕ, ◌^◌, nat_lt, false, if◌then◌else◌, List, [], ◌++◌, codes}
+use Rattle.std.specs.Fmt.{digits}
 use Rattle.peer_codes.specs.Lines.{record_fault_code, record_fault_line}
 use Rattle.node_links.specs.declared.peer_fault.Mismatch.TheVariants.{Digest, Nodes, Number}
+use Rattle.node_links.specs.declared.peer_fault.Digests.{Digests}
 use Rattle.node_links.specs.declared.peer_fault.PeerFault.{PeerFault}
 use Rattle.node_links.specs.declared.peer_fault.PeerFault.TheVariants as faults
 
@@ -15,10 +17,29 @@ peer_fault_code faults.UnexpectedRecord = 126
 peer_fault_code (faults.StoreReplaced whose) = 127
 peer_fault_code faults.AlreadyHere = 128
 
+-- the zeros in front of the hexadecimal digits of a number below 2 ^ 32, so that there are eight
+abbrev pub zeros : ℕ → List ℕ
+zeros n =
+    if nat_lt n (2 ^ 4) then codes "0000000"
+    else (if nat_lt n (2 ^ 8) then codes "000000"
+    else (if nat_lt n (2 ^ 12) then codes "00000"
+    else (if nat_lt n (2 ^ 16) then codes "0000"
+    else (if nat_lt n (2 ^ 20) then codes "000"
+    else (if nat_lt n (2 ^ 24) then codes "00"
+    else (if nat_lt n (2 ^ 28) then codes "0"
+    else []))))))
+
+abbrev pub eight_digits : ℕ → List ℕ
+eight_digits n = zeros n ++ digits 16 false n
+
+-- the heads of both digests
+abbrev pub digests_line : Digests → List ℕ
+digests_line d = codes "here " ++ (eight_digits d.here ++ (codes ", there " ++ eight_digits d.there))
+
 -- a fault prints as its number and its name, and 123 with what differs
 abbrev pub peer_fault_line : PeerFault → List ℕ
 peer_fault_line (faults.Record fault) = record_fault_line fault
-peer_fault_line (faults.OtherMatch Digest) = codes "123 OtherMatch digest"
+peer_fault_line (faults.OtherMatch (Digest heads)) = codes "123 OtherMatch digest: " ++ digests_line heads
 peer_fault_line (faults.OtherMatch Nodes) = codes "123 OtherMatch nodes"
 peer_fault_line (faults.OtherMatch Number) = codes "123 OtherMatch number"
 peer_fault_line faults.WrongProof = codes "124 WrongProof"

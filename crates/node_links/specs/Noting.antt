@@ -13,7 +13,7 @@ abbrev pub fault_place : PeerFault → ℕ
 fault_place (faults.Record BadLength) = 0
 fault_place (faults.Record BadKind) = 1
 fault_place (faults.Record BadHello) = 2
-fault_place (faults.OtherMatch Digest) = 3
+fault_place (faults.OtherMatch (Digest heads)) = 3
 fault_place (faults.OtherMatch Nodes) = 4
 fault_place (faults.OtherMatch Number) = 5
 fault_place faults.WrongProof = 6

@@ -1,6 +1,6 @@
 -- How long a peer isn't dialled that refuses this node, or is refused.
-use Rattle.std.specs.Prelude.{ℕ, ◌*◌, nat_lt, nat_le, Bool, true, false, if◌then◌else◌}
-use Rattle.node_links.specs.declared.limits.TheConstants.{REFUSED, LONGEST}
+use Rattle.std.specs.Prelude.{ℕ, ◌*◌, nat_lt, nat_le, min, Bool, true, false, if◌then◌else◌}
+use Rattle.node_links.specs.declared.limits.TheConstants.{CLOSED, MOST_CLOSED, REFUSED, LONGEST}
 use Rattle.node_links.specs.declared.peer_fault.PeerFault.{PeerFault}
 use Rattle.node_links.specs.declared.peer_fault.PeerFault.TheVariants as faults
 
@@ -20,3 +20,7 @@ longer last = if nat_lt last REFUSED then REFUSED else (if nat_le LONGEST (last 
 
 abbrev pub pause_after : PeerFault → ℕ → ℕ
 pause_after fault last = if is_standing fault then longer last else REFUSED
+
+-- so many times as long as the first, up to ten times
+abbrev pub closed_pause : ℕ → ℕ
+closed_pause closed = CLOSED * min closed MOST_CLOSED

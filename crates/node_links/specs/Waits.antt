@@ -2,8 +2,12 @@
 use Rattle.std.specs.Prelude.{List, Option}
 use Rattle.peer_codes.specs.declared.beat.Beat.{Beat}
 use Rattle.peer_codes.specs.declared.frame.Frame.{Frame}
+use Rattle.node_links.specs.declared.lives.Lives.{Lives}
+use Rattle.node_links.specs.declared.settings.Settings.{Settings}
 
--- the newest beat, and frames, the oldest first
+-- the newest beat, the newest lives, the settings, and frames, the oldest first
 pub record Waits : Type 0 where
   pub beat : Option Beat
+  pub lives : Option Lives
+  pub settings : Option Settings
   pub frames : List Frame

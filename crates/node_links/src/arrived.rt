@@ -3,6 +3,7 @@
 ghost use Rattle.std.specs.Prelude.{◌≡◌};
 ghost use Rattle.node_links.specs.Arriving.{heard_as, told};
 
+use crate::further::Further;
 use crate::heard::Heard;
 use crate::peer_fault::PeerFault;
 use peer_codes::{Beat, Frame, Hello};
@@ -18,6 +19,8 @@ pub enum Arrived {
     Frame,
     /// How the other is.
     Beat(Beat),
+    /// What a record of a further kind tells.
+    Further(Further),
 }
 
 /// What was heard, of which a frame goes into the buffer.
@@ -32,6 +35,7 @@ fn arrived_of(heard: Heard, frame: &mut Frame) -> Arrived
             Arrived::Frame
         }
         Heard::Beat(beat) => Arrived::Beat(beat),
+        Heard::Further(further) => Arrived::Further(further),
     }
 }
 

@@ -6,7 +6,8 @@ ghost use Rattle.peer_codes.specs.Steps.{is_coded};
 ghost use Rattle.node_links.specs.declared.stage.Stage.TheVariants as stages;
 ghost use Rattle.node_links.specs.Going.{taken_at};
 ghost use Rattle.node_links.specs.Waiting.{next_of, rest_of};
-ghost use Rattle.node_links.specs.Coding.{HearsOrWaits, HearsProof, NextCoded, has_said_hello, settled_stage, peer_at, fault_at, in_first, given, begun_open, begun_by, begun_coded};
+ghost use Rattle.node_links.specs.Coding.{HearsOrWaits, HearsProof, NextCoded, has_said_hello, settled_stage, peer_at, fault_at, given, begun_open, begun_by, begun_coded};
+ghost use Rattle.node_links.specs.Versions.{in_version, version_at};
 ghost use Rattle.peer_codes.specs.declared.records.Record.TheVariants as record_of;
 
 use crate::coded_step::{CodedStep, coded_step, settled_stage};
@@ -110,16 +111,28 @@ impl CodedConnection {
         }
     }
 
-    /// This side's own Hello, in the first version, and its proof are to be written next, where it was dialled and a Hello
-    /// came, also one that it refused; its nonce is to be new. Else nothing happens.
+    /// The version in which this side answers: that of the Hello that came.
+    fn version(&self) -> Version
+        ensures { result ≡ version_at self.now.stage }
+    {
+        match self.stage {
+            Stage::Asked(hello) => hello.version,
+            Stage::Matched(hello) => hello.version,
+            Stage::Proved(hello) => hello.version,
+            Stage::Open(hello) => hello.version,
+            Stage::Greeting => Version::First,
+            Stage::Closed(_) => Version::First,
+        }
+    }
+
+    /// This side's own Hello, in the version of the one that came, and its proof are to be written next, where it was dialled
+    /// and a Hello came, also one that it refused; its nonce is to be new. Else nothing happens.
     pub fn answer(&mut self, own: Hello)
         requires { is_coded own.link ≡ true }
-        ensures { self.new ≡ record self.old { channel = answered self.old.channel.phase (in_first own) self.old.channel } }
+        ensures { self.new ≡ record self.old { channel = answered self.old.channel.phase (in_version (version_at self.old.stage) own) self.old.channel } }
     {
-        self.channel.answer(Hello {
-            version: Version::First,
-            ..own
-        });
+        let version = self.version();
+        self.channel.answer(Hello { version, ..own });
     }
 
     /// Judges what waits to be judged: what the Hello says of the match, or once the proof is right what it changes.
@@ -190,17 +203,19 @@ impl CodedConnection {
             Some(Record::Frame(frame)) => self.give_frame(frame),
             Some(Record::Hello(_)) => (),
             Some(Record::Proof(_)) => (),
-            Some(Record::More(_)) => (),
+            Some(Record::More(more)) => {
+                let _ = self.channel.put_more(more);
+            }
             None => (),
         }
     }
 
-    /// Codes and begins what waits next.
-    fn begin_open(&mut self, waiting: &mut Outbox)
-        ensures own { self.new ≡ (begun_open self.old waiting.old).0 }
-        ensures waiting { waiting.new ≡ (begun_open self.old waiting.old).1 }
+    /// Codes and begins what waits next on a connection of this version.
+    fn begin_open(&mut self, version: Version, waiting: &mut Outbox)
+        ensures own { self.new ≡ (begun_open version self.old waiting.old).0 }
+        ensures waiting { waiting.new ≡ (begun_open version self.old waiting.old).1 }
     {
-        let said = waiting.next();
+        let said = waiting.next(version);
         self.give(said);
         self.channel.begin();
     }
@@ -211,9 +226,9 @@ impl CodedConnection {
         ensures waiting { waiting.new ≡ (begun_by self.old.stage self.old waiting.old).1 }
     {
         match self.stage {
-            Stage::Open(_) => {
-                if waiting.has_next() {
-                    self.begin_open(waiting);
+            Stage::Open(other) => {
+                if waiting.has_next(other.version) {
+                    self.begin_open(other.version, waiting);
                 }
             }
             Stage::Greeting => (),
@@ -225,7 +240,7 @@ impl CodedConnection {
     }
 
     /// Begins the next record, where none is unfinished: this side's own Hello, its own proof, and where the connection is
-    /// open what waits, the beat first, coded now.
+    /// open what waits, the beat first and records of further kinds before the frames, coded now.
     pub fn begin(&mut self, waiting: &mut Outbox)
         ensures own { self.new ≡ (begun_coded self.old waiting.old).0 }
         ensures waiting { waiting.new ≡ (begun_coded self.old waiting.old).1 }

@@ -1,14 +1,15 @@
 //! What an event of a channel with codes does to a connection, and how the Hello that came is judged.
 
 ghost use Rattle.std.specs.Prelude.{◌≡◌};
-ghost use Rattle.node_links.specs.Coding.{peer_fault_of, closed, greeted, on_greeting, on_matched, on_open, on_event, coded_step, matched, taken, settled_stage};
+ghost use Rattle.node_links.specs.Coding.{peer_fault_of, closed, on_greeting, on_matched, on_further, on_open, on_event, coded_step, matched, taken, settled_stage};
 
+use crate::further::{Further, read_behind};
 use crate::heard::Heard;
 use crate::judging::{judge_known, judge_match};
 use crate::own::{Met, Own};
 use crate::peer_fault::PeerFault;
 use crate::stage::Stage;
-use peer_codes::{ConnectionFault, Event, Hello, RecordFault, Version};
+use peer_codes::{ConnectionFault, Event, Hello, RecordFault};
 
 /// What an event does to a connection.
 #[derive(Drop)]
@@ -39,25 +40,15 @@ fn closed(fault: PeerFault) -> CodedStep
     }
 }
 
-/// The other's Hello came: one of the first version is judged next, another isn't taken.
-fn greeted(hello: Hello) -> CodedStep
-    ensures { result ≡ greeted hello.version hello }
-{
-    match hello.version {
-        Version::First => CodedStep {
-            stage: Stage::Asked(hello),
-            heard: Ok(Heard::Hello(hello)),
-        },
-        Version::Second => closed(PeerFault::Record(RecordFault::BadHello)),
-    }
-}
-
 /// Something came before the other's Hello was there.
 fn on_greeting(event: Event) -> CodedStep
     ensures { result ≡ on_greeting event }
 {
     match event {
-        Event::Greeted(hello) => greeted(hello),
+        Event::Greeted(hello) => CodedStep {
+            stage: Stage::Asked(hello),
+            heard: Ok(Heard::Hello(hello)),
+        },
         Event::Opened => closed(PeerFault::UnexpectedRecord),
         Event::Frame(_) => closed(PeerFault::UnexpectedRecord),
         Event::Beat(_) => closed(PeerFault::UnexpectedRecord),
@@ -81,6 +72,19 @@ fn on_matched(hello: Hello, event: Event) -> CodedStep
     }
 }
 
+/// A record of a further kind came on an open connection, and tells this, or closes it.
+fn on_further(hello: Hello, read: Result<Further, RecordFault>) -> CodedStep
+    ensures { result ≡ on_further hello read }
+{
+    match read {
+        Ok(further) => CodedStep {
+            stage: Stage::Open(hello),
+            heard: Ok(Heard::Further(further)),
+        },
+        Err(fault) => closed(PeerFault::Record(fault)),
+    }
+}
+
 /// Something came on an open connection.
 fn on_open(hello: Hello, event: Event) -> CodedStep
     ensures { result ≡ on_open hello event }
@@ -96,7 +100,7 @@ fn on_open(hello: Hello, event: Event) -> CodedStep
         },
         Event::Greeted(_) => closed(PeerFault::UnexpectedRecord),
         Event::Opened => closed(PeerFault::UnexpectedRecord),
-        Event::More(_) => closed(PeerFault::UnexpectedRecord),
+        Event::More(more) => on_further(hello, read_behind(&hello, &more)),
     }
 }
 

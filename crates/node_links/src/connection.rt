@@ -1,4 +1,4 @@
-ghost use Rattle.std.specs.Prelude.{◌≡◌, ◌≤◌, ◌++◌, List, ℕ, length, Some, None, OnOk, OnErr};
+ghost use Rattle.std.specs.Prelude.{◌≡◌, ◌≤◌, ◌<◌, ◌++◌, List, ℕ, length, Some, None, OnOk, OnErr};
 ghost use Rattle.node_links.specs.declared.own.Own as owns;
 ghost use Rattle.node_links.specs.declared.connection.Connection.TheVariants.{Coded};
 ghost use Rattle.node_links.specs.Talks.{Talk};
@@ -6,7 +6,8 @@ ghost use Rattle.node_links.specs.Judging.{IsKnown};
 ghost use Rattle.node_links.specs.Waiting.{IsBegun};
 ghost use Rattle.node_links.specs.Arriving.{told};
 ghost use Rattle.node_links.specs.Coding.{NextCoded};
-ghost use Rattle.node_links.specs.Going.{Goes, GoesOn, GoesOnWith, GoesOnWritten, IsOfKey, TellsFrame, OpensAs, silence, unwritten_of, peer_of, taken_of, fault_of};
+ghost use Rattle.node_links.specs.Kinds.{IsCalling, IsListening, room_of, TakesIn, NextBy, answered_coded, answered_by, settled_by, begun_by, Writes};
+ghost use Rattle.node_links.specs.Going.{Goes, GoesOn, GoesOnWith, GoesOnWritten, IsOfKey, Tells, OpensAs, silence, unwritten_of, peer_of, taken_of, fault_of};
 
 use crate::arrived::{Arrived, lend};
 use crate::coded_connection::CodedConnection;
@@ -24,8 +25,8 @@ use std::alloc::{AllocError, Global};
 /// that is to be said, where none is unfinished; `unwritten` shows what of it isn't written yet, and `wrote` says how much
 /// was.
 ///
-/// Each call keeps what a connection goes by (`Goes`), of all that came over it and was written to it; so of each frame that
-/// is told is known how it came (`next`).
+/// Each call keeps what a connection goes by (`Goes`), of all that came over it and was written to it; so of each frame,
+/// beat and record of a further kind that is told is known how it came (`next`).
 #[derive(Drop)]
 pub enum Connection {
     /// Of a node without a key.
@@ -36,7 +37,8 @@ pub enum Connection {
 
 /// The own Hello of a connection with codes is to be written next, if it has a nonce.
 fn answer_coded(coded: &mut CodedConnection, own: Hello)
-    ensures { GoesOn (Coded coded.old) (Coded coded.new) }
+    ensures answers { coded.new ≡ answered_coded own.link own coded.old }
+    ensures goes { GoesOn (Coded coded.old) (Coded coded.new) }
 {
     match own.link {
         Link::Plain => (),
@@ -56,7 +58,8 @@ impl Connection {
     /// key it has a nonce, which is to be new. Takes no memory.
     pub fn call(alloc: Global, key: Option<Key>, own: Hello) -> Connection
         requires { IsOfKey key own.link }
-        ensures { (own : owns.Own) (number : ℕ) → own.key ≡ key → Goes own (silence (Some number)) result }
+        ensures goes { (own : owns.Own) (number : ℕ) → own.key ≡ key → Goes own (silence (Some number)) result }
+        ensures calls { IsCalling own result }
     {
         match key {
             None => Connection::Plain(PlainConnection::call(alloc, own)),
@@ -66,7 +69,8 @@ impl Connection {
 
     /// The side that was dialled. Takes no memory.
     pub fn listen(alloc: Global, key: Option<Key>) -> Connection
-        ensures { (own : owns.Own) → own.key ≡ key → Goes own (silence None) result }
+        ensures goes { (own : owns.Own) → own.key ≡ key → Goes own (silence None) result }
+        ensures listens { IsListening result }
     {
         match key {
             None => Connection::Plain(PlainConnection::listen(alloc)),
@@ -74,10 +78,13 @@ impl Connection {
         }
     }
 
-    /// Takes the next piece of what comes, of any length. An `Err`, for want of memory, changes nothing.
+    /// Takes the next piece of what comes, of any length. An `Err`, for want of memory, changes nothing, and comes only where
+    /// there was no room.
     pub fn take(&mut self, piece: &[u8]) -> Result<(), AllocError>
         ensures ok { OnOk result (GoesOnWith self.old self.new piece.now) }
+        ensures takes { OnOk result (TakesIn piece.now self.old self.new) }
         ensures err { OnErr result (self.new ≡ self.old) }
+        ensures full { OnErr result (room_of self.old < length piece.now) }
     {
         match self {
             Connection::Plain(plain) => plain.take(piece),
@@ -88,12 +95,13 @@ impl Connection {
     /// What came next, or the fault that closed the connection, told again from then on. A frame goes into the buffer, in
     /// place of what that had.
     ///
-    /// `None` where the record in front isn't whole, and while something waits to be judged or answered. A frame came from the
-    /// node at the other end: without codes behind its Hello; with them as the next coded record of its way, behind both
-    /// Hellos and its proof.
+    /// `None` where the record in front isn't whole, and while something waits to be judged or answered. What is told of an
+    /// open connection, a frame, a beat or what a record of a further kind tells, came from the node at the other end: without
+    /// codes behind its Hello; with them as the next coded record of its way, behind both Hellos and its proof.
     pub fn next(&mut self, frame: &mut Frame) -> Option<Result<Arrived, PeerFault>>
+        ensures next { NextBy self.old (told result frame.new) self.new }
         ensures goes { GoesOn self.old self.new }
-        ensures frame { TellsFrame (told result frame.new) self.old self.new }
+        ensures tells { Tells (told result frame.new) self.old self.new }
     {
         match self {
             Connection::Plain(plain) => plain.next(frame),
@@ -108,7 +116,8 @@ impl Connection {
     /// This side's own Hello is to be written next, where it was dialled: it answers with it also where it refuses. With codes
     /// it has a nonce, which is to be new; one without isn't said then.
     pub fn answer(&mut self, own: Hello)
-        ensures { GoesOn self.old self.new }
+        ensures answers { self.new ≡ answered_by own self.old }
+        ensures goes { GoesOn self.old self.new }
     {
         match self {
             Connection::Plain(plain) => plain.answer(own),
@@ -119,6 +128,7 @@ impl Connection {
     /// Judges what waits to be judged, of the node that was dialled or of one who dialled. Without codes that is the whole
     /// Hello; with them what it says of the match first, and what changes by it once the other's proof is right.
     pub fn settle(&mut self, own: &Own, dialled: Option<u8>, met: &[Met])
+        ensures settles { self.new ≡ settled_by own.now dialled met.now self.old }
         ensures known { IsKnown own.now met.now (taken_of self.old) (taken_of self.new) }
         ensures goes { (talk : Talk) → talk.dialled ≡ dialled → Goes own.now talk self.old → Goes own.now talk self.new }
     {
@@ -163,6 +173,8 @@ impl Connection {
     /// Begins the next record, where none is unfinished: this side's own Hello, with codes its proof, and where the connection
     /// is open what waits, the beat first.
     pub fn begin(&mut self, waiting: &mut Outbox)
+        ensures begins { self.new ≡ (begun_by self.old waiting.old).0 }
+        ensures rest { waiting.new ≡ (begun_by self.old waiting.old).1 }
         ensures goes { GoesOn self.old self.new }
         ensures waiting { IsBegun waiting.old waiting.new }
     {
@@ -188,7 +200,8 @@ impl Connection {
     /// So many bytes of it are written now.
     pub fn wrote(&mut self, count: usize)
         requires { count ≤ length (unwritten_of self.old) }
-        ensures { GoesOnWritten self.old self.new count }
+        ensures writes { Writes count self.old self.new }
+        ensures goes { GoesOnWritten self.old self.new count }
     {
         match self {
             Connection::Plain(plain) => plain.wrote(count),

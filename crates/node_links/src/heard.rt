@@ -1,3 +1,4 @@
+use crate::further::Further;
 use peer_codes::{Beat, Frame, Hello};
 
 /// What came over a connection.
@@ -11,4 +12,6 @@ pub enum Heard {
     Frame(Frame),
     /// How the other is.
     Beat(Beat),
+    /// What a record of a further kind tells.
+    Further(Further),
 }

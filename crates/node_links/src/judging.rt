@@ -2,26 +2,19 @@
 
 ghost use Rattle.std.specs.Prelude.{◌≡◌};
 ghost use Rattle.std.specs.Str.{bytes_eq};
-ghost use Rattle.node_links.specs.Judging.{is_coded, is_second, is_awaited, is_other, met_at, judged_node, judged_match, judged_known, judged};
+ghost use Rattle.node_links.specs.Judging.{is_coded, is_awaited, is_other, met_at, judged_node, heads_of, judged_match, judged_known, judged};
+ghost use Rattle.node_links.specs.Knowing.{is_replaced};
 
-use crate::own::{Met, Own};
-use crate::peer_fault::{Mismatch, PeerFault, Whose};
-use peer_codes::{Ends, Hello, Life, Link, RecordFault, Version};
+use crate::own::{Known, Met, Own};
+use crate::peer_fault::{Digests, Mismatch, PeerFault, Whose};
+use byteorder::{BigEndian, ByteOrder};
+use peer_codes::{Ends, Hello, Life, Link, RecordFault};
 
-fn is_same(bytes: &[u8], others: &[u8]) -> bool
+/// Whether these are the same bytes.
+pub(crate) fn is_same(bytes: &[u8], others: &[u8]) -> bool
     ensures { result ≡ bytes_eq bytes.now others.now }
 {
     bytes == others
-}
-
-/// Whether a Hello is of the second version.
-fn is_second(version: Version) -> bool
-    ensures { result ≡ is_second version }
-{
-    match version {
-        Version::First => false,
-        Version::Second => true,
-    }
 }
 
 /// Whether a Hello is one of a connection with codes.
@@ -55,6 +48,17 @@ fn is_other(kept: Option<Life>, life: Life) -> bool
     }
 }
 
+/// Whether another life is known than this one, or two are.
+fn is_replaced(lives: Known, life: Life) -> bool
+    ensures { result ≡ is_replaced lives life }
+{
+    match lives {
+        Known::Nothing => false,
+        Known::One(first) => !is_same(&first.bytes, &life.bytes),
+        Known::Two => true,
+    }
+}
+
 /// What is known of a node; nothing where it has no place here.
 fn met_at(met: &[Met], number: u8) -> Met
     ensures { result ≡ met_at met.now number }
@@ -62,7 +66,7 @@ fn met_at(met: &[Met], number: u8) -> Met
     match met.get(number as usize) {
         Some(known) => *known,
         None => Met {
-            kept: None,
+            lives: Known::Nothing,
             is_here: false,
         },
     }
@@ -78,10 +82,20 @@ fn judge_node(own: &Own, known: Met, hello: &Hello) -> Result<(), PeerFault>
     if is_other(hello.kept, own.life) {
         return Err(PeerFault::StoreReplaced(Whose::Own));
     }
-    if is_other(known.kept, hello.life) {
+    if is_replaced(known.lives, hello.life) {
         return Err(PeerFault::StoreReplaced(Whose::Other));
     }
     Ok(())
+}
+
+/// The heads of the digests of the own match and of that which a Hello says.
+fn heads_of(own: &Own, hello: &Hello) -> Digests
+    ensures { result ≡ heads_of own.now hello.now }
+{
+    Digests {
+        here: BigEndian::read_u32(&own.digest.bytes),
+        there: BigEndian::read_u32(&hello.digest.bytes),
+    }
 }
 
 /// Judges what a Hello says of the match and of who speaks to whom, where this node dialled that one, or else was dialled.
@@ -91,7 +105,7 @@ pub(crate) fn judge_match(own: &Own, dialled: Option<u8>, hello: &Hello) -> Resu
     ensures { result ≡ judged_match own.now dialled hello.now }
 {
     if !is_same(&hello.digest.bytes, &own.digest.bytes) {
-        return Err(PeerFault::OtherMatch(Mismatch::Digest));
+        return Err(PeerFault::OtherMatch(Mismatch::Digest(heads_of(own, hello))));
     }
     if hello.ends.nodes != own.nodes {
         return Err(PeerFault::OtherMatch(Mismatch::Nodes));
@@ -114,12 +128,12 @@ pub(crate) fn judge_known(own: &Own, met: &[Met], hello: &Hello) -> Result<(), P
 /// Judges the Hello of a connection without codes, where this node dialled that one, or else was dialled; of each node
 /// stands in its place what is known of it.
 ///
-/// The fault is the first of: 122 `BadHello` (of a connection with codes, or of the second version), 123 `OtherMatch` (the digest, the count of nodes,
+/// The fault is the first of: 122 `BadHello` (of a connection with codes), 123 `OtherMatch` (the digest, the count of nodes,
 /// then the numbers), 128 `AlreadyHere`, 127 `StoreReplaced` (this node's own store, then the other's).
 pub fn judge(own: &Own, dialled: Option<u8>, met: &[Met], hello: &Hello) -> Result<(), PeerFault>
     ensures { result ≡ judged own.now dialled met.now hello.now }
 {
-    if is_coded(hello.link) || is_second(hello.version) {
+    if is_coded(hello.link) {
         return Err(PeerFault::Record(RecordFault::BadHello));
     }
     match judge_match(own, dialled, hello) {

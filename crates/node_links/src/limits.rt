@@ -3,6 +3,26 @@
 /// Nodes are numbered from 0 to one below this.
 pub const NODES: usize = peer_codes::limits::NODES as usize;
 
+/// The byte of the kind of records that tell lives,
+pub const LIVES: u8 = 4;
+
+/// and of those that tell settings.
+pub const SETTINGS: u8 = 5;
+
+/// As many bytes as a record of lives has at most behind its kind.
+pub const LIVES_BYTES: usize = peer_codes::limits::LIFE_BYTES * NODES;
+
+/// As many bytes as a record of settings has behind its kind,
+pub const SETTINGS_BYTES: usize = 12 + TOKENS_BYTES;
+
+/// so many of them of the digest over all tokens.
+pub const TOKENS_BYTES: usize = 8;
+
+/// The most bytes of the record of a Hello: a length, a kind, and a Hello with a nonce.
+pub const HEADING_BYTES: usize = peer_codes::limits::LENGTH_BYTES
+    + 1
+    + peer_codes::limits::CODED_HELLO_BYTES;
+
 /// A beat is told so long after the one before it.
 pub const BEAT: u64 = 50_000;
 
@@ -26,6 +46,13 @@ pub const REFUSED: u64 = 1_000_000;
 
 /// And no longer than so long after, however often that was.
 pub const LONGEST: u64 = 8_000_000;
+
+/// A peer whose system answered a dial that was then closed without a byte is dialled again so long after that, the second
+/// time in a row twice as long, the third three times,
+pub const CLOSED: u64 = 100_000;
+
+/// and so many times as long at most.
+pub const MOST_CLOSED: u8 = 10;
 
 /// A fault of a peer is told again so long after it was told, at the soonest.
 pub const REPEATED: u64 = 10_000_000;

@@ -25,7 +25,7 @@ fn place(fault: PeerFault) -> usize
         PeerFault::Record(RecordFault::BadLength) => 0,
         PeerFault::Record(RecordFault::BadKind) => 1,
         PeerFault::Record(RecordFault::BadHello) => 2,
-        PeerFault::OtherMatch(Mismatch::Digest) => 3,
+        PeerFault::OtherMatch(Mismatch::Digest(_)) => 3,
         PeerFault::OtherMatch(Mismatch::Nodes) => 4,
         PeerFault::OtherMatch(Mismatch::Number) => 5,
         PeerFault::WrongProof => 6,

@@ -1,22 +1,28 @@
 ghost use Rattle.std.specs.Prelude.{◌≡◌, ◌≤◌, ◌+◌, ◌-◌, ◌++◌, ◌∷◌, [], None, Some, drop, length};
+ghost use Rattle.peer_codes.specs.declared.version.Version.TheVariants.{Second};
 ghost use Rattle.node_links.specs.Frames.{frame_of};
-ghost use Rattle.node_links.specs.Waiting.{newest, has_next, next_of, rest_of, first_of, Puts};
+ghost use Rattle.node_links.specs.Waiting.{newest, has_more, has_next, more_of, without_more, next_of, rest_of, next_behind, rest_behind, first_of, Puts};
 
 use crate::kept_frame::KeptFrame;
+use crate::lives::Lives;
+use crate::settings::Settings;
 use peer_codes::limits::MOST_FRAME;
-use peer_codes::{Beat, Frame, Record};
+use peer_codes::{Beat, Frame, More, Record, Version};
 use std::alloc::Global;
 use std::collections::VecDeque;
 use std::marker::Model;
 
-/// What waits to be said to a peer: the newest beat, and frames.
+/// What waits to be said to a peer: the newest beat, the newest lives, the settings, and frames.
 ///
-/// A beat goes before the frames, which go in the order in which they were put there. Where too many wait the oldest are
+/// A beat goes first, and behind it lives and settings, where the connection is of the second version: over another they
+/// aren't said, and wait. The frames go in the order in which they were put there. Where too many wait the oldest are
 /// dropped, as they are where there is no memory: a frame may be lost, and what is sent again mends it.
 #[derive(Drop)]
 pub struct Outbox {
     alloc: Global,
     beat: Option<Beat>,
+    lives: Option<Lives>,
+    settings: Option<Settings>,
     frames: VecDeque<KeptFrame>,
 }
 
@@ -25,17 +31,19 @@ impl Model for Outbox {
 
     ghost Value = { Waits };
 
-    ghost view = { λ o. record { beat = o.beat; frames = o.frames.items } };
+    ghost view = { λ o. record { beat = o.beat; lives = o.lives; settings = o.settings; frames = o.frames.items } };
 }
 
 impl Outbox {
     /// Nothing waits. It takes no memory.
     pub fn new(alloc: Global) -> Outbox
-        ensures { result ≡ record { beat = None; frames = [] } }
+        ensures { result ≡ record { beat = None; lives = None; settings = None; frames = [] } }
     {
         Outbox {
             alloc,
             beat: None,
+            lives: None,
+            settings: None,
             frames: VecDeque::new(alloc),
         }
     }
@@ -45,6 +53,20 @@ impl Outbox {
         ensures { self.new ≡ record self.old { beat = Some beat } }
     {
         self.beat = Some(beat);
+    }
+
+    /// These lives wait, in place of those before.
+    pub fn tell_lives(&mut self, lives: Lives)
+        ensures { self.new ≡ record self.old { lives = Some lives } }
+    {
+        self.lives = Some(lives);
+    }
+
+    /// These settings wait, in place of those before.
+    pub fn tell_settings(&mut self, settings: Settings)
+        ensures { self.new ≡ record self.old { settings = Some settings } }
+    {
+        self.settings = Some(settings);
     }
 
     /// Of the frames that wait only so many stay, the newest.
@@ -77,11 +99,13 @@ impl Outbox {
         self.put(frame.bytes.as_slice(), most)
     }
 
-    /// The beat no longer waits: it was of a connection that ended.
-    pub fn forget_beat(&mut self)
-        ensures { self.new ≡ record self.old { beat = None } }
+    /// Nothing waits but the frames: all else was for a connection that ended.
+    pub fn forget_all_but_frames(&mut self)
+        ensures { self.new ≡ record self.old { beat = None; lives = None; settings = None } }
     {
         self.beat = None;
+        self.lives = None;
+        self.settings = None;
     }
 
     /// How many frames wait.
@@ -91,11 +115,21 @@ impl Outbox {
         self.frames.len()
     }
 
-    /// Whether anything waits.
-    pub fn has_next(&self) -> bool
-        ensures { result ≡ has_next self.now }
+    /// Whether a record of a further kind waits that may be said on a connection of this version.
+    pub(crate) fn has_more(&self, version: Version) -> bool
+        ensures { result ≡ has_more version self.now }
     {
-        self.beat.is_some() || !self.frames.is_empty()
+        match version {
+            Version::First => false,
+            Version::Second => self.lives.is_some() || self.settings.is_some(),
+        }
+    }
+
+    /// Whether anything waits that may be said on a connection of this version.
+    pub fn has_next(&self, version: Version) -> bool
+        ensures { result ≡ has_next version self.now }
+    {
+        self.beat.is_some() || self.has_more(version) || !self.frames.is_empty()
     }
 
     /// The beat that waits, if one does; it waits no longer.
@@ -108,6 +142,31 @@ impl Outbox {
         beat
     }
 
+    /// The lives that wait, or else the settings; they wait no longer.
+    fn take_further(&mut self) -> Option<More>
+        ensures more { result ≡ more_of Second self.old }
+        ensures rest { self.new ≡ without_more Second self.old }
+    {
+        if let Some(lives) = self.lives {
+            self.lives = None;
+            return Some(lives.more());
+        }
+        let settings = self.settings?;
+        self.settings = None;
+        Some(settings.more())
+    }
+
+    /// The record of a further kind that is said next on a connection of this version; it waits no longer.
+    pub(crate) fn take_more(&mut self, version: Version) -> Option<More>
+        ensures more { result ≡ more_of version self.old }
+        ensures rest { self.new ≡ without_more version self.old }
+    {
+        match version {
+            Version::First => None,
+            Version::Second => self.take_further(),
+        }
+    }
+
     /// The oldest frame that waits, if one does; it waits no longer.
     pub(crate) fn take_frame(&mut self) -> Option<KeptFrame>
         ensures frame { result ≡ first_of self.old.frames }
@@ -116,17 +175,28 @@ impl Outbox {
         self.frames.pop_front()
     }
 
-    /// What is said next, if anything waits; it waits no longer.
-    pub fn next(&mut self) -> Option<Record>
-        ensures next { result ≡ next_of self.old }
-        ensures rest { self.new ≡ rest_of self.old }
+    /// What is said next behind the beat.
+    fn next_behind(&mut self, version: Version) -> Option<Record>
+        ensures next { result ≡ next_behind (more_of version self.old) self.old.frames }
+        ensures rest { self.new ≡ rest_behind (more_of version self.old) version self.old }
     {
-        if let Some(beat) = self.take_beat() {
-            return Some(Record::Beat(beat));
+        if let Some(more) = self.take_more(version) {
+            return Some(Record::More(more));
         }
         match self.take_frame() {
             Some(kept) => Some(Record::Frame(kept.frame())),
             None => None,
         }
+    }
+
+    /// What is said next on a connection of this version, if anything waits; it waits no longer.
+    pub fn next(&mut self, version: Version) -> Option<Record>
+        ensures next { result ≡ next_of version self.old }
+        ensures rest { self.new ≡ rest_of version self.old }
+    {
+        if let Some(beat) = self.take_beat() {
+            return Some(Record::Beat(beat));
+        }
+        self.next_behind(version)
     }
 }

@@ -2,9 +2,9 @@
 
 ghost use Rattle.std.specs.Prelude.{◌≡◌, ◌≤◌};
 ghost use Rattle.node_links.specs.declared.limits.TheConstants as limits;
-ghost use Rattle.node_links.specs.Pausing.{is_standing, longer, pause_after};
+ghost use Rattle.node_links.specs.Pausing.{is_standing, longer, pause_after, closed_pause};
 
-use crate::limits::{LONGEST, REFUSED};
+use crate::limits::{CLOSED, LONGEST, MOST_CLOSED, REFUSED};
 use crate::peer_fault::PeerFault;
 
 /// Whether a fault stays until somebody changes a file or a process ends.
@@ -44,4 +44,13 @@ pub fn pause_after(fault: PeerFault, last: u64) -> u64
     } else {
         REFUSED
     }
+}
+
+/// How long a peer isn't dialled behind a dial that was answered and closed without a byte, the last of so many in a row:
+/// 0.1 s behind the first, 0.2 s behind the second, and so on to 1 s.
+pub fn closed_pause(closed: u8) -> u64
+    ensures pause { result ≡ closed_pause closed }
+    ensures most { result ≤ limits.REFUSED }
+{
+    CLOSED * closed.min(MOST_CLOSED) as u64
 }

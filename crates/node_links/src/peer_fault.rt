@@ -1,15 +1,26 @@
 ghost use Rattle.std.specs.Prelude.{◌≡◌, Some};
-ghost use Rattle.node_links.specs.Lines.{peer_fault_code, peer_fault_line};
+ghost use Rattle.node_links.specs.Lines.{peer_fault_code, peer_fault_line, zeros, digests_line};
 
 use peer_codes::RecordFault;
 use std::fmt;
 use thiserror::Error;
 
+/// The heads of two digests that differ: of each the first four bytes as a number, of which the first byte counts most.
+///
+/// It prints both, as eight hexadecimal digits each.
+#[derive(Clone, Copy, Debug, PartialEq, Eq)]
+pub struct Digests {
+    /// Of this node's match.
+    pub here: u32,
+    /// Of the match that the other's Hello says.
+    pub there: u32,
+}
+
 /// In what two nodes differ that play different matches, or aren't those that they are taken for.
 #[derive(Clone, Copy, Debug, PartialEq, Eq)]
 pub enum Mismatch {
     /// The setting of the match.
-    Digest,
+    Digest(Digests),
     /// How many nodes the match has.
     Nodes,
     /// Which node speaks, or to which.
@@ -63,6 +74,41 @@ impl PeerFault {
     }
 }
 
+/// The zeros in front of a number's hexadecimal digits, so that there are eight.
+fn zeros(number: u32) -> &'static str
+    ensures { result.now ≡ zeros number }
+{
+    if number < 0x10 {
+        "0000000"
+    } else if number < 0x100 {
+        "000000"
+    } else if number < 0x1000 {
+        "00000"
+    } else if number < 0x1_0000 {
+        "0000"
+    } else if number < 0x10_0000 {
+        "000"
+    } else if number < 0x100_0000 {
+        "00"
+    } else if number < 0x1000_0000 {
+        "0"
+    } else {
+        ""
+    }
+}
+
+impl fmt::Display for Digests {
+    ghost output = { λ digests. Some (digests_line digests) };
+
+    fn fmt<W: fmt::Write>(&self, f: &mut fmt::Formatter<W>) -> fmt::Result {
+        let before = zeros(self.here);
+        let here = self.here;
+        let between = zeros(self.there);
+        let there = self.there;
+        write!(f, "here {before}{here:x}, there {between}{there:x}")
+    }
+}
+
 impl fmt::Display for PeerFault {
     ghost output = { λ fault. Some (peer_fault_line fault) };
 
@@ -71,7 +117,9 @@ impl fmt::Display for PeerFault {
             PeerFault::Record(RecordFault::BadLength) => f.write_str("120 BadLength"),
             PeerFault::Record(RecordFault::BadKind) => f.write_str("121 BadKind"),
             PeerFault::Record(RecordFault::BadHello) => f.write_str("122 BadHello"),
-            PeerFault::OtherMatch(Mismatch::Digest) => f.write_str("123 OtherMatch digest"),
+            PeerFault::OtherMatch(Mismatch::Digest(digests)) => {
+                write!(f, "123 OtherMatch digest: {digests}")
+            }
             PeerFault::OtherMatch(Mismatch::Nodes) => f.write_str("123 OtherMatch nodes"),
             PeerFault::OtherMatch(Mismatch::Number) => f.write_str("123 OtherMatch number"),
             PeerFault::WrongProof => f.write_str("124 WrongProof"),

@@ -8,7 +8,8 @@ ghost use Rattle.node_links.specs.Outgoings.{unwritten, with_begun};
 ghost use Rattle.node_links.specs.Steps.{settled};
 ghost use Rattle.node_links.specs.Going.{taken_in};
 ghost use Rattle.node_links.specs.Frames.{frame_of};
-ghost use Rattle.node_links.specs.Waiting.{first_frame};
+ghost use Rattle.node_links.specs.Waiting.{first_frame, more_of, more_record, without_more, next_behind, rest_behind};
+ghost use Rattle.node_links.specs.Versions.{in_version, version_in};
 ghost use Rattle.node_links.specs.Connections.{ReadsOrWaits, Next, said_next, begun_open, begun_first, begun_next, peer_in, fault_in};
 
 use crate::arrived::{Arrived, lend};
@@ -22,7 +23,7 @@ use crate::peer_fault::PeerFault;
 use crate::phase::Phase;
 use crate::step::{Step, settled, step_by};
 use byte_queue::ByteQueue;
-use peer_codes::{Beat, Frame, Hello, Record, read_record, record_bytes};
+use peer_codes::{Beat, Frame, Hello, Record, Version, read_record, record_bytes};
 use std::alloc::{AllocError, Global};
 
 /// A connection between two nodes without codes, as a machine without sockets.
@@ -41,12 +42,12 @@ pub struct PlainConnection {
 impl PlainConnection {
     /// The side that dialled, with its own Hello, which is to be written first. Takes no memory.
     pub fn call(alloc: Global, own: Hello) -> PlainConnection
-        ensures phase { result.phase ≡ phases.Greeting }
+        ensures phase { result.phase ≡ phases.Greeting (Some own.version) }
         ensures came { result.came.waiting ≡ [] }
         ensures out { result.out ≡ record { hello = Some own; begun = record { items = [] }; written = 0 } }
     {
         PlainConnection {
-            phase: Phase::Greeting,
+            phase: Phase::Greeting(Some(own.version)),
             came: ByteQueue::new(alloc),
             out: Outgoing::new(Some(own)),
         }
@@ -54,12 +55,12 @@ impl PlainConnection {
 
     /// The side that was dialled. Takes no memory.
     pub fn listen(alloc: Global) -> PlainConnection
-        ensures phase { result.phase ≡ phases.Greeting }
+        ensures phase { result.phase ≡ phases.Greeting None }
         ensures came { result.came.waiting ≡ [] }
         ensures out { result.out ≡ record { hello = None; begun = record { items = [] }; written = 0 } }
     {
         PlainConnection {
-            phase: Phase::Greeting,
+            phase: Phase::Greeting(None),
             came: ByteQueue::new(alloc),
             out: Outgoing::new(None),
         }
@@ -132,16 +133,30 @@ impl PlainConnection {
         match self.phase {
             Phase::Asked(_) => None,
             Phase::Closed(fault) => Some(Err(fault)),
-            Phase::Greeting => self.read_into(frame),
+            Phase::Greeting(_) => self.read_into(frame),
             Phase::Open(_) => self.read_open(frame),
         }
     }
 
-    /// This side's own Hello is to be written next: the called answers with it, also where it refuses.
-    pub fn answer(&mut self, own: Hello)
-        ensures { self.new ≡ record self.old { out = record self.old.out { hello = Some own } } }
+    /// The version in which this side answers: that of the Hello that came.
+    fn version(&self) -> Version
+        ensures { result ≡ version_in self.now.phase }
     {
-        self.out.hello = Some(own);
+        match self.phase {
+            Phase::Asked(hello) => hello.version,
+            Phase::Open(other) => other.version,
+            Phase::Greeting(_) => Version::First,
+            Phase::Closed(_) => Version::First,
+        }
+    }
+
+    /// This side's own Hello is to be written next, in the version of the one that came: the called answers with it, also
+    /// where it refuses.
+    pub fn answer(&mut self, own: Hello)
+        ensures { self.new ≡ record self.old { out = record self.old.out { hello = Some (in_version (version_in self.old.phase) own) } } }
+    {
+        let version = self.version();
+        self.out.hello = Some(Hello { version, ..own });
     }
 
     /// Judges the Hello that came, where one waits for it: the connection is open then, or closed by a fault.
@@ -157,7 +172,7 @@ impl PlainConnection {
     {
         match self.phase {
             Phase::Open(other) => Some(other.ends.from),
-            Phase::Greeting => None,
+            Phase::Greeting(_) => None,
             Phase::Asked(_) => None,
             Phase::Closed(_) => None,
         }
@@ -169,7 +184,7 @@ impl PlainConnection {
     {
         match self.phase {
             Phase::Open(other) => Some(other),
-            Phase::Greeting => None,
+            Phase::Greeting(_) => None,
             Phase::Asked(_) => None,
             Phase::Closed(_) => None,
         }
@@ -181,7 +196,7 @@ impl PlainConnection {
     {
         match self.phase {
             Phase::Closed(fault) => Some(fault),
-            Phase::Greeting => None,
+            Phase::Greeting(_) => None,
             Phase::Asked(_) => None,
             Phase::Open(_) => None,
         }
@@ -204,14 +219,36 @@ impl PlainConnection {
         }
     }
 
+    /// Begins the record of a further kind that waits, if one does and the connection is of this version.
+    fn begin_more(&mut self, version: Version, waiting: &mut Outbox)
+        ensures own { self.new ≡ said_next self.old (more_record (more_of version waiting.old)) }
+        ensures waiting { waiting.new ≡ without_more version waiting.old }
+    {
+        if let Some(more) = waiting.take_more(version) {
+            self.out.start(record_bytes(&Record::More(more)));
+        }
+    }
+
+    /// Begins what waits next behind the beat, if anything does.
+    fn begin_behind(&mut self, version: Version, waiting: &mut Outbox)
+        ensures own { self.new ≡ said_next self.old (next_behind (more_of version waiting.old) waiting.old.frames) }
+        ensures waiting { waiting.new ≡ rest_behind (more_of version waiting.old) version waiting.old }
+    {
+        if waiting.has_more(version) {
+            self.begin_more(version, waiting);
+        } else {
+            self.begin_frame(waiting);
+        }
+    }
+
     /// Begins what waits next, if anything does.
-    fn begin_open(&mut self, waiting: &mut Outbox)
-        ensures own { self.new ≡ (begun_open self.old waiting.old).0 }
-        ensures waiting { waiting.new ≡ (begun_open self.old waiting.old).1 }
+    fn begin_open(&mut self, version: Version, waiting: &mut Outbox)
+        ensures own { self.new ≡ (begun_open version self.old waiting.old).0 }
+        ensures waiting { waiting.new ≡ (begun_open version self.old waiting.old).1 }
     {
         match waiting.take_beat() {
             Some(beat) => self.begin_beat(beat),
-            None => self.begin_frame(waiting),
+            None => self.begin_behind(version, waiting),
         }
     }
 
@@ -233,19 +270,19 @@ impl PlainConnection {
             return;
         }
         match self.phase {
-            Phase::Open(_) => {
-                if waiting.has_next() {
-                    self.begin_open(waiting);
+            Phase::Open(other) => {
+                if waiting.has_next(other.version) {
+                    self.begin_open(other.version, waiting);
                 }
             }
-            Phase::Greeting => (),
+            Phase::Greeting(_) => (),
             Phase::Asked(_) => (),
             Phase::Closed(_) => (),
         }
     }
 
     /// Begins the next record, where none is unfinished: this side's own Hello, and where the connection is open what
-    /// waits, the beat first.
+    /// waits, the beat first, and records of further kinds before the frames.
     #[tactic(auto, unfolding(crate::specs::Connections::begun_next))]
     pub fn begin(&mut self, waiting: &mut Outbox)
         ensures own { self.new ≡ (begun_next self.old waiting.old).0 }

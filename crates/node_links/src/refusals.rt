@@ -1,24 +1,32 @@
-//! The callers who were refused and aren't known, for notes.
+//! The callers who were refused, for notes.
 
-ghost use Rattle.std.specs.Prelude.{◌≡◌, None};
-ghost use Rattle.node_links.specs.Refusing.{and_refused, is_noted, noted, behind_note};
+ghost use Rattle.std.specs.Prelude.{◌≡◌, ◌<◌, None, replicate};
+ghost use Rattle.node_links.specs.Refusing.{and_refused, is_noted, number_of, refused_by, due_at, Notes};
 
 use crate::limits::NOTED;
 use crate::peer_fault::PeerFault;
+use peer_codes::RecordFault;
 
-/// So many callers who aren't known were refused, the last by this fault.
+/// How many numbers faults have: 120 to 128.
+const NUMBERS: usize = 9;
+
+/// So many callers were refused, the last by this fault.
 #[derive(Clone, Copy, Debug, PartialEq, Eq)]
 pub struct Refused {
     pub count: u32,
     pub fault: PeerFault,
 }
 
-/// The callers who were refused since the last note, and when that was: there is one a second at most.
+/// The callers of some addresses who were refused since the last note of each number, and when that was: of each number
+/// there is one a second at most.
 #[derive(Clone, Copy, Debug, PartialEq, Eq)]
 pub struct Refusals {
-    pub since: Option<Refused>,
+    /// The node whose addresses these are; none of all other addresses.
+    pub peer: Option<u8>,
+    /// Of each number, counted from 120.
+    pub since: [Option<Refused>; NUMBERS],
     /// In whole microseconds.
-    pub noted: Option<u64>,
+    pub noted: [Option<u64>; NUMBERS],
 }
 
 /// Those who were refused, and one more.
@@ -44,35 +52,69 @@ fn is_noted(noted: Option<u64>, now: u64) -> bool
     }
 }
 
+/// The place of a fault's number among them.
+fn number(fault: PeerFault) -> usize
+    ensures number { result ≡ number_of fault }
+    ensures within { result < 9 }
+{
+    match fault {
+        PeerFault::Record(fault) => match fault {
+            RecordFault::BadLength => 0,
+            RecordFault::BadKind => 1,
+            RecordFault::BadHello => 2,
+        },
+        PeerFault::OtherMatch(_) => 3,
+        PeerFault::WrongProof => 4,
+        PeerFault::WrongTag => 5,
+        PeerFault::UnexpectedRecord => 6,
+        PeerFault::StoreReplaced(_) => 7,
+        PeerFault::AlreadyHere => 8,
+    }
+}
+
 impl Refusals {
-    /// Nobody was refused.
-    pub fn new() -> Refusals
-        ensures { result ≡ record { since = None; noted = None } }
+    /// Nobody was refused of the addresses of this node, or of all others.
+    pub fn new(peer: Option<u8>) -> Refusals
+        ensures { result ≡ record { peer = peer; since = replicate 9 None; noted = replicate 9 None } }
     {
         Refusals {
-            since: None,
-            noted: None,
+            peer,
+            since: [None; NUMBERS],
+            noted: [None; NUMBERS],
         }
     }
 
     /// One more is refused.
     pub fn refuse(&mut self, fault: PeerFault)
-        ensures { self.new ≡ record self.old { since = Some (and_refused fault self.old.since) } }
+        ensures { self.new ≡ refused_by fault self.old }
     {
-        self.since = Some(and_refused(fault, self.since));
+        let number = number(fault);
+        self.since[number] = Some(and_refused(fault, self.since[number]));
     }
 
-    /// What is noted now, if anything is.
-    pub fn note(&mut self, now: u64) -> Option<Refused>
-        ensures noted { result ≡ noted self.old now }
-        ensures rest { self.new ≡ behind_note (noted self.old now) now self.old }
+    /// What is noted now of the number at this place, if anything is.
+    fn due(&self, number: usize, now: u64) -> Option<Refused>
+        requires { number < 9 }
+        ensures { result ≡ due_at self.now number now }
     {
-        if !is_noted(self.noted, now) {
-            return None;
+        if is_noted(self.noted[number], now) {
+            self.since[number]
+        } else {
+            None
         }
-        let refused = self.since?;
-        self.since = None;
-        self.noted = Some(now);
-        Some(refused)
+    }
+
+    /// The next that is noted now, if anything is: those of one number.
+    pub fn note(&mut self, now: u64) -> Option<Refused>
+        ensures { Notes self.old now result self.new }
+    {
+        for number in 0..NUMBERS {
+            if let Some(refused) = self.due(number, now) {
+                self.since[number] = None;
+                self.noted[number] = Some(now);
+                return Some(refused);
+            }
+        }
+        None
     }
 }

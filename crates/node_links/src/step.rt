@@ -1,14 +1,15 @@
 //! What a record does to a connection.
 
 ghost use Rattle.std.specs.Prelude.{◌≡◌};
-ghost use Rattle.node_links.specs.Steps.{closed, greeted, on_greeting, on_open, stepped, step_by, settled};
+ghost use Rattle.node_links.specs.Steps.{closed, greeted, is_version, on_greeting, on_further, on_open, stepped, step_by, settled};
 
+use crate::further::{Further, read_behind};
 use crate::heard::Heard;
 use crate::judging::judge;
 use crate::own::{Met, Own};
 use crate::peer_fault::PeerFault;
 use crate::phase::Phase;
-use peer_codes::{Hello, Record, RecordFault};
+use peer_codes::{Hello, Record, RecordFault, Version};
 
 /// What a record does to a connection.
 #[derive(Drop)]
@@ -27,10 +28,30 @@ fn closed(fault: PeerFault) -> Step
     }
 }
 
-/// The other's Hello came: it is judged next.
-fn greeted(hello: Hello) -> Step
-    ensures { result ≡ greeted hello }
+/// Whether a Hello of this version may come, where this side dialled in that one.
+fn is_version(mine: Option<Version>, version: Version) -> bool
+    ensures { result ≡ is_version mine version }
 {
+    match mine {
+        None => true,
+        Some(Version::First) => match version {
+            Version::First => true,
+            Version::Second => false,
+        },
+        Some(Version::Second) => match version {
+            Version::First => false,
+            Version::Second => true,
+        },
+    }
+}
+
+/// The other's Hello came: it is judged next, unless it is of another version than that in which this side dialled.
+fn greeted(mine: Option<Version>, hello: Hello) -> Step
+    ensures { result ≡ greeted mine hello }
+{
+    if !is_version(mine, hello.version) {
+        return closed(PeerFault::Record(RecordFault::BadHello));
+    }
     Step {
         phase: Phase::Asked(hello),
         heard: Ok(Heard::Hello(hello)),
@@ -38,15 +59,28 @@ fn greeted(hello: Hello) -> Step
 }
 
 /// A record came before the other's Hello.
-fn on_greeting(said: Record) -> Step
-    ensures { result ≡ on_greeting said }
+fn on_greeting(mine: Option<Version>, said: Record) -> Step
+    ensures { result ≡ on_greeting mine said }
 {
     match said {
-        Record::Hello(hello) => greeted(hello),
+        Record::Hello(hello) => greeted(mine, hello),
         Record::Proof(_) => closed(PeerFault::UnexpectedRecord),
         Record::Frame(_) => closed(PeerFault::UnexpectedRecord),
         Record::Beat(_) => closed(PeerFault::UnexpectedRecord),
         Record::More(_) => closed(PeerFault::Record(RecordFault::BadKind)),
+    }
+}
+
+/// A record of a further kind came on an open connection, and tells this, or closes it.
+fn on_further(other: Hello, read: Result<Further, RecordFault>) -> Step
+    ensures { result ≡ on_further other read }
+{
+    match read {
+        Ok(further) => Step {
+            phase: Phase::Open(other),
+            heard: Ok(Heard::Further(further)),
+        },
+        Err(fault) => closed(PeerFault::Record(fault)),
     }
 }
 
@@ -65,7 +99,7 @@ fn on_open(other: Hello, said: Record) -> Step
         },
         Record::Hello(_) => closed(PeerFault::UnexpectedRecord),
         Record::Proof(_) => closed(PeerFault::UnexpectedRecord),
-        Record::More(_) => closed(PeerFault::Record(RecordFault::BadKind)),
+        Record::More(more) => on_further(other, read_behind(&other, &more)),
     }
 }
 
@@ -74,7 +108,7 @@ fn stepped(phase: Phase, said: Record) -> Step
     ensures { result ≡ stepped phase said }
 {
     match phase {
-        Phase::Greeting => on_greeting(said),
+        Phase::Greeting(mine) => on_greeting(mine, said),
         Phase::Asked(_) => closed(PeerFault::UnexpectedRecord),
         Phase::Open(other) => on_open(other, said),
         Phase::Closed(fault) => closed(fault),
@@ -100,7 +134,7 @@ pub(crate) fn settled(own: &Own, dialled: Option<u8>, met: &[Met], phase: Phase)
             Ok(()) => Phase::Open(hello),
             Err(fault) => Phase::Closed(fault),
         },
-        Phase::Greeting => Phase::Greeting,
+        Phase::Greeting(mine) => Phase::Greeting(mine),
         Phase::Open(other) => Phase::Open(other),
         Phase::Closed(fault) => Phase::Closed(fault),
     }

@@ -85,21 +85,22 @@ fn a_peer_at_fault_is_gone(rt: HostRuntime) -> Result<(), Fail> {
     Ok(())
 }
 
-/// One caller is told at once, and two more after a second.
+/// One caller of each number is told at once, and one more of the first number after a second.
 fn tells_strangers(rt: &impl Abort, side: &mut Side) -> Result<(), AllocError> {
     say(side, 0, &ASK_RECORD, 1_000)?;
     was_told(rt, side, 126, 0, 1);
     say(side, 0, &ASK_RECORD, 2_000)?;
+    was_told(rt, side, 126, 0, 1);
     say(side, 0, &[0, 0, 0, 1, 9], 3_000)?;
-    was_told(rt, side, 126, 0, 1);
+    was_told(rt, side, 121, 0, 2);
     side.turn(1_000_999);
-    was_told(rt, side, 126, 0, 1);
+    was_told(rt, side, 121, 0, 2);
     side.turn(1_001_000);
-    was_told(rt, side, 121, 0, 3);
+    was_told(rt, side, 126, 0, 3);
     Ok(())
 }
 
-/// Callers who aren't known are counted, and told once a second.
+/// Callers who aren't known are counted, and those of each number are told once a second.
 #[test]
 fn strangers_are_told_once_a_second(rt: HostRuntime) -> Result<(), Fail> {
     let mut side = node_0(rt.alloc())?;

@@ -2,7 +2,7 @@
 
 use crate::pair::{Side, exchange, say};
 use crate::samples::{ASK, assert_number, coded_hello, frame, key, own};
-use node_links::{Arrived, CodedConnection, Connection, Met, Outbox};
+use node_links::{Arrived, CodedConnection, Connection, Known, Met, Outbox};
 use node_wires::{Line, Wire};
 use peer_codes::Frame;
 use std::alloc::{AllocError, Global};
@@ -40,7 +40,7 @@ fn said_by(alloc: Global, low: &mut Side, high: &mut Side) -> Result<Vec<u8>, Al
     Ok(all)
 }
 
-/// The same where an Ask waits there: its Hello of 114 bytes, its proof of 37, a beat of 52 and an Ask of 47.
+/// The same where an Ask waits there: its Hello of 114 bytes, its proof of 37, a beat of 52, lives of 85 and an Ask of 47.
 fn course(alloc: Global) -> Result<Vec<u8>, AllocError> {
     let mut low = node(alloc, 0)?;
     let mut high = node(alloc, 1)?;
@@ -76,7 +76,7 @@ fn hears_in_two_turns(rt: &impl Abort, side: &mut Side) {
 #[test]
 fn the_proof_waits_for_the_own_hello(rt: HostRuntime) -> Result<(), Fail> {
     let all = course(rt.alloc())?;
-    assert_number(&rt, all.len() as u64, 250);
+    assert_number(&rt, all.len() as u64, 335);
     let mut side = told(rt.alloc(), all.as_slice(), 0)?;
     hears_in_two_turns(&rt, &mut side);
     Ok(())
@@ -88,7 +88,7 @@ fn tells_no_frame(rt: &impl Abort, side: &mut Side, place: usize) {
     assert_number(rt, side.seen.frames as u64, 0);
     match place {
         150 => assert_number(rt, side.seen.fault as u64, 124),
-        249 => assert_number(rt, side.seen.fault as u64, 125),
+        334 => assert_number(rt, side.seen.fault as u64, 125),
         _ => (),
     }
 }
@@ -100,7 +100,7 @@ fn change(rt: &impl Abort, alloc: Global, all: &[u8], place: usize) -> Result<()
     Ok(())
 }
 
-/// Whichever byte is changed, of the Hello, the proof, the beat or the frame, no frame is told: by 124 where it is the last of
+/// Whichever byte is changed, of the Hello, the proof, the beat, the lives or the frame, no frame is told: by 124 where it is the last of
 /// the proof, and by 125 where it is the last of all.
 #[test]
 fn no_byte_may_change(rt: HostRuntime) -> Result<(), Fail> {
@@ -198,7 +198,7 @@ impl End {
             None => Came::Nothing,
             Some(Err(_)) => Came::Fault,
             Some(Ok(Arrived::Frame)) => Came::Frame,
-            Some(Ok(Arrived::Beat(_))) => Came::Beat,
+            Some(Ok(Arrived::Beat(_) | Arrived::Further(_))) => Came::Beat,
             Some(Ok(Arrived::Hello(_) | Arrived::Proved(_))) => Came::Words,
         }
     }
@@ -212,7 +212,7 @@ impl End {
     /// Judges what came.
     fn judge(&mut self) {
         let unmet = Met {
-            kept: None,
+            lives: Known::Nothing,
             is_here: false,
         };
         let dialled = if self.number == 1 { Some(0) } else { None };

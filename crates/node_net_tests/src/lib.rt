@@ -6,6 +6,8 @@
 //!   of a wire failing once.
 //! - `caller_tests`: who dials node 0, byte for byte: taken, refused, counted, replaced.
 //! - `again_tests`: what is sent again, and what is owed.
+//! - `lives_tests`: what is said behind Hellos of the second version, and which lives are known by it.
+//! - `turn_tests`: in which version a peer is dialled, and when.
 //! - `coded_tests`: what is said over connections with codes: each byte of it changed, said again, and dropped in part.
 //! - `seat_tests`: the bots of seats, with tokens and without.
 //! - `tcp_tests`: strangers over sockets of this machine.
@@ -18,6 +20,8 @@ mod caller_tests;
 #[cfg(test)]
 mod coded_tests;
 #[cfg(test)]
+mod lives_tests;
+#[cfg(test)]
 mod node_peers_tests;
 #[cfg(test)]
 mod pair;
@@ -27,3 +31,5 @@ mod samples;
 mod seat_tests;
 #[cfg(test)]
 mod tcp_tests;
+#[cfg(test)]
+mod turn_tests;

@@ -1,8 +1,9 @@
 //! Processes that meet, refuse each other, lose each other and meet again.
 
 use crate::pair::{SILENCE, Side, take_turns};
-use crate::samples::{ACCEPTED, ASK, HELLO_RECORD, assert_bytes, assert_number, life, own};
+use crate::samples::{ACCEPTED, ASK, assert_bytes, assert_number, hello, life, own, second};
 use node_wires::{Line, MemoryWire, Wire};
+use peer_codes::{Record, record_bytes};
 use std::alloc::{AllocError, Global};
 use std::process::Abort;
 use std::test::Fail;
@@ -88,13 +89,14 @@ fn frames_cross_both_ways(rt: HostRuntime) -> Result<(), Fail> {
     Ok(())
 }
 
-/// Who dials says its Hello first, whatever waits.
+/// Who dials says its Hello first, in the second version, whatever waits.
 #[test]
 fn the_caller_says_its_hello_first(rt: HostRuntime) -> Result<(), Fail> {
     let mut high = Side::new(rt.alloc(), 1, 9, &[], 0)?;
     high.peers.send(0, &ASK, 0);
     high.turn(0);
-    assert_bytes(&rt, high.wire.written(Line::Peer(0)), &HELLO_RECORD);
+    let hello = record_bytes(&Record::Hello(second(hello(1, 0))));
+    assert_bytes(&rt, high.wire.written(Line::Peer(0)), hello.as_slice());
     Ok(())
 }
 
@@ -138,7 +140,9 @@ fn each_call_fails_once(rt: HostRuntime) -> Result<(), Fail> {
     for call in 1..MOST_CALLS {
         let (mut low, mut high) = met(alloc, call)?;
         high.peers.send(0, &ACCEPTED, 7_000);
-        take_turns(alloc, &mut low, &mut high, 60_000, 8)?;
+        // A dial that was closed without a byte is made again after 0.1 s, as a probe, and once more 50 ms behind that.
+        take_turns(alloc, &mut low, &mut high, 160_000, 8)?;
+        take_turns(alloc, &mut low, &mut high, 220_000, 8)?;
         assert!(rt; low.seen.joined >= 1 && high.seen.joined >= 1);
         // Once, and once more where they met anew.
         assert!(rt; low.seen.frames <= 2 && low.seen.sum == 0);

@@ -46,6 +46,8 @@ pub(crate) struct Seen {
     pub(crate) unreached: u32,
     /// In how many of these its address refused the last.
     pub(crate) refuses: u32,
+    /// How often settings of a peer were told.
+    pub(crate) settings: u8,
     /// The sum of all frames' last bytes.
     pub(crate) sum: u64,
 }
@@ -60,6 +62,7 @@ pub(crate) const NOTHING: Seen = Seen {
     strangers: 0,
     unreached: 0,
     refuses: 0,
+    settings: 0,
     sum: 0,
 };
 
@@ -107,6 +110,14 @@ fn and_unreached(seen: Seen, refuses: bool) -> Seen {
     }
 }
 
+/// What was told so far, and the settings of a peer.
+fn and_settings(seen: Seen) -> Seen {
+    Seen {
+        settings: seen.settings.saturating_add(1),
+        ..seen
+    }
+}
+
 /// What was told so far, and a frame.
 fn and_frame(seen: Seen, bytes: &[u8]) -> Seen {
     let last = bytes.last().copied().unwrap_or(0);
@@ -127,7 +138,15 @@ fn and_notice(seen: Seen, notice: &Notice) -> Seen {
             fault,
             source: _,
         } => and_refused(seen, fault.code()),
-        Notice::Strangers { count, fault } => and_strangers(seen, *count, fault.code()),
+        Notice::Strangers {
+            peer: _,
+            count,
+            fault,
+        } => and_strangers(seen, *count, fault.code()),
+        Notice::Settings {
+            peer: _,
+            settings: _,
+        } => and_settings(seen),
         Notice::Unreached { peer: _, refuses } => and_unreached(seen, *refuses),
         Notice::Frame { from: _, frame } => and_frame(seen, frame.as_slice()),
     }

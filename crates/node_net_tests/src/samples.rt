@@ -97,6 +97,14 @@ pub(crate) fn coded_hello(from: u8, to: u8, nonce: u8) -> Hello
     }
 }
 
+/// The same Hello in the second version.
+pub(crate) fn second(hello: Hello) -> Hello {
+    Hello {
+        version: Version::Second,
+        ..hello
+    }
+}
+
 /// The record of the Hello of node 1 to node 0.
 pub(crate) const HELLO_RECORD: [u8; 82] = [
     0, 0, 0, 78, 0, 72, 68, 78, 49, 0, 1, 0, 3, 9, 9, 9, 9, 9, 9, 9, 9, 9, 9, 9, 9, 9, 9, 9, 9, 9,

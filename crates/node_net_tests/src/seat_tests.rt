@@ -4,6 +4,7 @@ use crate::samples::{assert_bytes, assert_number};
 use node_seats::{SeatNotice, Seats, TokenDigest};
 use node_wires::{Line, MemoryWire};
 use std::alloc::{AllocError, Global};
+use std::net::IpAddr;
 use std::process::Abort;
 use std::test::Fail;
 
@@ -32,6 +33,16 @@ const DIGESTS: [TokenDigest; 2] = [
 struct Table {
     wire: MemoryWire,
     seats: Seats,
+    /// Whether who sits there has named the version.
+    greeted: bool,
+}
+
+/// Whether this is the address of all who come over wires in memory.
+fn is_of_memory(source: Option<IpAddr>) -> bool {
+    match source {
+        Some(IpAddr::V4(address)) => address.octets() == [127, 0, 0, 1],
+        Some(IpAddr::V6(_)) | None => false,
+    }
 }
 
 /// Two seats with tokens.
@@ -40,6 +51,7 @@ fn two_seats(alloc: Global) -> Result<Table, AllocError> {
     Ok(Table {
         wire: MemoryWire::new(alloc, 0)?,
         seats: Seats::new(alloc, 2, Some(tokens))?,
+        greeted: false,
     })
 }
 
@@ -48,18 +60,21 @@ fn open_seats(alloc: Global) -> Result<Table, AllocError> {
     Ok(Table {
         wire: MemoryWire::new(alloc, 0)?,
         seats: Seats::new(alloc, 2, None)?,
+        greeted: false,
     })
 }
 
 impl Table {
     /// The number that stands for what comes of seats next, asked in turn: 1 a bot at seat 0 and 2 one at seat 1, 3 the end of
-    /// one, 4 a refusal, the length of a piece, 0 nothing.
+    /// one, 4 a refusal with its address, the length of a piece, 0 nothing.
     fn hears(&mut self, now: u64) -> u64 {
         for at in 0..self.seats.looks() {
-            match self.seats.next(&mut self.wire, at, now) {
+            match self.seats.next(&mut self.wire, at, self.greeted, now) {
                 Some(SeatNotice::Came { seat }) => return seat as u64 + 1,
                 Some(SeatNotice::Gone { seat: _ }) => return 3,
-                Some(SeatNotice::Refused { seat: _ }) => return 4,
+                Some(SeatNotice::Refused { seat: _, source }) => {
+                    return if is_of_memory(source) { 4 } else { 5 };
+                }
                 Some(SeatNotice::Piece { seat: _, bytes }) => return bytes.len() as u64,
                 None => (),
             }
@@ -119,6 +134,32 @@ fn much_comes_in_pieces(rt: HostRuntime) -> Result<(), Fail> {
     table.wire.come(Line::Seat(1), &[b'#'; 1100])?;
     for expected in [512, 512, 76, 0] {
         table.assert_hears(&rt, 0, expected);
+    }
+    Ok(())
+}
+
+/// A bot that hasn't named the version within ten seconds is let go of, once what stood there then was heard; who waits for
+/// the seat is taken in behind it. One that has stays.
+#[test]
+fn a_silent_bot_has_ten_seconds(rt: HostRuntime) -> Result<(), Fail> {
+    let mut table = open_seats(rt.alloc())?;
+    table.wire.come_to_seat(0);
+    table.assert_hears(&rt, 0, 1);
+    table.wire.come_to_seat(0);
+    table.assert_hears(&rt, 9_999_999, 0);
+    table.wire.come(Line::Seat(0), b"# hello")?;
+    for expected in [7, 3, 1] {
+        table.assert_hears(&rt, 10_000_000, expected);
+    }
+    table.assert_hears(&rt, 19_999_999, 0);
+    for expected in [0, 3] {
+        table.assert_hears(&rt, 20_000_000, expected);
+    }
+    table.wire.come_to_seat(0);
+    table.assert_hears(&rt, 30_000_000, 1);
+    table.greeted = true;
+    for _ in 0..3u64 {
+        table.assert_hears(&rt, 36_000_000_000, 0);
     }
     Ok(())
 }

@@ -1,5 +1,5 @@
 -- What came over the lines of node 0 of three, and what is told of it, on values.
-use Rattle.std.proofs.Common.{◌≡◌, inl, inr, ℕ, List, [], ◌∷◌, ◌++◌, replicate, Some, None, refl, ap, arith, lit<, lit≤}
+use Rattle.std.proofs.Common.{◌≡◌, inl, inr, ℕ, List, [], ◌∷◌, ◌++◌, replicate, Option, Some, None, refl, ap, arith, lit<, lit≤}
 use Rattle.peer_codes.specs.declared.frame.Frame.{Frame}
 use Rattle.peer_codes.specs.declared.version.Version.TheVariants.{First}
 use Rattle.peer_codes.specs.declared.hello.Hello.{Hello}
@@ -16,6 +16,11 @@ use Rattle.node_peers.specs.Lines.{line_at, dialled_over}
 use Rattle.node_peers.specs.Hearing.{IsTold, talk_over}
 use Rattle.node_peers.specs.Greeting.{IsOurs, coded_by, first_of}
 use Rattle.node_peers.specs.Handing.{Is}
+use Rattle.node_peers.specs.declared.peer.Peer.{Peer as OfPeer}
+use Rattle.node_peers.specs.Knowing.{known_of, IsOfOne, lives_told}
+use Rattle.node_peers.specs.Replacing.{IsClosed, Fades}
+use Rattle.node_links.specs.declared.own.Known.TheVariants.{Nothing, One, Two}
+use Rattle.peer_codes.specs.declared.hello.Life.{Life}
 
 peer_first : line_at 6 ≡ Peer 6
 peer_first = refl
@@ -73,7 +78,7 @@ ask_told =
       before = passed;
       since = [];
       passed_is = refl;
-      says = record { hello = hello; is = hello_is; from_is = refl; takes = ([], refl); said = []; are = tt; frame_is = record { least = lit≤ tt; most = lit≤ tt }; rest = []; text = refl };
+      says = record { hello = hello; is = hello_is; from_is = refl; takes = ([], refl); said = []; are = tt; last_is = record { least = lit≤ tt; most = lit≤ tt }; rest = []; text = refl };
     }) ∣₁
 
 -- and node 1 is told to be there, whose life is kept
@@ -136,3 +141,63 @@ to_whom (Logged text) = 0
 handed_to_another : Is (Wrote (Peer 1) vote) (Wrote (Peer 2) vote ∷ []) → ⊥
 handed_to_another (inl same) = omega (arith, ap to_whom same)
 handed_to_another (inr never) = absurd never
+
+-- ---- which lives are known, at node 0 of three: nodes 1 and 2 are there
+
+abbrev life : ℕ → Life
+life n = record { bytes = replicate 16 n }
+
+-- no life is kept of it, and it tells this one of node 1
+abbrev teller : OfPeer → ℕ → OfPeer
+teller peer n = record peer { kept = None; told = None ∷ Some (life n) ∷ None ∷ [] }
+
+-- nothing is known of this node, nothing is kept of node 1, and it tells its own life and node 2 this one
+abbrev there : OfPeer → ℕ → List OfPeer
+there peer n = record peer { kept = None; told = [] } ∷ teller peer 5 ∷ teller peer n ∷ []
+
+one_is_known : (peer : OfPeer) → known_of own 1 (there peer 5) ≡ One (life 5)
+one_is_known peer = refl
+
+two_are_known : (peer : OfPeer) → known_of own 1 (there peer 6) ≡ Two
+two_are_known peer = refl
+
+nothing_is_known : (peer : OfPeer) → known_of own 2 (there peer 5) ≡ Nothing
+nothing_is_known peer = refl
+
+-- that of this node is its own
+own_is_known : (peer : OfPeer) → known_of own 0 (there peer 5) ≡ One own.life
+own_is_known peer = refl
+
+-- what is kept counts as what is told
+kept_is_another : (peer : OfPeer) → known_of own 1 (record peer { kept = None; told = [] } ∷ record (teller peer 5) { kept = Some (life 7) } ∷ []) ≡ Two
+kept_is_another peer = refl
+
+-- no frame of node 1 is told then
+none_of_its_frames : (peer : OfPeer) → IsOfOne own (there peer 6) (notices.Frame 1 ask) → ⊥
+none_of_its_frames peer is = is refl
+
+frames_of_another : (peer : OfPeer) → IsOfOne own (there peer 6) (notices.Frame 2 ask)
+frames_of_another peer e = absurd cc
+
+-- its own life, that which is heard of node 1, and none of node 2
+what_is_told : (peer : OfPeer) → lives_told own (there peer 6) ≡ record { nodes = 3; lives = Some own.life ∷ Some (life 5) ∷ None ∷ None ∷ None ∷ None ∷ None ∷ [] }
+what_is_told peer = refl
+
+-- ---- of which nodes no connection is open
+
+-- two lives of node 1 are known, and this is the place by which it is there
+abbrev with_open : OfPeer → Option ℕ → List OfPeer
+with_open peer place = record peer { kept = None; told = [] } ∷ record (teller peer 5) { «open» = place } ∷ teller peer 6 ∷ []
+
+is_closed : (peer : OfPeer) → IsClosed own (with_open peer None) 1
+is_closed peer other is = refl
+
+is_there : (peer : OfPeer) → IsClosed own (with_open peer (Some 7)) 1 → ⊥
+is_there peer closed = let none = closed (λ e. absurd cc) refl in absurd (cc none)
+
+-- by a call that only ends connections nobody comes
+comes_anew : (peer : OfPeer) → Fades (record peer { «open» = None }) (record peer { «open» = Some 7 }) → ⊥
+comes_anew peer fades = elim fades.place as (λ _. ⊥) [
+  | inl same ↦ absurd (cc same)
+  | inr none ↦ absurd (cc none)
+]

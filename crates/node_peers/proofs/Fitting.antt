@@ -21,7 +21,7 @@ use Rattle.node_links.specs.declared.heard.Heard.TheVariants as heards
 use Rattle.node_links.specs.declared.peer_fault.PeerFault.{PeerFault}
 use Rattle.node_links.specs.declared.own.Own.{Own}
 use Rattle.node_links.specs.Talks.{Talk, Says, Opens}
-use Rattle.node_links.specs.Going.{Goes, GoesOn, GoesOnWritten, OpensAs, TellsFrame, silence, unwritten_of, peer_of}
+use Rattle.node_links.specs.Going.{Goes, GoesOn, GoesOnWritten, OpensAs, Tells, silence, unwritten_of, peer_of}
 use Rattle.node_peers.specs.declared.link.Link.{Link}
 use Rattle.node_peers.specs.declared.notice.Notice.{Notice}
 use Rattle.node_peers.specs.declared.notice.Notice.TheVariants as notices
@@ -159,7 +159,8 @@ told_on own passed more (notices.Joined peer life) told =
 told_on own passed more (notices.Gone peer) told = tt
 told_on own passed more (notices.Refused peer fault source) told = tt
 told_on own passed more (notices.Unreached peer refuses) told = tt
-told_on own passed more (notices.Strangers count fault) told = tt
+told_on own passed more (notices.Strangers peer count fault) told = tt
+told_on own passed more (notices.Settings peer settings) told = tt
 
 pub are_told_on : (own : Own) (passed more : List Passage) (told : List Notice) → AreTold own passed told → AreTold own (passed ++ more) told
 are_told_on own passed more [] are = tt
@@ -207,12 +208,13 @@ pub opens_in : (own : Own) (link : Link) (result : Option Hello) → link.is_los
 opens_in own link None kept opens = tt
 opens_in own link (Some hello) kept opens = λ talk is. opens own talk (goes_in link.is_lost own talk link.connection kept is)
 
-pub says_next : (old new : Link) (result : Option (Result Heard PeerFault)) → old.is_lost ≡ false → TellsFrame result old.connection new.connection → SaysFrame result old new
+pub says_next : (old new : Link) (result : Option (Result Heard PeerFault)) → old.is_lost ≡ false → Tells result old.connection new.connection → SaysFrame result old new
 says_next old new None lost tells = tt
 says_next old new (Some (Err fault)) lost tells = tt
 says_next old new (Some (Ok (heards.Hello hello))) lost tells = tt
 says_next old new (Some (Ok (heards.Proved hello))) lost tells = tt
 says_next old new (Some (Ok (heards.Beat beat))) lost tells = tt
+says_next old new (Some (Ok (heards.Further further))) lost tells = tt
 says_next old new (Some (Ok (heards.Frame frame))) lost tells = λ own talk from is at. tells own talk from (goes_in old.is_lost own talk old.connection lost is) at
 
 pub said_of : (arrived : Option (Result Arrived PeerFault)) (frame : Frame) (from : Option ℕ) (old new : Link) → SaysFrame (told arrived frame) old new → from ≡ peer_of new.connection → SaidBy (saying_of arrived from) frame (Some old)
@@ -222,6 +224,8 @@ said_of (Some (Ok (arrivals.Hello hello))) frame from old new says is = tt
 said_of (Some (Ok (arrivals.Proved hello))) frame from old new says is = tt
 said_of (Some (Ok (arrivals.Beat beat))) frame None old new says is = tt
 said_of (Some (Ok (arrivals.Beat beat))) frame (Some from) old new says is = tt
+said_of (Some (Ok (arrivals.Further further))) frame None old new says is = tt
+said_of (Some (Ok (arrivals.Further further))) frame (Some from) old new says is = tt
 said_of (Some (Ok arrivals.Frame)) frame None old new says is = tt
 said_of (Some (Ok arrivals.Frame)) frame (Some from) old new says is = λ own talk kept. says own talk from kept (sym is)
 
@@ -353,6 +357,7 @@ said_in sayings.Waits frame links place old at said = tt
 said_in sayings.Nothing frame links place old at said = tt
 said_in (sayings.Hello hello) frame links place old at said = tt
 said_in (sayings.Beat from beat) frame links place old at said = tt
+said_in (sayings.Further from further) frame links place old at said = tt
 said_in (sayings.Proved hello) frame links place old at said = tt
 said_in (sayings.Fault fault) frame links place old at said = tt
 

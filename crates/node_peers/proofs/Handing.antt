@@ -5,6 +5,9 @@ use Rattle.std.proofs.lemmas.Bool.Decides.{eqb_tells}
 use Rattle.std.proofs.lemmas.List.{get_or-set_same, get_or-set_other, get_or_default, length-set}
 use Rattle.peer_codes.specs.declared.beat.Beat.{Beat}
 use Rattle.peer_codes.specs.declared.frame.Frame.{Frame}
+use Rattle.peer_codes.specs.declared.more.More.{More}
+use Rattle.peer_codes.specs.declared.version.Version.{Version}
+use Rattle.peer_codes.specs.declared.version.Version.TheVariants.{First, Second}
 use Rattle.node_wires.specs.declared.line.Line.TheVariants.{Peer as ToPeer}
 use Rattle.node_wires.specs.declared.passages.Passages.{Passages}
 use Rattle.node_wires.specs.Passages.{Passage, Wrote}
@@ -14,7 +17,8 @@ use Rattle.node_links.specs.declared.forwarded.Forwarded.{Forwarded}
 use Rattle.node_links.specs.Repeating.{kept_after, copy_of}
 use Rattle.node_links.specs.Forwarding.{forwarded_after}
 use Rattle.node_links.specs.Waits.{Waits}
-use Rattle.node_links.specs.Waiting.{newest, rest_by, rest_of, Puts, IsBegun}
+use Rattle.node_links.specs.declared.lives.Lives.{Lives}
+use Rattle.node_links.specs.Waiting.{newest, without_further, without_more, more_of, rest_behind, rest_by, rest_of, Puts, IsBegun}
 use Rattle.node_peers.specs.declared.peer.Peer.{Peer}
 use Rattle.node_peers.specs.declared.lines.Lines.{Lines}
 use Rattle.node_peers.specs.Growing.{Grew, Stays}
@@ -161,19 +165,31 @@ goes_forwarded old new frame most there copied = goes_put old new frame most the
 pub not_begun : (old new : Waits) → new ≡ old → IsBegun old new
 not_begun old new e = inl e
 
-by_beat : (bytes : List ℕ) (beat : Option Beat) (frames : List Frame) → Among bytes (rest_by beat frames).frames → Among bytes frames
-by_beat bytes (Some beat) frames among = among
-by_beat bytes None frames among = dropped_among bytes 1 frames among
+further_frames : (lives : Option Lives) (w : Waits) → (without_further lives w).frames ≡ w.frames
+further_frames (Some lives) w = refl
+further_frames None w = refl
 
-rest_among : (bytes : List ℕ) (w : Waits) → Among bytes (rest_of w).frames → Among bytes w.frames
-rest_among bytes w among = by_beat bytes w.beat w.frames among
+more_frames : (version : Version) (w : Waits) → (without_more version w).frames ≡ w.frames
+more_frames First w = refl
+more_frames Second w = further_frames w.lives w
+
+behind_among : (bytes : List ℕ) (more : Option More) (version : Version) (w : Waits) → Among bytes (rest_behind more version w).frames → Among bytes w.frames
+behind_among bytes (Some more) version w among = subst (λ (fs : List Frame). Among bytes fs) (more_frames version w) among
+behind_among bytes None version w among = dropped_among bytes 1 w.frames among
+
+by_beat : (bytes : List ℕ) (beat : Option Beat) (version : Version) (w : Waits) → Among bytes (rest_by beat version w).frames → Among bytes w.frames
+by_beat bytes (Some beat) version w among = among
+by_beat bytes None version w among = behind_among bytes (more_of version w) version w among
+
+rest_among : (bytes : List ℕ) (version : Version) (w : Waits) → Among bytes (rest_of version w).frames → Among bytes w.frames
+rest_among bytes version w among = by_beat bytes w.beat version w among
 
 pub goes_begun : (old new : Peer) → IsBegun old.outbox new.outbox → new.accepted.last ≡ old.accepted.last → new.forwarded.last ≡ old.forwarded.last → new.kept ≡ old.kept → GoesBack old new
 goes_begun old new (inl same) accepted forwarded kept = goes_same old new (ap (λ (w : Waits). w.frames) same) accepted forwarded kept
-goes_begun old new (inr rest) accepted forwarded kept = record {
+goes_begun old new (inr (version, rest)) accepted forwarded kept = record {
   back = λ bytes among.
       by_parts bytes new.outbox.frames (accepted_in new.accepted.last) (forwarded_in new.forwarded.last) (frames_for old)
-      (λ a. waits_of bytes old (rest_among bytes old.outbox (subst (λ (fs : List Frame). Among bytes fs) (ap (λ (w : Waits). w.frames) rest) a)))
+      (λ a. waits_of bytes old (rest_among bytes version old.outbox (subst (λ (fs : List Frame). Among bytes fs) (ap (λ (w : Waits). w.frames) rest) a)))
       (λ a. accepted_of bytes old (subst (λ (l : Option LastAccepted). Among bytes (accepted_in l)) accepted a))
       (λ a. forwarded_of bytes old (subst (λ (l : Option Frame). Among bytes (forwarded_in l)) forwarded a))
       among;

@@ -6,3 +6,6 @@ pub mod Handing
 pub mod Keyed
 pub mod Meeting
 mod Examples
+pub mod Lives
+pub mod Fading
+pub mod Reporting

@@ -75,7 +75,8 @@ IsTold own passed (notices.Joined peer life) = ∥ Joins own passed peer life �
 IsTold own passed (notices.Gone peer) = Unit {0}
 IsTold own passed (notices.Refused peer fault source) = Unit {0}
 IsTold own passed (notices.Unreached peer refuses) = Unit {0}
-IsTold own passed (notices.Strangers count fault) = Unit {0}
+IsTold own passed (notices.Strangers peer count fault) = Unit {0}
+IsTold own passed (notices.Settings peer settings) = Unit {0}
 
 abbrev pub AreTold : Own → List Passage → List Notice → Type 0
 AreTold own passed [] = Unit {0}
@@ -100,7 +101,8 @@ told_prop own passed (notices.Joined peer life) = λ x y. squash₁ x y
 told_prop own passed (notices.Gone peer) = Unit-prop
 told_prop own passed (notices.Refused peer fault source) = Unit-prop
 told_prop own passed (notices.Unreached peer refuses) = Unit-prop
-told_prop own passed (notices.Strangers count fault) = Unit-prop
+told_prop own passed (notices.Strangers peer count fault) = Unit-prop
+told_prop own passed (notices.Settings peer settings) = Unit-prop
 
 pub are_told_prop : (own : Own) (passed : List Passage) (told : List Notice) → IsProp (AreTold own passed told)
 are_told_prop own passed [] = Unit-prop
@@ -140,6 +142,7 @@ SaysFrame (Some (Err fault)) old new = Unit {0}
 SaysFrame (Some (Ok (heards.Hello hello))) old new = Unit {0}
 SaysFrame (Some (Ok (heards.Proved hello))) old new = Unit {0}
 SaysFrame (Some (Ok (heards.Beat beat))) old new = Unit {0}
+SaysFrame (Some (Ok (heards.Further further))) old new = Unit {0}
 SaysFrame (Some (Ok (heards.Frame frame))) old new = (own : Own) (talk : Talk) (from : ℕ) → IsOf own talk (Some old) → peer_of new.connection ≡ Some from → ∥ Says own from frame talk ∥₁
 
 -- where it is open now it was opened as it has to be

@@ -9,4 +9,8 @@ pub mod Handing
 pub mod Peering
 pub mod Viewing
 pub mod Greeting
+pub mod Knowing
+pub mod Replacing
 pub mod Meeting
+pub mod Turning
+pub mod Reporting

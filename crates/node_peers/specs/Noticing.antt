@@ -13,7 +13,8 @@ heard_of (notices.Joined peer None) = []
 heard_of (notices.Gone peer) = []
 heard_of (notices.Refused peer fault source) = []
 heard_of (notices.Unreached peer refuses) = []
-heard_of (notices.Strangers count fault) = []
+heard_of (notices.Strangers peer count fault) = []
+heard_of (notices.Settings peer settings) = []
 
 abbrev pub heard_by : Option Notice → List Passage
 heard_by None = []

@@ -21,6 +21,8 @@ saying_of (Some (Ok arrivals.Frame)) (Some from) = sayings.Frame from
 saying_of (Some (Ok arrivals.Frame)) None = sayings.Nothing
 saying_of (Some (Ok (arrivals.Beat beat))) (Some from) = sayings.Beat from beat
 saying_of (Some (Ok (arrivals.Beat beat))) None = sayings.Nothing
+saying_of (Some (Ok (arrivals.Further further))) (Some from) = sayings.Further from further
+saying_of (Some (Ok (arrivals.Further further))) None = sayings.Nothing
 
 -- where this frame is said it came over the connection as it has to
 abbrev pub SaidBy : Saying → Frame → Option Link → Type 0
@@ -30,6 +32,7 @@ SaidBy sayings.Nothing frame link = Unit {0}
 SaidBy (sayings.Hello hello) frame link = Unit {0}
 SaidBy (sayings.Proved hello) frame link = Unit {0}
 SaidBy (sayings.Beat from beat) frame link = Unit {0}
+SaidBy (sayings.Further from further) frame link = Unit {0}
 SaidBy (sayings.Fault fault) frame link = Unit {0}
 
 abbrev pub SaidAt : Saying → Frame → ℕ → List (Option Link) → Type 0
@@ -39,4 +42,5 @@ SaidAt sayings.Nothing frame place links = Unit {0}
 SaidAt (sayings.Hello hello) frame place links = Unit {0}
 SaidAt (sayings.Proved hello) frame place links = Unit {0}
 SaidAt (sayings.Beat from beat) frame place links = Unit {0}
+SaidAt (sayings.Further from further) frame place links = Unit {0}
 SaidAt (sayings.Fault fault) frame place links = Unit {0}

@@ -1,21 +1,26 @@
 //! Which peers are dialled, and when.
 
+ghost use Rattle.std.specs.Prelude.{◌≡◌, slice_get};
 ghost use Rattle.node_peers.specs.Handing.{GoBack};
+ghost use Rattle.node_peers.specs.Replacing.{AllFade};
+ghost use Rattle.node_peers.specs.Turning.{version_in};
 
 use crate::greeting::drawn;
-use crate::peer::Peer;
+use crate::peer::{Outcome, Peer};
 use crate::peers::Peers;
 use node_links::DialDue;
 use node_links::limits::LOOK;
 use node_wires::Wire;
+use peer_codes::Version;
 
-/// The dial of a peer ended at this moment, where nothing came of it perhaps but its Hello.
-#[tactic(auto, using(crate::proofs::Handing::back_at, crate::proofs::Handing::back_same))]
-pub(crate) fn end_dial(peers: &mut Vec<Peer>, number: u8, now: u64, is_fruitless: bool)
-    ensures { GoBack peers.old.items peers.new.items }
+/// The dial of a peer ended at this moment, of which this came.
+#[tactic(auto, using(crate::proofs::Handing::back_at, crate::proofs::Handing::back_same, crate::proofs::Fading::fade_at, crate::proofs::Fading::fade_same))]
+pub(crate) fn end_dial(peers: &mut Vec<Peer>, number: u8, now: u64, outcome: Outcome)
+    ensures back { GoBack peers.old.items peers.new.items }
+    ensures fade { AllFade peers.old.items peers.new.items }
 {
     if let Some(peer) = peers.get_mut(number as usize) {
-        peer.end_dial(now, is_fruitless);
+        peer.end_dial(now, outcome);
     }
 }
 
@@ -40,6 +45,13 @@ fn begin_dial(peers: &mut Vec<Peer>, number: u8, now: u64)
     }
 }
 
+/// Nothing came of a dial that failed.
+const NOTHING: Outcome = Outcome {
+    is_fruitless: false,
+    has_come: false,
+    said: None,
+};
+
 impl Peers {
     ghost use Rattle.node_peers.specs.Peering.{Grew, Stays};
 
@@ -51,8 +63,18 @@ impl Peers {
         let Some(link) = drawn(self.lines.own.key.is_some(), wire) else {
             return false;
         };
-        let own = self.hello_to(number, link);
+        let own = self.hello_to(number, self.version_of(number), link);
         self.lines.dial(wire, number, own, now)
+    }
+
+    /// In which version a peer is dialled.
+    fn version_of(&self, number: u8) -> Version
+        ensures { result ≡ version_in (slice_get self.now.peers.items number) }
+    {
+        match self.peers.get(number as usize) {
+            Some(peer) => peer.turn.version(),
+            None => Version::Second,
+        }
     }
 
     /// Dials a peer.
@@ -63,7 +85,7 @@ impl Peers {
         let has_begun = self.call(wire, number, now);
         begin_dial(&mut self.peers, number, now);
         if !has_begun {
-            end_dial(&mut self.peers, number, now, false);
+            end_dial(&mut self.peers, number, now, NOTHING);
         }
     }
 

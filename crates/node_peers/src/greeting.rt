@@ -1,17 +1,21 @@
 //! Hellos of a process and of its peers: what it says, how it answers, and which peer is there by what it said.
 
-ghost use Rattle.std.specs.Prelude.{◌≡◌, IfSome};
+ghost use Rattle.std.specs.Prelude.{◌≡◌, true, IfSome};
 ghost use Rattle.node_links.specs.Judging.{is_coded};
 ghost use Rattle.node_peers.specs.Greeting.{IsOurs, coded_by, first_of};
 ghost use Rattle.node_links.specs.declared.limits.TheConstants.{NODES as MOST};
 ghost use Rattle.node_peers.specs.Handing.{GoBack};
+ghost use Rattle.node_peers.specs.Knowing.{known_of};
 ghost use Rattle.node_peers.specs.Meeting.{AreMet};
 ghost use Rattle.node_peers.specs.Hearing.{IsOpened};
+ghost use Rattle.node_peers.specs.Replacing.{AllFade};
+ghost use Rattle.node_peers.specs.Turning.{is_probed};
 
+use crate::knowing::known_of;
 use crate::peer::Peer;
 use crate::peers::Peers;
 use node_links::limits::NODES;
-use node_links::{Met, Own, PeerFault};
+use node_links::{Known, Met, Own, PeerFault};
 use node_wires::Wire;
 use paxos_wire::Ballot;
 use peer_codes::{Ends, Hello, Life, Link as Kind, Nonce, RecordFault, Version};
@@ -36,8 +40,10 @@ pub(crate) fn hello(
     to: u8,
     kept: Option<Life>,
     promised: Option<Ballot>,
+    version: Version,
     link: Kind,
 ) -> Hello
+    ensures version { result.version ≡ version }
     ensures ends { result.ends ≡ record { from = own.now.number; to = to; nodes = own.now.nodes } }
     ensures digest { result.digest ≡ own.now.digest }
     ensures life { result.life ≡ own.now.life }
@@ -46,7 +52,7 @@ pub(crate) fn hello(
     ensures link { result.link ≡ link }
 {
     Hello {
-        version: Version::First,
+        version,
         ends: Ends {
             from: own.number,
             to,
@@ -83,29 +89,35 @@ pub(crate) fn drawn<W: Wire>(has_key: bool, wire: &mut W) -> Option<Kind>
     }
 }
 
+/// Whether a peer is here by another connection than the one at a place, where a Hello came.
+fn is_elsewhere(peer: &Peer, place: usize, now: u64, silence: u64) -> bool {
+    peer.open != Some(place) && peer.is_here(now, silence)
+}
+
 /// What is known of a node when a Hello is judged that came over the line at a place.
-fn met_of(peer: &Peer, place: usize, now: u64, silence: u64) -> Met
-    ensures { result.kept ≡ peer.now.kept }
+fn met_of(own: &Own, peers: &[Peer], number: usize, place: usize, now: u64, silence: u64) -> Met
+    ensures { result.lives ≡ known_of own.now number peers.now }
 {
     Met {
-        kept: peer.kept,
-        is_here: peer.open != Some(place) && peer.is_here(now, silence),
+        lives: known_of(own, number, peers),
+        is_here: match peers.get(number) {
+            Some(peer) => is_elsewhere(peer, place, now, silence),
+            None => false,
+        },
     }
 }
 
-/// The same of each node: the life that is kept of it, and whether it is there.
-#[tactic(auto, using(crate::proofs::Meeting::met_more, crate::proofs::Meeting::met_nobody))]
-pub(crate) fn met(peers: &[Peer], place: usize, now: u64, silence: u64) -> [Met; NODES]
-    ensures { AreMet MOST result peers.now }
+/// The same of each node: which lives of it are known, and whether it is there.
+#[tactic(auto, using(crate::proofs::Meeting::met_more))]
+pub(crate) fn met(own: &Own, peers: &[Peer], place: usize, now: u64, silence: u64) -> [Met; NODES]
+    ensures { AreMet own.now MOST result peers.now }
 {
     let mut met = [Met {
-        kept: None,
+        lives: Known::Nothing,
         is_here: false,
     }; NODES];
     for number in 0..NODES {
-        if let Some(peer) = peers.get(number) {
-            met[number] = met_of(peer, place, now, silence);
-        }
+        met[number] = met_of(own, peers, number, place, now, silence);
     }
     met
 }
@@ -121,21 +133,34 @@ pub(crate) fn first_life(kept: Option<Life>, life: Life) -> Option<Life>
     }
 }
 
+/// Whether a peer was dialled at a place to learn only whether a node is there.
+fn is_probed(peers: &[Peer], place: usize) -> bool
+    ensures { result ≡ is_probed place peers.now }
+{
+    if place >= NODES {
+        return false;
+    }
+    match peers.get(place) {
+        Some(peer) => peer.turn.is_probe(),
+        None => false,
+    }
+}
+
 /// A peer is there from now on by the connection at a place. This life of its store is kept, if it is the first.
 #[tactic(auto, using(crate::proofs::Handing::back_at, crate::proofs::Handing::back_same))]
-fn join(peers: &mut Vec<Peer>, number: u8, life: Life, place: usize, now: u64)
+fn join(peers: &mut Vec<Peer>, number: u8, life: Life, version: Version, place: usize, now: u64)
     ensures { GoBack peers.old.items peers.new.items }
 {
     if let Some(peer) = peers.get_mut(number as usize) {
-        peer.meet(life, place, now);
+        peer.meet(life, version, place, now);
     }
 }
 
 impl Peers {
     ghost use Rattle.node_peers.specs.Peering.{own_of, passed_of, Grew, Stays};
 
-    /// What this node says first to another, over a connection of this kind.
-    pub(crate) fn hello_to(&self, to: u8, link: Kind) -> Hello
+    /// What this node says first to another, in this version and over a connection of this kind.
+    pub(crate) fn hello_to(&self, to: u8, version: Version, link: Kind) -> Hello
         ensures ours { IsOurs (own_of self.now) result }
         ensures to { result.ends.to ≡ to }
         ensures promised { result.promised ≡ self.now.promised }
@@ -145,7 +170,7 @@ impl Peers {
             Some(peer) => peer.kept,
             None => None,
         };
-        hello(&self.lines.own, to, kept, self.promised, link)
+        hello(&self.lines.own, to, kept, self.promised, version, link)
     }
 
     /// Answers the one who says this of himself and dialled at a place; another isn't answered. False where no nonce was
@@ -160,14 +185,30 @@ impl Peers {
         let Some(link) = drawn(self.lines.own.key.is_some(), wire) else {
             return false;
         };
-        let own = self.hello_to(answered(&self.lines.own, ends), link);
+        let to = answered(&self.lines.own, ends);
+        // It is said in the version of the Hello that came.
+        let own = self.hello_to(to, Version::First, link);
         self.lines.answer(place, own);
         true
     }
 
-    /// The Hello that came over the line at a place is answered, where this node was dialled, and judged.
+    /// The Hello that came over the line at a place is answered, where this node was dialled, and judged; one that answers a
+    /// probe ends it, and nobody is there by it.
     #[tactic(auto, using(crate::proofs::Growing::grew_on, crate::proofs::Growing::stayed, crate::proofs::Growing::stays_on))]
     pub(crate) fn greet<W: Wire>(&mut self, wire: &mut W, place: usize, hello: &Hello, now: u64)
+        ensures grew { Grew self.old self.new (W.passed wire.old) (W.passed wire.new) }
+        ensures probe { is_probed place self.old.peers.items ≡ true → AllFade self.old.peers.items self.new.peers.items }
+    {
+        if is_probed(&self.peers, place) {
+            self.end(wire, place, now);
+            return;
+        }
+        self.take_hello(wire, place, hello, now);
+    }
+
+    /// The Hello that came over the line at a place is answered, where this node was dialled, and judged.
+    #[tactic(auto, using(crate::proofs::Growing::grew_on, crate::proofs::Growing::stayed, crate::proofs::Growing::stays_on))]
+    fn take_hello<W: Wire>(&mut self, wire: &mut W, place: usize, hello: &Hello, now: u64)
         ensures { Grew self.old self.new (W.passed wire.old) (W.passed wire.new) }
     {
         if self.answer(wire, place, hello.ends) {
@@ -183,7 +224,8 @@ impl Peers {
     pub(crate) fn judge<W: Wire>(&mut self, wire: &mut W, place: usize, hello: &Hello, now: u64)
         ensures { Grew self.old self.new (W.passed wire.old) (W.passed wire.new) }
     {
-        let met = met(&self.peers, place, now, self.silence);
+        let lines = &self.lines;
+        let met = met(&lines.own, &self.peers, place, now, self.silence);
         if let Some(taken) = self.lines.settle(place, &met, hello.ends.from) {
             self.join(wire, place, &taken, now);
         }
@@ -247,7 +289,14 @@ impl Peers {
             None => return,
         };
         if self.lines.note_joined(hello, life) {
-            join(&mut self.peers, hello.ends.from, hello.life, place, now);
+            join(
+                &mut self.peers,
+                hello.ends.from,
+                hello.life,
+                hello.version,
+                place,
+                now,
+            );
         }
     }
 }

@@ -8,7 +8,7 @@ use crate::lines::Came;
 use crate::link::line_at;
 use crate::peer::Peer;
 use crate::peers::Peers;
-use node_links::Question;
+use node_links::{Further, Lives, Question};
 use node_wires::Wire;
 use node_wires::limits::STRANGERS;
 use peer_codes::{Beat, Hello};
@@ -39,6 +39,18 @@ pub(crate) fn take_beat(peers: &mut Vec<Peer>, from: u8, place: usize, beat: Bea
     if let Some(peer) = peers.get_mut(from as usize) {
         if peer.open == Some(place) {
             peer.take_beat(beat, now);
+        }
+    }
+}
+
+/// A peer told these lives by the connection at a place.
+#[tactic(auto, using(crate::proofs::Handing::back_at, crate::proofs::Handing::back_same))]
+fn take_lives(peers: &mut Vec<Peer>, from: u8, place: usize, lives: &Lives)
+    ensures { GoBack peers.old.items peers.new.items }
+{
+    if let Some(peer) = peers.get_mut(from as usize) {
+        if peer.open == Some(place) {
+            peer.take_lives(lives);
         }
     }
 }
@@ -82,6 +94,10 @@ impl Peers {
                 take_beat(&mut self.peers, from, place, beat, now);
                 true
             }
+            Some(Ok(Came::Further { from, further })) => {
+                self.take_further(wire, from, place, &further, now);
+                true
+            }
             Some(Ok(Came::Nothing)) => true,
             Some(Err(fault)) => {
                 self.answer_unread(wire, place, fault);
@@ -89,6 +105,32 @@ impl Peers {
                 self.refuse(place, fault, source, now);
                 false
             }
+        }
+    }
+
+    /// A peer told this by the connection at a place.
+    #[tactic(auto, using(crate::proofs::Growing::grew_on, crate::proofs::Growing::stayed, crate::proofs::Growing::stays_on, crate::proofs::Handing::handed_on, crate::proofs::Handing::handed_stays, crate::proofs::Handing::handed_grew))]
+    fn take_further<W: Wire>(
+        &mut self,
+        wire: &mut W,
+        from: u8,
+        place: usize,
+        further: &Further,
+        now: u64,
+    )
+        ensures { Grew self.old self.new (W.passed wire.old) (W.passed wire.new) }
+    {
+        match further {
+            Further::Lives(lives) => {
+                take_lives(&mut self.peers, from, place, lives);
+                self.end_replaced(wire, now);
+            }
+            Further::Settings(settings) => {
+                if self.open_at(from) == Some(place) {
+                    self.lines.note_settings(from, *settings);
+                }
+            }
+            Further::Unknown => (),
         }
     }
 

@@ -5,9 +5,10 @@
 //! `node_wires`, which has the bytes of all.
 //!
 //! A frame may be lost here, and none is made up: each that is told of a peer came over one of its lines behind that node's
-//! Hello (`Peers::next`). Whatever wires give, what is promised of nodes holds.
+//! Hello (`Peers::next`). Whatever wires give, what is promised of nodes holds. Peers tell each other the lives of stores that
+//! they know (`Lives` of `node_links`): of a node of which two are known no frame is told any more, and it is let go.
 //!
-//! `peers` has the public calls, `greeting`, `dialling`, `hearing`, `ending` and `writing` the rules; `peer` what is known of one, with `measures`, what is measured of it; `lines` the connections by their lines and what waits to be told,
+//! `peers` has the public calls, `greeting`, `dialling`, `hearing`, `replacing`, `ending` and `writing` the rules, `knowing` which lives are known; `peer` what is known of one, with `measures`, what is measured of it; `lines` the connections by their lines and what waits to be told,
 //! over `links`, the connections of all places, and `link`, one of them; `saying` what one says.
 #![tactic(auto)]
 
@@ -15,18 +16,22 @@ mod dialling;
 mod ending;
 mod greeting;
 mod hearing;
+mod knowing;
 pub mod limits;
 mod lines;
 mod link;
 mod links;
 mod measures;
+mod node_address;
 mod notice;
 mod peer;
 mod peers;
+mod replacing;
 mod saying;
 mod view;
 mod writing;
 
+pub use node_address::NodeAddress;
 pub use notice::Notice;
 pub use peers::Peers;
 pub use view::View;

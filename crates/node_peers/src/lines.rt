@@ -22,7 +22,9 @@ use crate::links::{
 use crate::notice::Notice;
 use crate::saying::Saying;
 use arrayvec::ArrayVec;
-use node_links::{Connection, KeptFrame, Met, Outbox, Own, PeerFault, Question, answered_in};
+use node_links::{
+    Connection, Further, KeptFrame, Met, Outbox, Own, PeerFault, Question, Settings, answered_in,
+};
 use node_wires::limits::NODES;
 use node_wires::{Line, Passages, Wire};
 use peer_codes::{Beat, Frame, Hello, Life};
@@ -65,6 +67,11 @@ pub(crate) enum Came {
         from: u8,
         beat: Beat,
     },
+    /// What a record of a further kind of this peer tells.
+    Further {
+        from: u8,
+        further: Further,
+    },
     /// Something over a connection by which no peer is there any more.
     Nothing,
 }
@@ -82,7 +89,8 @@ fn note_told(notice: &Notice, heard: &mut Passages)
         Notice::Gone { .. }
         | Notice::Refused { .. }
         | Notice::Unreached { .. }
-        | Notice::Strangers { .. } => (),
+        | Notice::Strangers { .. }
+        | Notice::Settings { .. } => (),
     }
 }
 
@@ -125,16 +133,22 @@ impl Lines {
         })
     }
 
-    /// What is told next. A frame is one that came over a line, behind the Hello of that node.
+    /// What waits to be told next; it waits no longer, and isn't told yet. A frame is one that came over a line, behind the
+    /// Hello of that node.
     pub(crate) fn pop(&mut self) -> Option<Notice>
-        ensures keeps { Keeps self.old self.new }
-        ensures sent { self.new.sent ≡ self.old.sent }
-        ensures heard { self.new.heard.items ≡ self.old.heard.items ++ heard_by result }
+        ensures stays { Stays self.old self.new }
         ensures told { IfSome result (λ notice. IsTold self.old.own self.old.passed.items notice) }
     {
-        let notice = self.notices.pop_front();
-        note_next(&notice, &mut self.heard);
-        notice
+        self.notices.pop_front()
+    }
+
+    /// This is told now, if anything is.
+    pub(crate) fn note_told(&mut self, notice: &Option<Notice>)
+        ensures keeps { Keeps self.old self.new }
+        ensures sent { self.new.sent ≡ self.old.sent }
+        ensures heard { self.new.heard.items ≡ self.old.heard.items ++ heard_by notice.now }
+    {
+        note_next(notice, &mut self.heard);
     }
 
     /// A frame is handed to this peer.
@@ -216,11 +230,18 @@ impl Lines {
         let _ = self.note(Notice::Unreached { peer, refuses });
     }
 
-    /// Tells how many callers were refused.
-    pub(crate) fn note_strangers(&mut self, count: u32, fault: PeerFault)
+    /// Tells how many callers from addresses of this peer, or from others, were refused.
+    pub(crate) fn note_strangers(&mut self, peer: Option<u8>, count: u32, fault: PeerFault)
         ensures { Stays self.old self.new }
     {
-        let _ = self.note(Notice::Strangers { count, fault });
+        let _ = self.note(Notice::Strangers { peer, count, fault });
+    }
+
+    /// Tells the settings of a peer's process.
+    pub(crate) fn note_settings(&mut self, peer: u8, settings: Settings)
+        ensures { Stays self.old self.new }
+    {
+        let _ = self.note(Notice::Settings { peer, settings });
     }
 
     /// A connection began at a place.
@@ -327,6 +348,7 @@ impl Lines {
                 Some(Ok(Came::Frame { from, answered }))
             }
             Saying::Beat { from, beat } => Some(Ok(Came::Beat { from, beat })),
+            Saying::Further { from, further } => Some(Ok(Came::Further { from, further })),
             Saying::Nothing => Some(Ok(Came::Nothing)),
         }
     }

@@ -11,7 +11,7 @@ ghost use Rattle.node_peers.specs.Meeting.{IsKnownBy};
 ghost use Rattle.node_peers.specs.Hearing.{IsOf, KeepsOn, Moves, OpensIn, TakesIn, SaysFrame};
 
 use crate::limits::{LINKS, PIECES};
-use node_links::{Arrived, Connection, Met, Outbox, Own, PeerFault};
+use node_links::{Arrived, Connection, Heading, Met, Outbox, Own, PeerFault};
 use node_wires::limits::NODES;
 use node_wires::{Halt, Line, Passages, Wire};
 use peer_codes::{Frame, Hello};
@@ -25,6 +25,10 @@ pub(crate) struct Link {
     /// The node that its Hello said, once that was judged, whether it was taken or not; with codes it isn't proved before the
     /// other's proof was right.
     pub(crate) said: Option<u8>,
+    /// Something came over it.
+    pub(crate) has_come: bool,
+    /// What came first.
+    pub(crate) heading: Heading,
     /// More may have come than was read.
     pub(crate) has_more: bool,
     /// Nothing more comes over it.
@@ -57,6 +61,8 @@ impl Link {
             connection,
             began,
             said: None,
+            has_come: false,
+            heading: Heading::new(),
             has_more: false,
             has_ended: false,
             is_lost: false,
@@ -113,6 +119,8 @@ pub(crate) fn dialled_at(place: usize) -> Option<u8>
 fn take_in(link: &mut Link, piece: &[u8])
     ensures { TakesIn link.old link.new piece.now }
 {
+    link.has_come = link.has_come || !piece.is_empty();
+    link.heading.take(piece);
     if link.connection.take(piece).is_ok() {
         return;
     }

@@ -1,4 +1,4 @@
-use node_links::{KeptFrame, PeerFault};
+use node_links::{KeptFrame, PeerFault, Settings};
 use peer_codes::Life;
 use std::net::IpAddr;
 
@@ -33,10 +33,16 @@ pub enum Notice {
         peer: u8,
         refuses: bool,
     },
-    /// So many callers who aren't known were refused since the last such notice, the last of them by this fault; there is
-    /// one a second at most.
+    /// So many callers who aren't known were refused since the last such notice, the last of them by this fault, from an
+    /// address of this peer, or from others; of each number and each peer there is one a second at most.
     Strangers {
+        peer: Option<u8>,
         count: u32,
         fault: PeerFault,
+    },
+    /// The settings of a peer's process; they are told once a connection, where the peer tells them.
+    Settings {
+        peer: u8,
+        settings: Settings,
     },
 }

@@ -1,20 +1,26 @@
-ghost use Rattle.std.specs.Prelude.{◌≡◌, [], true, is_some};
+ghost use Rattle.std.specs.Prelude.{◌≡◌, [], true, false, is_some, None};
 ghost use Rattle.node_peers.specs.Growing.{Stays};
 ghost use Rattle.node_peers.specs.Handing.{frames_for, GoesBack, GoesWith, AreFor, peer_at};
+ghost use Rattle.node_peers.specs.Replacing.{Fades};
 ghost use Rattle.node_peers.specs.Sending.{IsSent};
+ghost use Rattle.node_peers.specs.Reporting.{takes_lives, settings_first, IsInformed};
+ghost use Rattle.node_peers.specs.Turning.{turn_after, is_silent, shows_older};
+ghost use Rattle.node_links.specs.Versions.{next_turn};
+ghost use Rattle.node_links.specs.declared.turning.DialEnd.TheVariants.{Opened};
 
 use crate::limits::UNREACHED;
 use crate::lines::Lines;
 use crate::measures::Measures;
 use crate::view::View;
 use clockwork::is_heard;
-use node_links::limits::{DIALS, KEPT, WAITING};
+use node_links::limits::{DIALS, KEPT, NODES, WAITING};
 use node_links::{
-    Accepted, Asked, Dial, DialDue, Forwarded, Notes, Outbox, Owed, OwnReport, PeerFault, Pulse,
-    Question, connect_wait, ends_block, longer, pause_after,
+    Accepted, Asked, Dial, DialDue, DialEnd, Forwarded, Lives, Notes, Outbox, Owed, OwnReport,
+    PeerFault, Pulse, Question, Refusals, Settings, Turn, closed_end, closed_pause, connect_wait,
+    ends_block, longer, next_turn, pause_after,
 };
 use peer_codes::limits::{LEAST_FRAME, MOST_FRAME};
-use peer_codes::{Beat, Life};
+use peer_codes::{Beat, Life, Version};
 use std::alloc::Global;
 
 /// Dials of a peer that came to nothing.
@@ -26,10 +32,56 @@ struct Missed {
     refuses: bool,
 }
 
+/// Whether records of further kinds may be said over a connection of this version.
+fn takes_more(version: Version) -> bool {
+    match version {
+        Version::First => false,
+        Version::Second => true,
+    }
+}
+
+/// What came of a connection that ends.
+#[derive(Clone, Copy)]
+pub(crate) struct Outcome {
+    /// A peer was there by it, and nothing came of that but its Hello.
+    pub(crate) is_fruitless: bool,
+    /// Something came over it.
+    pub(crate) has_come: bool,
+    /// The version of the Hello that came first, if one did.
+    pub(crate) said: Option<Version>,
+}
+
+/// How a peer is dialled next, where the dial that is there now, if one is, ends: the other closed it without a byte or
+/// didn't, and a Hello of this version came first, if one did.
+fn turn_behind(dial: Dial, turn: Turn, is_silent: bool, said: Option<Version>) -> Turn
+    ensures { result ≡ turn_after dial turn is_silent said }
+{
+    match dial {
+        Dial::Waits { .. } => turn,
+        Dial::Dialled { .. } => next_turn(turn, DialEnd::Failed),
+        Dial::Answered { .. } => next_turn(turn, closed_end(is_silent, said)),
+        Dial::Open { .. } => next_turn(turn, DialEnd::Failed),
+    }
+}
+
+/// Whether a Hello of this version, which came first if one did, shows that a peer which is dialled so is an older node.
+pub(crate) fn shows_older(turn: Turn, said: Option<Version>) -> bool
+    ensures { result ≡ shows_older turn said }
+{
+    match turn.version() {
+        Version::First => false,
+        Version::Second => said == Some(Version::First),
+    }
+}
+
 /// What a process knows of a peer, and what waits for it.
 #[derive(Drop)]
 pub(crate) struct Peer {
     pub(crate) dial: Dial,
+    /// How it is dialled, now or next.
+    pub(crate) turn: Turn,
+    /// How many of its last dials were answered and closed without a byte.
+    closed_dials: u8,
     /// How many dials of it weren't answered, up to all of which one waits for long.
     unanswered_dials: u8,
     /// The dials that came to nothing since it was there last, if any did.
@@ -50,6 +102,14 @@ pub(crate) struct Peer {
     pub(crate) beat: Option<Beat>,
     /// The first life of its store that was seen.
     pub(crate) kept: Option<Life>,
+    /// The lives that it told last over the connection that is open.
+    pub(crate) told: [Option<Life>; NODES],
+    /// The lives that were told it last over that connection, where it is of the second version.
+    lives_told: Option<Lives>,
+    /// Whether that is of the second version.
+    takes_more: bool,
+    /// Those who dialled from an address of it and were refused.
+    pub(crate) refusals: Refusals,
     pub(crate) pulse: Pulse,
     pub(crate) outbox: Outbox,
     asked: Asked,
@@ -66,11 +126,13 @@ impl Peer {
     ghost use Rattle.node_peers.specs.Viewing.{seen_as};
 
     /// Nothing is known but the life that is kept of its store.
-    pub(crate) fn new(alloc: Global, kept: Option<Life>) -> Peer
+    pub(crate) fn new(alloc: Global, number: u8, kept: Option<Life>) -> Peer
         ensures { frames_for result ≡ [] }
     {
         Peer {
             dial: Dial::new(),
+            turn: Turn::Second,
+            closed_dials: 0,
             unanswered_dials: 0,
             missed: None,
             pause: 0,
@@ -81,6 +143,10 @@ impl Peer {
             measures: Measures::new(),
             beat: None,
             kept,
+            told: [None; NODES],
+            lives_told: None,
+            takes_more: false,
+            refusals: Refusals::new(Some(number)),
             pulse: Pulse::new(),
             outbox: Outbox::new(alloc),
             asked: Asked::new(),
@@ -113,24 +179,82 @@ impl Peer {
         }
     }
 
-    /// The connection that was dialled ended; where nothing came of it but its Hello that may have been a refusal.
-    #[tactic(auto, using(crate::proofs::Handing::goes_same, crate::proofs::Handing::goes_on))]
-    pub(crate) fn end_dial(&mut self, now: u64, is_fruitless: bool)
-        ensures { GoesBack self.old self.new }
+    /// The connection that was dialled ended, of which this came; where nothing came of it but its Hello that may have been a
+    /// refusal.
+    #[tactic(auto, using(crate::proofs::Handing::goes_same, crate::proofs::Handing::goes_on, crate::proofs::Fading::fades_same, crate::proofs::Fading::fades_on))]
+    pub(crate) fn end_dial(&mut self, now: u64, outcome: Outcome)
+        ensures back { GoesBack self.old self.new }
+        ensures fades { Fades self.old self.new }
+        ensures turn { self.new.turn ≡ turn_after self.old.dial self.old.turn (is_silent self.old.dial now outcome.has_come) outcome.said }
     {
         self.note_missed(now);
-        if is_fruitless {
-            self.pause = longer(self.pause);
-            self.dial = self.dial.ended(now, Some(self.pause));
-        } else {
-            self.dial = self.dial.ended(now, None);
+        self.turn_down(now, outcome);
+        let pause = self.end_pause(outcome.is_fruitless);
+        self.dial = self.dial.ended(now, pause);
+    }
+
+    /// Whether the other ends a dial that was answered, before anything came: it isn't given up here.
+    fn is_silent(&self, now: u64, has_come: bool) -> bool
+        ensures { result ≡ is_silent self.now.dial now has_come }
+    {
+        match self.dial {
+            Dial::Answered { .. } => match self.dial.due(now) {
+                DialDue::GiveUp => false,
+                DialDue::Dial => !has_come,
+                DialDue::Nothing { .. } => !has_come,
+            },
+            Dial::Waits { .. } => false,
+            Dial::Dialled { .. } => false,
+            Dial::Open { .. } => false,
         }
     }
 
+    /// A dial ends, of which this came: how the peer is dialled next, and how many dials were closed without a byte.
+    #[tactic(auto, using(crate::proofs::Handing::goes_same, crate::proofs::Fading::fades_same))]
+    fn turn_down(&mut self, now: u64, outcome: Outcome)
+        ensures back { GoesBack self.old self.new }
+        ensures fades { Fades self.old self.new }
+        ensures dial { self.new.dial ≡ self.old.dial }
+        ensures turn { self.new.turn ≡ turn_after self.old.dial self.old.turn (is_silent self.old.dial now outcome.has_come) outcome.said }
+    {
+        let is_silent = self.is_silent(now, outcome.has_come);
+        self.turn = turn_behind(self.dial, self.turn, is_silent, outcome.said);
+        self.closed_dials = self.closed_behind(is_silent);
+    }
+
+    /// How many of its last dials were closed without a byte, where the last was or wasn't.
+    fn closed_behind(&self, is_closed: bool) -> u8 {
+        if is_closed {
+            self.closed_dials.saturating_add(1)
+        } else {
+            0
+        }
+    }
+
+    /// How long it isn't dialled behind a dial that ended by itself, if for longer than two dials have to be apart.
+    #[tactic(auto, using(crate::proofs::Handing::goes_same, crate::proofs::Fading::fades_same))]
+    fn end_pause(&mut self, is_fruitless: bool) -> Option<u64>
+        ensures back { GoesBack self.old self.new }
+        ensures fades { Fades self.old self.new }
+        ensures turn { self.new.turn ≡ self.old.turn }
+    {
+        if is_fruitless {
+            self.pause = longer(self.pause);
+            return Some(self.pause);
+        }
+        if self.closed_dials > 0 {
+            return Some(closed_pause(self.closed_dials));
+        }
+        None
+    }
+
     /// A dial ends: it came to nothing where it is given up, or wasn't answered.
-    #[tactic(auto, using(crate::proofs::Handing::goes_same))]
+    #[tactic(auto, using(crate::proofs::Handing::goes_same, crate::proofs::Fading::fades_same))]
     fn note_missed(&mut self, now: u64)
-        ensures { GoesBack self.old self.new }
+        ensures back { GoesBack self.old self.new }
+        ensures fades { Fades self.old self.new }
+        ensures dial { self.new.dial ≡ self.old.dial }
+        ensures turn { self.new.turn ≡ self.old.turn }
     {
         let is_given_up = self.dial.due(now) == DialDue::GiveUp;
         if is_given_up || matches!(self.dial, Dial::Dialled { .. }) {
@@ -161,30 +285,56 @@ impl Peer {
         Some(missed.refuses)
     }
 
-    /// The connection that was dialled is closed by this fault.
-    #[tactic(auto, using(crate::proofs::Handing::goes_same, crate::proofs::Handing::goes_on))]
-    pub(crate) fn refuse_dial(&mut self, fault: PeerFault, now: u64)
-        ensures { GoesBack self.old self.new }
+    /// The connection that was dialled is closed by this fault, and a Hello of this version came first over it, if one did. An
+    /// older node is dialled in its version as soon as two dials may follow each other.
+    #[tactic(auto, using(crate::proofs::Handing::goes_same, crate::proofs::Handing::goes_on, crate::proofs::Fading::fades_same))]
+    pub(crate) fn refuse_dial(&mut self, fault: PeerFault, said: Option<Version>, now: u64)
+        ensures back { GoesBack self.old self.new }
+        ensures fades { Fades self.old self.new }
+        ensures turn { self.new.turn ≡ turn_after self.old.dial self.old.turn false said }
     {
+        let is_older = shows_older(self.turn, said);
+        self.closed_dials = 0;
+        self.turn = turn_behind(self.dial, self.turn, false, said);
+        if is_older {
+            self.dial = self.dial.ended(now, None);
+            return;
+        }
         self.pause = pause_after(fault, self.pause);
         self.dial = self.dial.ended(now, Some(self.pause));
     }
 
     /// Whether this fault of the peer is told now.
-    #[tactic(auto, using(crate::proofs::Handing::goes_same, crate::proofs::Handing::goes_on))]
+    #[tactic(auto, using(crate::proofs::Handing::goes_same, crate::proofs::Handing::goes_on, crate::proofs::Fading::fades_same))]
     pub(crate) fn tells(&mut self, fault: PeerFault, now: u64) -> bool
-        ensures { GoesBack self.old self.new }
+        ensures back { GoesBack self.old self.new }
+        ensures fades { Fades self.old self.new }
     {
         self.notes.tell(fault, now)
     }
 
-    /// The connection at this place is open, by a Hello with this life, which is kept if it is the first.
+    /// The connection at this place is open, by a Hello of this version with this life, which is kept if it is the first.
     #[tactic(auto, using(crate::proofs::Handing::goes_same, crate::proofs::Handing::goes_on))]
-    pub(crate) fn meet(&mut self, life: Life, place: usize, now: u64)
-        ensures { GoesBack self.old self.new }
+    pub(crate) fn meet(&mut self, life: Life, version: Version, place: usize, now: u64)
+        ensures goes { GoesBack self.old self.new }
+        ensures turn { self.new.turn ≡ next_turn self.old.turn Opened }
     {
         self.keep(life);
         self.join(place, now);
+        self.begin_telling(version);
+    }
+
+    /// Nothing was told yet over the connection that is open, and it is dialled in the second version the next time.
+    #[tactic(auto, using(crate::proofs::Handing::goes_same))]
+    fn begin_telling(&mut self, version: Version)
+        ensures goes { GoesBack self.old self.new }
+        ensures turn { self.new.turn ≡ next_turn self.old.turn Opened }
+    {
+        self.turn = next_turn(self.turn, DialEnd::Opened);
+        self.closed_dials = 0;
+        self.told = [None; NODES];
+        self.lives_told = None;
+        self.takes_more = takes_more(version);
     }
 
     /// This life of the peer's store is kept, if it is the first.
@@ -216,16 +366,19 @@ impl Peer {
     }
 
     /// The connection ended: of what waits the newest stays.
-    #[tactic(auto, using(crate::proofs::Handing::goes_newest))]
+    #[tactic(auto, using(crate::proofs::Handing::goes_newest, crate::proofs::Fading::fades_parted))]
     pub(crate) fn part(&mut self, now: u64)
-        ensures { GoesBack self.old self.new }
+        ensures back { GoesBack self.old self.new }
+        ensures fades { Fades self.old self.new }
+        ensures gone { self.new.«open» ≡ None }
     {
         self.measures.settle(self.pulse.got, self.heard, now);
         self.open = None;
         self.since = now;
         self.beat = None;
+        self.told = [None; NODES];
         self.owed.ended();
-        self.outbox.forget_beat();
+        self.outbox.forget_all_but_frames();
         self.outbox.keep_newest(KEPT);
     }
 
@@ -370,6 +523,60 @@ impl Peer {
     /// How long it is until a beat is due over an open connection, or an act goes again.
     pub(crate) fn wait(&self, now: u64) -> u64 {
         self.pulse.wait(now).min(self.forwarded.wait(now))
+    }
+
+    /// These lives wait for the peer, and behind the first of them these settings, where a connection of the second version is
+    /// open and they weren't told over it.
+    #[tactic(auto, using(crate::proofs::Handing::goes_same, crate::proofs::Handing::goes_on, crate::proofs::Reporting::is_told, crate::proofs::Reporting::told_again, crate::proofs::Reporting::never_told))]
+    pub(crate) fn tell_lives(&mut self, lives: &Lives, settings: Option<Settings>)
+        ensures goes { GoesBack self.old self.new }
+        ensures informed { IsInformed lives.now settings self.old self.new }
+    {
+        if !self.takes_lives() || self.was_told(lives) {
+            return;
+        }
+        self.tell_settings(settings);
+        self.outbox.tell_lives(*lives);
+        self.lives_told = Some(*lives);
+    }
+
+    /// Whether lives may be told it: over an open connection of the second version.
+    fn takes_lives(&self) -> bool
+        ensures { result ≡ takes_lives self.now }
+    {
+        self.open.is_some() && self.takes_more
+    }
+
+    /// Whether these lives were told it last over that connection.
+    fn was_told(&self, lives: &Lives) -> bool
+        ensures { result ≡ true → is_some self.now.lives_told ≡ true }
+    {
+        match self.lives_told {
+            Some(told) => told == *lives,
+            None => false,
+        }
+    }
+
+    /// These settings wait for the peer, where no lives were told over the connection yet.
+    #[tactic(auto, using(crate::proofs::Handing::goes_same))]
+    fn tell_settings(&mut self, settings: Option<Settings>)
+        ensures goes { GoesBack self.old self.new }
+        ensures waits { self.new ≡ record self.old { outbox = record self.old.outbox { settings = settings_first self.old.lives_told settings self.old.outbox.settings } } }
+    {
+        if self.lives_told.is_some() {
+            return;
+        }
+        if let Some(settings) = settings {
+            self.outbox.tell_settings(settings);
+        }
+    }
+
+    /// The peer told these lives.
+    #[tactic(auto, using(crate::proofs::Handing::goes_same))]
+    pub(crate) fn take_lives(&mut self, lives: &Lives)
+        ensures { GoesBack self.old self.new }
+    {
+        self.told = lives.lives;
     }
 
     /// Tells the peer how this node is, where a beat is due over an open connection, and says again what is to go again.

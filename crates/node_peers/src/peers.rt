@@ -1,17 +1,21 @@
 //! A process's connections to its peers.
 
-ghost use Rattle.std.specs.Prelude.{◌≡◌, ◌<◌, ℕ, [], ◌∷◌, ◌++◌, length, get_or, IfOk, IfSome};
+ghost use Rattle.std.specs.Prelude.{◌≡◌, ◌<◌, true, ℕ, [], ◌∷◌, ◌++◌, length, get_or, Some, IfOk, IfSome};
 ghost use Rattle.node_peers.specs.Hearing.{IsTold};
 ghost use Rattle.node_peers.specs.Handing.{frames_for, GoBack, AreHanded, are_handed_prop};
+ghost use Rattle.node_peers.specs.Knowing.{IsOfOne};
+ghost use Rattle.node_peers.specs.Replacing.{AreClosed};
 ghost use Rattle.node_wires.specs.Passages.{Wrote, seats_in, wrote_over, logged_in};
 ghost use Rattle.node_wires.specs.declared.line.Line.TheVariants.{Seat, Peer as ToPeer};
 
+use crate::knowing::{is_replaced, lives_told};
 use crate::lines::Lines;
+use crate::node_address::NodeAddress;
 use crate::notice::Notice;
 use crate::peer::Peer;
 use crate::view::View;
 use node_links::limits::{LOOK, NODES};
-use node_links::{Dial, DialDue, Own, OwnReport, Refusals};
+use node_links::{Dial, DialDue, Lives, Own, OwnReport, Refusals, Settings};
 use node_wires::Wire;
 use paxos_wire::Ballot;
 use peer_codes::Life;
@@ -29,7 +33,12 @@ pub struct Peers {
     pub(crate) silence: u64,
     /// Of each node, by its number.
     pub(crate) peers: Vec<Peer>,
+    /// Those who were refused from other addresses than theirs.
     pub(crate) refusals: Refusals,
+    /// From where nodes dial: callers from these addresses are counted apart from others.
+    pub(crate) addresses: Vec<NodeAddress>,
+    /// What this process tells of its own settings, if it was told any.
+    settings: Option<Settings>,
     /// When what came was last taken, or was to be.
     pub(crate) looked: u64,
     ghost handed: { AreHanded lines.sent.items peers.items } by { are_handed_prop lines.sent.items peers.items },
@@ -44,6 +53,8 @@ impl Drop for Peers {
             silence: _,
             peers: _,
             refusals: _,
+            addresses: _,
+            settings: _,
             looked: _,
         } = self;
     }
@@ -60,7 +71,7 @@ fn unmet(alloc: Global, nodes: u8, kept: &[Option<Life>]) -> Result<Vec<Peer>, A
             Some(life) => *life,
             None => None,
         };
-        peers.push(Peer::new(alloc, life))?;
+        peers.push(Peer::new(alloc, number as u8, life))?;
     }
     Ok(peers)
 }
@@ -89,7 +100,9 @@ impl Peers {
             promised: None,
             silence,
             peers: unmet(alloc, own.nodes, kept)?,
-            refusals: Refusals::new(),
+            refusals: Refusals::new(None),
+            addresses: Vec::new(alloc),
+            settings: None,
             looked: 0,
         })
     }
@@ -103,14 +116,32 @@ impl Peers {
 
     /// The node has promised this ballot, as Hellos say from now on.
     pub fn set_promised(&mut self, promised: Option<Ballot>)
-        ensures { Stays self.old self.new }
+        ensures stays { Stays self.old self.new }
+        ensures set { self.new ≡ record self.old { promised = promised } }
     {
         self.promised = promised;
     }
 
+    /// These are the settings of this process, which each peer is told once a connection opens.
+    pub fn set_settings(&mut self, settings: Settings)
+        ensures stays { Stays self.old self.new }
+        ensures set { self.new ≡ record self.old { settings = Some settings } }
+    {
+        self.settings = Some(settings);
+    }
+
+    /// These are the addresses of nodes: callers from them are counted apart from others.
+    pub fn set_addresses(&mut self, addresses: Vec<NodeAddress>)
+        ensures stays { Stays self.old self.new }
+        ensures set { self.new ≡ record self.old { addresses = addresses } }
+    {
+        self.addresses = addresses;
+    }
+
     /// A peer counts as absent once it was silent for so long.
     pub fn set_silence(&mut self, silence: u64)
-        ensures { Stays self.old self.new }
+        ensures stays { Stays self.old self.new }
+        ensures set { self.new ≡ record self.old { silence = silence } }
     {
         self.silence = silence;
     }
@@ -120,21 +151,63 @@ impl Peers {
     /// A frame is one that came over a line of these wires: of a node without a key behind the Hello of the node that said it,
     /// which was taken; with a key as the next record coded on that node's way of the connection, behind that Hello and its
     /// proof under the key, over it and this node's own, which is the first that was written to the line. A node is told to be
-    /// there, and its life to be kept, only by a Hello that opened a connection: with a key behind its proof.
+    /// there, and its life to be kept, only by a Hello that opened a connection: with a key behind its proof. No frame is told
+    /// of a node of which two lives are known by then, whenever it came.
     #[tactic(auto, using(crate::proofs::Handing::handed_on, crate::proofs::Handing::handed_stays, crate::proofs::Handing::handed_grew))]
     pub fn next(&mut self) -> Option<Notice>
         ensures keeps { Keeps self.old self.new }
         ensures frames { frames_of self.new ≡ frames_of self.old }
         ensures heard { heard_of self.new ≡ heard_of self.old ++ heard_by result }
         ensures told { IfSome result (λ notice. IsTold (own_of self.old) (passed_of self.old) notice) }
+        ensures one { IfSome result (λ notice. IsOfOne (own_of self.old) self.old.peers.items notice) }
     {
-        self.lines.pop()
+        let notice = self.take_next();
+        self.lines.note_told(&notice);
+        notice
+    }
+
+    /// The next notice that is told; frames of nodes of which two lives are known are dropped.
+    #[tactic(auto, using(crate::proofs::Growing::stays_on, crate::proofs::Handing::handed_stays, crate::proofs::Lives::told_same, crate::proofs::Lives::one_same))]
+    fn take_next(&mut self) -> Option<Notice>
+        ensures stays { Stays self.old self.new }
+        ensures peers { self.new.peers ≡ self.old.peers }
+        ensures told { IfSome result (λ notice. IsTold (own_of self.old) (passed_of self.old) notice) }
+        ensures one { IfSome result (λ notice. IsOfOne (own_of self.old) self.old.peers.items notice) }
+    {
+        for _ in 0..u64::MAX {
+            let notice = self.lines.pop()?;
+            if self.is_told(&notice) {
+                return Some(notice);
+            }
+        }
+        None
+    }
+
+    /// Whether this notice is told: not a frame of a node of which two lives are known.
+    fn is_told(&self, notice: &Notice) -> bool
+        ensures { result ≡ true → IsOfOne (own_of self.now) self.now.peers.items notice.now }
+    {
+        match notice {
+            Notice::Frame { from, frame: _ } => {
+                let lines = &self.lines;
+                !is_replaced(&lines.own, *from as usize, &self.peers)
+            }
+            Notice::Joined { .. }
+            | Notice::Gone { .. }
+            | Notice::Refused { .. }
+            | Notice::Unreached { .. }
+            | Notice::Strangers { .. }
+            | Notice::Settings { .. } => true,
+        }
     }
 
     /// Takes what came: who dialled, what was said, and which connections ended. Ends are taken before new Hellos. Peers
     /// that are to be dialled are dialled. While too much waits to be told nothing is taken.
+    ///
+    /// Behind it no other node is there of which two lives are known: its connection was closed.
     pub fn hear<W: Wire>(&mut self, wire: &mut W, now: u64)
         ensures grew { Grew self.old self.new (W.passed wire.old) (W.passed wire.new) }
+        ensures closed { AreClosed (own_of self.new) self.new.peers.items }
         ensures seats { seats_in (W.passed wire.new) ≡ seats_in (W.passed wire.old) }
         ensures log { logged_in (W.passed wire.new) ≡ logged_in (W.passed wire.old) }
         ensures writing { (seat : ℕ) → wrote_over (W.passed wire.new) (Seat seat) ≡ wrote_over (W.passed wire.old) (Seat seat) }
@@ -145,10 +218,12 @@ impl Peers {
     /// Takes what came, and dials.
     #[tactic(auto, using(crate::proofs::Growing::grew_on, crate::proofs::Growing::stayed, crate::proofs::Growing::stays_on))]
     fn take<W: Wire>(&mut self, wire: &mut W, now: u64)
-        ensures { Grew self.old self.new (W.passed wire.old) (W.passed wire.new) }
+        ensures grew { Grew self.old self.new (W.passed wire.old) (W.passed wire.new) }
+        ensures closed { AreClosed (own_of self.new) self.new.peers.items }
     {
         self.take_unless_full(wire, now);
         self.dial_all(wire, now);
+        self.end_replaced(wire, now);
     }
 
     /// Takes what came, but not while too much waits to be told: what isn't read then is no silence.
@@ -218,12 +293,16 @@ impl Peers {
         }
     }
 
-    /// Tells each peer how this node is, where that is due.
+    /// Tells each peer how this node is, where that is due, and which lives of stores are known here, where it wasn't told
+    /// these yet.
     #[tactic(auto, using(crate::proofs::Handing::handed_on, crate::proofs::Handing::handed_stays, crate::proofs::Handing::handed_grew))]
     pub fn tell(&mut self, told: OwnReport, now: u64)
         ensures { Stays self.old self.new }
     {
         tell_all(&mut self.peers, told, now);
+        let lines = &self.lines;
+        let lives = lives_told(&lines.own, &self.peers);
+        tell_lives(&mut self.peers, &lives, self.settings);
     }
 
     /// Writes what waits for all peers.
@@ -293,6 +372,18 @@ fn tell_all(peers: &mut Vec<Peer>, told: OwnReport, now: u64)
     for number in 0..NODES {
         if let Some(peer) = peers.get_mut(number) {
             peer.tell(told, now);
+        }
+    }
+}
+
+/// Tells each peer these lives and these settings, where it wasn't told them yet.
+#[tactic(auto, using(crate::proofs::Handing::back_at, crate::proofs::Handing::back_same, crate::proofs::Handing::back_on))]
+fn tell_lives(peers: &mut Vec<Peer>, lives: &Lives, settings: Option<Settings>)
+    ensures { GoBack peers.old.items peers.new.items }
+{
+    for number in 0..NODES {
+        if let Some(peer) = peers.get_mut(number) {
+            peer.tell_lives(lives, settings);
         }
     }
 }

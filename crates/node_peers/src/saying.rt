@@ -3,7 +3,7 @@
 ghost use Rattle.std.specs.Prelude.{◌≡◌};
 ghost use Rattle.node_peers.specs.Saying.{saying_of};
 
-use node_links::{Arrived, PeerFault};
+use node_links::{Arrived, Further, PeerFault};
 use peer_codes::{Beat, Hello};
 
 /// What is said by a connection, and by which node, where it is open. The buffer has the frame.
@@ -17,7 +17,9 @@ pub(crate) enum Saying {
     Proved(Hello),
     Frame { from: u8 },
     Beat { from: u8, beat: Beat },
-    /// A frame or a beat of nobody.
+    /// What a record of a further kind tells.
+    Further { from: u8, further: Further },
+    /// Something of nobody.
     Nothing,
     /// It is closed by a fault.
     Fault(PeerFault),
@@ -38,6 +40,10 @@ pub(crate) fn saying_of(arrived: Option<Result<Arrived, PeerFault>>, from: Optio
         },
         Some(Ok(Arrived::Beat(beat))) => match from {
             Some(from) => Saying::Beat { from, beat },
+            None => Saying::Nothing,
+        },
+        Some(Ok(Arrived::Further(further))) => match from {
+            Some(from) => Saying::Further { from, further },
             None => Saying::Nothing,
         },
     }

@@ -6,5 +6,5 @@ use Rattle.node_peers.proofs.greeting.met.Given as goal
 abbrev pub invariant-loop-number : goal.invariant-loop-number
 invariant-loop-number l = record {
   room : length l.met ≡ NODES;
-  are : AreMet l.number l.met l.peers;
+  are : AreMet l.own l.number l.met l.peers;
 }

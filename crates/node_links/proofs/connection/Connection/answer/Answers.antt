@@ -6,10 +6,10 @@ use Rattle.node_links.specs.declared.plain_connection.PlainConnection.{PlainConn
 use Rattle.node_links.proofs.PlainGoing.{plain_stays}
 use Rattle.node_links.proofs.connection.Connection.answer.Goals as goal
 
-pub returns-in-Plain : goal.returns-in-Plain
-returns-in-Plain c =
+pub returns-in-Plain-clause-goes : goal.returns-in-Plain-clause-goes
+returns-in-Plain-clause-goes c =
     subst (λ (s : Connection). GoesOn s (Plain c.answer.new.self)) (sym c.in-Plain.is)
     (plain_stays c.in-Plain.plain c.answer.new.self (ap (λ (p : PlainConnection). p.came.waiting) c.answer.ensures) (ap (λ (p : PlainConnection). p.phase) c.answer.ensures))
 
-pub returns-in-Coded : goal.returns-in-Coded
-returns-in-Coded c = subst (λ (s : Connection). GoesOn s (Coded c.answer_coded.new.coded)) (sym c.in-Coded.is) c.answer_coded.ensures
+pub returns-in-Coded-clause-goes : goal.returns-in-Coded-clause-goes
+returns-in-Coded-clause-goes c = subst (λ (s : Connection). GoesOn s (Coded c.answer_coded.new.coded)) (sym c.in-Coded.is) c.answer_coded.ensures.goes

@@ -1,24 +1,24 @@
 use Rattle.std.proofs.Common.{sym, subst}
 use Rattle.node_links.specs.declared.connection.Connection.{Connection}
 use Rattle.node_links.specs.declared.connection.Connection.TheVariants.{Plain, Coded}
-use Rattle.node_links.specs.Going.{GoesOn, TellsFrame}
+use Rattle.node_links.specs.Going.{GoesOn, Tells}
 use Rattle.node_links.specs.Arriving.{told}
-use Rattle.node_links.proofs.PlainGoing.{plain_nexts, plain_frames}
-use Rattle.node_links.proofs.CodedGoing.{coded_nexts, coded_frames}
+use Rattle.node_links.proofs.PlainGoing.{plain_nexts, plain_tells}
+use Rattle.node_links.proofs.CodedGoing.{coded_nexts, coded_tells}
 use Rattle.node_links.proofs.connection.Connection.next.Goals as goal
 
 pub returns-in-Plain-clause-goes : goal.returns-in-Plain-clause-goes
 returns-in-Plain-clause-goes c = subst (λ (s : Connection). GoesOn s (Plain c.next.new.self)) (sym c.in-Plain.is) (plain_nexts c.in-Plain.plain c.next.new.self (told c.next.result c.next.new.frame) c.next.ensures)
 
-pub returns-in-Plain-clause-frame : goal.returns-in-Plain-clause-frame
-returns-in-Plain-clause-frame c = subst (λ (s : Connection). TellsFrame (told c.next.result c.next.new.frame) s (Plain c.next.new.self)) (sym c.in-Plain.is) (plain_frames c.in-Plain.plain c.next.new.self (told c.next.result c.next.new.frame) c.next.ensures)
+pub returns-in-Plain-clause-tells : goal.returns-in-Plain-clause-tells
+returns-in-Plain-clause-tells c = subst (λ (s : Connection). Tells (told c.next.result c.next.new.frame) s (Plain c.next.new.self)) (sym c.in-Plain.is) (plain_tells c.in-Plain.plain c.next.new.self (told c.next.result c.next.new.frame) c.next.ensures)
 
 pub returns-in-Coded-clause-goes : goal.returns-in-Coded-clause-goes
 returns-in-Coded-clause-goes c =
     subst (λ (s : Connection). GoesOn s (Coded c.next_coded.new.coded)) (sym c.in-Coded.is)
     (coded_nexts c.events_stand_in_front.ensures c.calls_happen.ensures.waits c.in-Coded.coded c.next_coded.new.coded (told c.next_coded.result c.next_coded.new.frame) c.next_coded.ensures)
 
-pub returns-in-Coded-clause-frame : goal.returns-in-Coded-clause-frame
-returns-in-Coded-clause-frame c =
-    subst (λ (s : Connection). TellsFrame (told c.next_coded.result c.next_coded.new.frame) s (Coded c.next_coded.new.coded)) (sym c.in-Coded.is)
-    (coded_frames c.events_stand_in_front.ensures c.in-Coded.coded c.next_coded.new.coded (told c.next_coded.result c.next_coded.new.frame) c.next_coded.ensures)
+pub returns-in-Coded-clause-tells : goal.returns-in-Coded-clause-tells
+returns-in-Coded-clause-tells c =
+    subst (λ (s : Connection). Tells (told c.next_coded.result c.next_coded.new.frame) s (Coded c.next_coded.new.coded)) (sym c.in-Coded.is)
+    (coded_tells c.events_stand_in_front.ensures c.in-Coded.coded c.next_coded.new.coded (told c.next_coded.result c.next_coded.new.frame) c.next_coded.ensures)

@@ -7,12 +7,12 @@ use Rattle.node_links.proofs.PlainGoing.{plain_writes}
 use Rattle.node_links.proofs.CodedSaying.{coded_writes}
 use Rattle.node_links.proofs.connection.Connection.wrote.Goals as goal
 
-pub returns-in-Plain : goal.returns-in-Plain
-returns-in-Plain c =
+pub returns-in-Plain-clause-goes : goal.returns-in-Plain-clause-goes
+returns-in-Plain-clause-goes c =
     subst (λ (s : Connection). GoesOnWritten s (Plain c.wrote.new.self) c.args.count) (sym c.in-Plain.is)
     (plain_writes c.in-Plain.plain c.wrote.new.self c.args.count (ap (λ (p : PlainConnection). p.came.waiting) c.wrote.ensures.others) (ap (λ (p : PlainConnection). p.phase) c.wrote.ensures.others))
 
-pub returns-in-Coded : goal.returns-in-Coded
-returns-in-Coded c =
+pub returns-in-Coded-clause-goes : goal.returns-in-Coded-clause-goes
+returns-in-Coded-clause-goes c =
     subst (λ (s : Connection). GoesOnWritten s (Coded c.wrote-in-Coded.new.self) c.args.count) (sym c.in-Coded.is)
     (coded_writes c.in-Coded.coded c.wrote-in-Coded.new.self c.args.count c.wrote-in-Coded.ensures.unwritten c.wrote-in-Coded.ensures.others)

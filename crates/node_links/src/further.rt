@@ -1,0 +1,48 @@
+//! What a record of a further kind tells.
+
+ghost use Rattle.std.specs.Prelude.{◌≡◌};
+ghost use Rattle.node_links.specs.Telling.{further_of, read_behind};
+
+use crate::limits::{LIVES, SETTINGS};
+use crate::lives::{Lives, lives_of};
+use crate::settings::{Settings, settings_of};
+use peer_codes::{Hello, More, RecordFault, Version};
+
+/// What a record of a further kind tells.
+#[derive(Clone, Copy, Debug, PartialEq, Eq)]
+pub enum Further {
+    /// The lives that the other knows.
+    Lives(Lives),
+    /// The settings of the other's process.
+    Settings(Settings),
+    /// Something of a kind that isn't known here: it is passed over.
+    Unknown,
+}
+
+/// What a record of a further kind tells of a match of so many nodes: 120 `BadLength` where it has more bytes or fewer than
+/// one of its kind.
+fn further_of(nodes: u8, more: &More) -> Result<Further, RecordFault>
+    ensures { result ≡ further_of nodes more.now }
+{
+    match more.kind {
+        LIVES => match lives_of(nodes, more.bytes.as_slice()) {
+            Ok(lives) => Ok(Further::Lives(lives)),
+            Err(fault) => Err(fault),
+        },
+        SETTINGS => match settings_of(more.bytes.as_slice()) {
+            Ok(settings) => Ok(Further::Settings(settings)),
+            Err(fault) => Err(fault),
+        },
+        _ => Ok(Further::Unknown),
+    }
+}
+
+/// The same behind the other's Hello: 121 `BadKind` where that is of the first version.
+pub(crate) fn read_behind(hello: &Hello, more: &More) -> Result<Further, RecordFault>
+    ensures { result ≡ read_behind hello.now more.now }
+{
+    match hello.version {
+        Version::First => Err(RecordFault::BadKind),
+        Version::Second => further_of(hello.ends.nodes, more),
+    }
+}
