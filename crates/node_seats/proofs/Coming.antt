@@ -1,6 +1,7 @@
 -- What came of seats, as several calls are one, and what is left of it of seats and of the log.
 use Rattle.std.proofs.Common.{◌≡◌, ℕ, List, [], ◌∷◌, ◌++◌, append_assoc, append-nil, refl, ap, sym, ◌∙◌, subst}
 use Rattle.std.specs.Prelude.{Option, Some, None}
+use Rattle.std.specs.declared.net.ip_addr.IpAddr.{IpAddr}
 use Rattle.node_wires.specs.Passages.{Passage, Began, Came, Wrote, Gave, Logged, of_seat, seats_in, logged_in, came_over}
 use Rattle.node_wires.specs.declared.line.Line.TheVariants.{Guest, Peer, Caller, Seat, Asker}
 use Rattle.node_seats.specs.declared.seats.Seats.{Seats}
@@ -11,7 +12,7 @@ use Rattle.node_seats.specs.Passing.{passed_by, Passed, TakesNobody, AreOfGuests
 use Rattle.node_seats.specs.Guesting.{ShowsToken, IsGuested, IsToldOf, behind_by, Passes}
 use Rattle.node_seats.specs.Pieces.{IsPieceOf}
 use Rattle.node_seats.specs.declared.seat.Seat.{Seat as SeatOf}
-use Rattle.node_seats.specs.Seating.{waits_at, sits_at, Follows, Changes}
+use Rattle.node_seats.specs.Seating.{sits_at, Changes}
 use Rattle.node_seats.specs.Coming.{passed_in, tokens_in, Comes}
 use Rattle.node_seats.proofs.Passing.{both_of_guests}
 
@@ -29,7 +30,7 @@ guested_on (Some tokens) (Some (notices.Came seat)) a one two is_one is_two = re
 }
 guested_on (Some tokens) (Some (notices.Piece seat bytes)) a one two is_one is_two = both_of_guests one two is_one is_two
 guested_on (Some tokens) (Some (notices.Gone seat)) a one two is_one is_two = both_of_guests one two is_one is_two
-guested_on (Some tokens) (Some (notices.Refused seat)) a one two is_one is_two = both_of_guests one two is_one is_two
+guested_on (Some tokens) (Some (notices.Refused seat source)) a one two is_one is_two = both_of_guests one two is_one is_two
 
 nothing_behind : (tokens : Option (List TokenDigest)) → behind_by tokens None ≡ []
 nothing_behind None = refl
@@ -69,14 +70,14 @@ guested_by : (tokens : List TokenDigest) (notice : Option SeatNotice) (old more 
 guested_by tokens None old more takes are = are
 guested_by tokens (Some (notices.Piece seat bytes)) old more takes are = are
 guested_by tokens (Some (notices.Gone seat)) old more takes are = are
-guested_by tokens (Some (notices.Refused seat)) old more takes are = absurd takes
+guested_by tokens (Some (notices.Refused seat source)) old more takes are = absurd takes
 guested_by tokens (Some (notices.Came seat)) old more takes are = absurd takes
 
 behind_of : (tokens : List TokenDigest) (notice : Option SeatNotice) → TakesNobody notice → behind_by (Some tokens) notice ≡ passed_by notice
 behind_of tokens None takes = refl
 behind_of tokens (Some (notices.Piece seat bytes)) takes = refl
 behind_of tokens (Some (notices.Gone seat)) takes = refl
-behind_of tokens (Some (notices.Refused seat)) takes = absurd takes
+behind_of tokens (Some (notices.Refused seat source)) takes = absurd takes
 behind_of tokens (Some (notices.Came seat)) takes = absurd takes
 
 -- guests were taken in or heard, and then something came of a bot
@@ -95,8 +96,8 @@ bot_passes tokens notice old new wired_old wired wired_new takes grows passed = 
 pub heard_passes : (tokens : List TokenDigest) (old new wired_old wired_new : List Passage) → Grows old new wired_old wired_new → Passes (Some tokens) None old new wired_old wired_new
 heard_passes tokens old new wired_old wired_new grows = record { more = grows.more; guested = grows.of_guests; put_down = grows.put_down; wired = grows.wired ∙ ap (λ (ps : List Passage). wired_old ++ ps) (sym (append-nil grows.more)) }
 
-pub refused_passes : (tokens : List TokenDigest) (seat : ℕ) (old new wired_old wired_new : List Passage) → Grows old new wired_old wired_new → Passes (Some tokens) (Some (notices.Refused seat)) old new wired_old wired_new
-refused_passes tokens seat old new wired_old wired_new grows = record { more = grows.more; guested = grows.of_guests; put_down = grows.put_down; wired = grows.wired ∙ ap (λ (ps : List Passage). wired_old ++ ps) (sym (append-nil grows.more)) }
+pub refused_passes : (tokens : List TokenDigest) (seat : ℕ) (source : Option IpAddr) (old new wired_old wired_new : List Passage) → Grows old new wired_old wired_new → Passes (Some tokens) (Some (notices.Refused seat source)) old new wired_old wired_new
+refused_passes tokens seat source old new wired_old wired_new grows = record { more = grows.more; guested = grows.of_guests; put_down = grows.put_down; wired = grows.wired ∙ ap (λ (ps : List Passage). wired_old ++ ps) (sym (append-nil grows.more)) }
 
 pub given_passes : (tokens : List TokenDigest) (seat place : ℕ) (old new wired_old wired_new : List Passage) → ShowsToken tokens seat (came_over old (Guest place)) → new ≡ old ++ Gave place seat ∷ [] → wired_new ≡ wired_old ++ Gave place seat ∷ []
     → Passes (Some tokens) (Some (notices.Came seat)) old new wired_old wired_new
@@ -153,7 +154,7 @@ no_log_by None = refl
 no_log_by (Some (notices.Came seat)) = refl
 no_log_by (Some (notices.Piece seat bytes)) = refl
 no_log_by (Some (notices.Gone seat)) = refl
-no_log_by (Some (notices.Refused seat)) = refl
+no_log_by (Some (notices.Refused seat source)) = refl
 
 seats_of_guests : (notice : Option SeatNotice) (more : List Passage) (behind : List Passage) → AreOfGuests more → behind ≡ passed_by notice → seats_in (more ++ behind) ≡ seats_in (passed_by notice)
 seats_of_guests notice more behind are e = seats_of_both more behind ∙ (ap (λ (ps : List Passage). ps ++ seats_in behind) (no_seats more are) ∙ ap seats_in e)
@@ -165,7 +166,7 @@ seats_of_more (Some tokens) (Some (notices.Came seat)) old more is =
     ap seats_in (append-nil more ∙ is.given) ∙ (seats_of_both is.front (Gave is.place seat ∷ []) ∙ ap (λ (ps : List Passage). ps ++ Began (Seat seat) ∷ []) (no_seats is.front is.of_guests))
 seats_of_more (Some tokens) (Some (notices.Piece seat bytes)) old more is = seats_of_guests (Some (notices.Piece seat bytes)) more (Came (Seat seat) bytes.items ∷ []) is refl
 seats_of_more (Some tokens) (Some (notices.Gone seat)) old more is = seats_of_guests (Some (notices.Gone seat)) more [] is refl
-seats_of_more (Some tokens) (Some (notices.Refused seat)) old more is = seats_of_guests (Some (notices.Refused seat)) more [] is refl
+seats_of_more (Some tokens) (Some (notices.Refused seat source)) old more is = seats_of_guests (Some (notices.Refused seat source)) more [] is refl
 
 log_of_guests : (more behind : List Passage) → AreOfGuests more → logged_in behind ≡ [] → logged_in (more ++ behind) ≡ []
 log_of_guests more behind are e = log_of_both more behind ∙ (ap (λ (ls : List ℕ). ls ++ logged_in behind) (no_log more are) ∙ e)
@@ -177,7 +178,7 @@ log_of_more (Some tokens) (Some (notices.Came seat)) old more is =
     ap logged_in (append-nil more ∙ is.given) ∙ log_of_guests is.front (Gave is.place seat ∷ []) is.of_guests refl
 log_of_more (Some tokens) (Some (notices.Piece seat bytes)) old more is = log_of_guests more (Came (Seat seat) bytes.items ∷ []) is refl
 log_of_more (Some tokens) (Some (notices.Gone seat)) old more is = log_of_guests more [] is refl
-log_of_more (Some tokens) (Some (notices.Refused seat)) old more is = log_of_guests more [] is refl
+log_of_more (Some tokens) (Some (notices.Refused seat source)) old more is = log_of_guests more [] is refl
 
 pub seats_come : (notice : Option SeatNotice) (old new : Seats) (wired_old wired_new : List Passage) → Comes notice old new wired_old wired_new → seats_in wired_new ≡ seats_in wired_old ++ seats_in (passed_by notice)
 seats_come notice old new wired_old wired_new comes =
@@ -205,7 +206,7 @@ plain_passed notice old new wired_old wired_new comes without = passed_without (
 pub changes_on : (notice : Option SeatNotice) (a b c : List SeatOf) → ((seat : ℕ) → sits_at b seat ≡ sits_at a seat) → Changes notice b c → Changes notice a c
 changes_on None a b c one two = λ seat. two seat ∙ one seat
 changes_on (Some (notices.Piece number bytes)) a b c one two = λ seat. two seat ∙ one seat
-changes_on (Some (notices.Refused number)) a b c one two = λ seat. two seat ∙ one seat
+changes_on (Some (notices.Refused number source)) a b c one two = λ seat. two seat ∙ one seat
 changes_on (Some (notices.Came number)) a b c one two = (sym (one number) ∙ two.0, two.1, λ seat differs. two.2 seat differs ∙ one seat)
 changes_on (Some (notices.Gone number)) a b c one two = (two.0, λ seat differs. two.1 seat differs ∙ one seat)
 
@@ -217,4 +218,4 @@ no_piece tokens came None seat most told = tt
 no_piece tokens came (Some (notices.Came at)) seat most told = tt
 no_piece tokens came (Some (notices.Piece at bytes)) seat most told = absurd told
 no_piece tokens came (Some (notices.Gone at)) seat most told = tt
-no_piece tokens came (Some (notices.Refused at)) seat most told = tt
+no_piece tokens came (Some (notices.Refused at source)) seat most told = tt

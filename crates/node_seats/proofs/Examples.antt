@@ -1,6 +1,6 @@
 -- Lines as they go to a bot, lines that show tokens, and who is let in, on values.
-use Rattle.std.proofs.Common.{◌≡◌, inl, ℕ, true, false, List, [], ◌∷◌, ◌++◌, length, replicate, refl, ap, ◌∙◌, arith}
-use Rattle.std.specs.Prelude.{codes, Some}
+use Rattle.std.proofs.Common.{◌≡◌, ◌<◌, ◌⊎◌, inl, inr, ℕ, true, false, List, [], ◌∷◌, ◌++◌, length, replicate, refl, ap, ◌∙◌, arith}
+use Rattle.std.specs.Prelude.{codes, Some, None}
 use Rattle.std.proofs.lemmas.List.{length-append}
 use Rattle.sha2.specs.Sha256.{sha256}
 use Rattle.node_wires.specs.declared.line.Line.TheVariants.{Guest, Seat}
@@ -12,6 +12,8 @@ use Rattle.node_seats.specs.Others.{TellsNoGuest}
 use Rattle.node_seats.specs.Writing.{AreToSeats, WritesToSeats}
 use Rattle.node_seats.specs.Tokens.{is_token_digit, IsTokenLine}
 use Rattle.node_seats.specs.Guesting.{ShowsToken, IsToldOf, IsGuested, Passes}
+use Rattle.node_seats.specs.declared.seat.Seat.{Seat as SeatOf}
+use Rattle.node_seats.specs.Hurrying.{HasTime, Hurries}
 use Rattle.node_seats.proofs.Tokens.{token_length}
 
 end_of_a_line : line_of (65 ∷ []) ≡ 65 ∷ 13 ∷ 10 ∷ []
@@ -82,7 +84,7 @@ makes_room = record { has_one = omega arith; shown = shows_sevens }
 throws_nobody_out : IsToldOf tokens (codes "VERSION:2.0.0\n") (Some (notices.Gone 1)) → ⊥
 throws_nobody_out shows = omega (arith, (token_length (sha256 sevens) (codes "VERSION:2.0.0\n") shows.shown).0)
 
-right_one_is_not_refused : IsToldOf tokens shown (Some (notices.Refused 1)) → ⊥
+right_one_is_not_refused : IsToldOf tokens shown (Some (notices.Refused 1 None)) → ⊥
 right_one_is_not_refused refused = refused makes_room
 
 -- ---- what is written
@@ -95,3 +97,35 @@ not_to_a_guest are = are.0
 
 a_guest_is_told : TellsNoGuest said (said ++ Wrote (Guest 3) (65 ∷ []) ∷ []) → ⊥
 a_guest_is_told none = omega (arith, ap length (none 3 refl))
+
+-- ---- the time for the version
+
+has_time : HasTime false 9999999 (Some 0)
+has_time = let e : 9999999 < 10000000 = omega arith in inr e
+
+over_by : (false ≡ true) ⊎ (10000000 < 10000000) → ⊥
+over_by (inl e) = absurd cc
+over_by (inr e) = omega (arith, e)
+
+time_is_over : HasTime false 10000000 (Some 0) → ⊥
+time_is_over time = over_by time
+
+needs_none : HasTime true 10000000 None
+needs_none = refl
+
+-- a bot whose time was over
+abbrev pub silent_bot : SeatOf
+silent_bot = record { sits = true; since = None; waiting = record { waiting = []; room = 0 } }
+
+-- one that was taken in at the first moment
+abbrev pub newest_bot : SeatOf
+newest_bot = record { sits = true; since = Some 0; waiting = record { waiting = []; room = 0 } }
+
+silent_bot_stays : Hurries false 20000000 1 None silent_bot silent_bot → ⊥
+silent_bot_stays hurries = let e = hurries.over refl refl refl in absurd (cc e)
+
+time_begins_anew : Hurries false 10000000 1 None newest_bot newest_bot → ⊥
+time_begins_anew hurries = let e = hurries.ends 0 refl refl refl (omega arith) in absurd (cc e)
+
+let_go_too_early : Hurries false 9999999 1 None newest_bot silent_bot → ⊥
+let_go_too_early hurries = let e = hurries.lasts has_time in absurd (cc e)

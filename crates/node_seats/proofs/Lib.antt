@@ -5,6 +5,7 @@ pub mod Others
 pub mod Writing
 pub mod Guesting
 pub mod Seating
+pub mod Hurrying
 pub mod SeatBits
 pub mod Coming
 pub mod Telling

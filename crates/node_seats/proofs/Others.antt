@@ -123,7 +123,7 @@ bots_passed None = tt
 bots_passed (Some (notices.Came seat)) = (refl, tt)
 bots_passed (Some (notices.Piece seat bytes)) = (refl, tt)
 bots_passed (Some (notices.Gone seat)) = tt
-bots_passed (Some (notices.Refused seat)) = tt
+bots_passed (Some (notices.Refused seat source)) = tt
 
 bots_come : (tokens : Option (List TokenDigest)) (notice : Option SeatNotice) (old more : List Passage) → IsGuested tokens notice old more → AreOfBots (more ++ behind_by tokens notice)
 bots_come None notice old more is = subst (λ (ps : List Passage). AreOfBots (ps ++ passed_by notice)) (sym is) (bots_passed notice)
@@ -132,7 +132,7 @@ bots_come (Some tokens) (Some (notices.Came seat)) old more is =
     both_of_bots more [] (subst (λ (ps : List Passage). AreOfBots ps) (sym is.given) (both_of_bots is.front (Gave is.place seat ∷ []) (bots_of_guests is.front is.of_guests) (tt, tt))) tt
 bots_come (Some tokens) (Some (notices.Piece seat bytes)) old more is = both_of_bots more (Came (Seat seat) bytes.items ∷ []) (bots_of_guests more is) (refl, tt)
 bots_come (Some tokens) (Some (notices.Gone seat)) old more is = both_of_bots more [] (bots_of_guests more is) tt
-bots_come (Some tokens) (Some (notices.Refused seat)) old more is = both_of_bots more [] (bots_of_guests more is) tt
+bots_come (Some tokens) (Some (notices.Refused seat source)) old more is = both_of_bots more [] (bots_of_guests more is) tt
 
 pub keeps_coming : (notice : Option SeatNotice) (old new : Seats) (wired_old wired_new : List Passage) → Comes notice old new wired_old wired_new → KeepsOthers wired_old wired_new
 keeps_coming notice old new wired_old wired_new comes =
@@ -168,7 +168,7 @@ unsaid_passed None = tt
 unsaid_passed (Some (notices.Came seat)) = (tt, tt)
 unsaid_passed (Some (notices.Piece seat bytes)) = (tt, tt)
 unsaid_passed (Some (notices.Gone seat)) = tt
-unsaid_passed (Some (notices.Refused seat)) = tt
+unsaid_passed (Some (notices.Refused seat source)) = tt
 
 unsaid_come : (tokens : Option (List TokenDigest)) (notice : Option SeatNotice) (old more : List Passage) → IsGuested tokens notice old more → AreUnsaid (more ++ behind_by tokens notice)
 unsaid_come None notice old more is = subst (λ (ps : List Passage). AreUnsaid (ps ++ passed_by notice)) (sym is) (unsaid_passed notice)
@@ -177,7 +177,7 @@ unsaid_come (Some tokens) (Some (notices.Came seat)) old more is =
     both_unsaid more [] (subst (λ (ps : List Passage). AreUnsaid ps) (sym is.given) (both_unsaid is.front (Gave is.place seat ∷ []) (unsaid_of_guests is.front is.of_guests) (tt, tt))) tt
 unsaid_come (Some tokens) (Some (notices.Piece seat bytes)) old more is = both_unsaid more (Came (Seat seat) bytes.items ∷ []) (unsaid_of_guests more is) (tt, tt)
 unsaid_come (Some tokens) (Some (notices.Gone seat)) old more is = both_unsaid more [] (unsaid_of_guests more is) tt
-unsaid_come (Some tokens) (Some (notices.Refused seat)) old more is = both_unsaid more [] (unsaid_of_guests more is) tt
+unsaid_come (Some tokens) (Some (notices.Refused seat source)) old more is = both_unsaid more [] (unsaid_of_guests more is) tt
 
 none_or : (b : Bool) (before : List ℕ) → before ≡ [] → (if b then [] else before) ≡ []
 none_or true before none = refl

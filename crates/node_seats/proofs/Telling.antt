@@ -81,14 +81,14 @@ WroteBy None seat old new = new ≡ old
 WroteBy (Some (notices.Came number)) seat old new = (seat ≡ number → new ≡ []) × ((seat ≢ number) → new ≡ old)
 WroteBy (Some (notices.Piece number bytes)) seat old new = new ≡ old
 WroteBy (Some (notices.Gone number)) seat old new = new ≡ old
-WroteBy (Some (notices.Refused number)) seat old new = new ≡ old
+WroteBy (Some (notices.Refused number source)) seat old new = new ≡ old
 
 nobody_writes : (notice : Option SeatNotice) (seat : ℕ) (old new : List ℕ) → TakesNobody notice → new ≡ old → WroteBy notice seat old new
 nobody_writes None seat old new takes e = e
 nobody_writes (Some (notices.Came number)) seat old new takes e = absurd takes
 nobody_writes (Some (notices.Piece number bytes)) seat old new takes e = e
 nobody_writes (Some (notices.Gone number)) seat old new takes e = e
-nobody_writes (Some (notices.Refused number)) seat old new takes e = e
+nobody_writes (Some (notices.Refused number source)) seat old new takes e = e
 
 by_guests : (seat : ℕ) (before : List ℕ) (ps : List Passage) → AreOfGuests ps → wrote_behind (SeatOf seat) before ps ≡ before
 by_guests seat before [] are = refl
@@ -110,7 +110,7 @@ by_passed None seat before = refl
 by_passed (Some (notices.Came number)) seat before = anew number seat before (wrote_behind (SeatOf seat) before (Began (SeatOf number) ∷ [])) refl
 by_passed (Some (notices.Piece number bytes)) seat before = refl
 by_passed (Some (notices.Gone number)) seat before = refl
-by_passed (Some (notices.Refused number)) seat before = refl
+by_passed (Some (notices.Refused number source)) seat before = refl
 
 by_more : (tokens : Option (List TokenDigest)) (notice : Option SeatNotice) (old more : List Passage) (seat : ℕ) (before : List ℕ) → IsGuested tokens notice old more
     → WroteBy notice seat before (wrote_behind (SeatOf seat) before (more ++ behind_by tokens notice))
@@ -122,7 +122,7 @@ by_more (Some tokens) (Some (notices.Came number)) old more seat before is =
     ∙ (wrote_both (SeatOf seat) before is.front (Gave is.place number ∷ []) ∙ ap (λ (b : List ℕ). wrote_behind (SeatOf seat) b (Gave is.place number ∷ [])) (by_guests seat before is.front is.of_guests)))
 by_more (Some tokens) (Some (notices.Piece number bytes)) old more seat before is = wrote_both (SeatOf seat) before more (Came (SeatOf number) bytes.items ∷ []) ∙ by_guests seat before more is
 by_more (Some tokens) (Some (notices.Gone number)) old more seat before is = ap (λ (ps : List Passage). wrote_behind (SeatOf seat) before ps) (append-nil more) ∙ by_guests seat before more is
-by_more (Some tokens) (Some (notices.Refused number)) old more seat before is = ap (λ (ps : List Passage). wrote_behind (SeatOf seat) before ps) (append-nil more) ∙ by_guests seat before more is
+by_more (Some tokens) (Some (notices.Refused number source)) old more seat before is = ap (λ (ps : List Passage). wrote_behind (SeatOf seat) before ps) (append-nil more) ∙ by_guests seat before more is
 
 -- ---- at all seats
 
@@ -148,7 +148,7 @@ comes_at : (notice : Option SeatNotice) (seat : ℕ) (passed_old passed_new told
     → Follows notice old new → Changes notice old new → SaidAt seat passed_old told old → SaidAt seat passed_new told new
 comes_at None seat passed_old passed_new told old new wrote waits sits is = stays_at seat passed_old passed_new told old new (sits seat) wrote (waits seat) is
 comes_at (Some (notices.Piece number bytes)) seat passed_old passed_new told old new wrote waits sits is = stays_at seat passed_old passed_new told old new (sits seat) wrote (waits seat) is
-comes_at (Some (notices.Refused number)) seat passed_old passed_new told old new wrote waits sits is = stays_at seat passed_old passed_new told old new (sits seat) wrote (waits seat) is
+comes_at (Some (notices.Refused number source)) seat passed_old passed_new told old new wrote waits sits is = stays_at seat passed_old passed_new told old new (sits seat) wrote (waits seat) is
 comes_at (Some (notices.Came number)) seat passed_old passed_new told old new wrote waits sits is = elim (eqb_tells seat number) as (λ _. SaidAt seat passed_new told new) [
   | inl here ↦ anew_at seat passed_new told new (wrote.0 here.1) (ap (λ (n : ℕ). waits_at new n) here.1 ∙ waits.0)
   | inr there ↦ stays_at seat passed_old passed_new told old new (sits.2 seat there.1) (wrote.1 there.1) (waits.1 seat there.1) is
@@ -186,7 +186,7 @@ flushed_at : (notice : Option SeatNotice) (seat : ℕ) (passed_old passed_new to
     → Loses notice old new passed_old passed_new → SaidAt seat passed_old told old → SaidAt seat passed_new told new
 flushed_at None seat passed_old passed_new told old new takes said sits loses is = moved_at seat passed_old passed_new told old new (sits seat) (said seat (λ never. never)) is
 flushed_at (Some (notices.Piece number bytes)) seat passed_old passed_new told old new takes said sits loses is = moved_at seat passed_old passed_new told old new (sits seat) (said seat (λ never. never)) is
-flushed_at (Some (notices.Refused number)) seat passed_old passed_new told old new takes said sits loses is = absurd takes
+flushed_at (Some (notices.Refused number source)) seat passed_old passed_new told old new takes said sits loses is = absurd takes
 flushed_at (Some (notices.Came number)) seat passed_old passed_new told old new takes said sits loses is = absurd takes
 flushed_at (Some (notices.Gone number)) seat passed_old passed_new told old new takes said sits loses is = elim (eqb_tells seat number) as (λ _. SaidAt seat passed_new told new) [
   | inl here ↦

@@ -66,7 +66,7 @@ IsToldOf tokens came None = Unit {0}
 IsToldOf tokens came (Some (notices.Came seat)) = Unit {0}
 IsToldOf tokens came (Some (notices.Piece seat bytes)) = ⊥
 IsToldOf tokens came (Some (notices.Gone seat)) = ShowsToken tokens seat came
-IsToldOf tokens came (Some (notices.Refused seat)) = ShowsToken tokens seat came → ⊥
+IsToldOf tokens came (Some (notices.Refused seat source)) = ShowsToken tokens seat came → ⊥
 
 -- last of all the connection of a guest was given to this seat, over which its token had come and nothing else
 pub record IsSeated (tokens : List TokenDigest) (seat : ℕ) (old more : List Passage) : Type 0 where
@@ -83,7 +83,7 @@ IsGuested (Some tokens) None old more = AreOfGuests more
 IsGuested (Some tokens) (Some (notices.Came seat)) old more = IsSeated tokens seat old more
 IsGuested (Some tokens) (Some (notices.Piece seat bytes)) old more = AreOfGuests more
 IsGuested (Some tokens) (Some (notices.Gone seat)) old more = AreOfGuests more
-IsGuested (Some tokens) (Some (notices.Refused seat)) old more = AreOfGuests more
+IsGuested (Some tokens) (Some (notices.Refused seat source)) old more = AreOfGuests more
 
 -- and what passed behind it over the line of a seat
 abbrev pub behind_by : Option (List TokenDigest) → Option SeatNotice → List Passage
@@ -92,7 +92,7 @@ behind_by (Some tokens) None = []
 behind_by (Some tokens) (Some (notices.Came seat)) = []
 behind_by (Some tokens) (Some (notices.Piece seat bytes)) = PieceCame (Seat seat) bytes.items ∷ []
 behind_by (Some tokens) (Some (notices.Gone seat)) = []
-behind_by (Some tokens) (Some (notices.Refused seat)) = []
+behind_by (Some tokens) (Some (notices.Refused seat source)) = []
 
 -- what passed in a call, and what of it is put down of guests
 pub record Passes (tokens : Option (List TokenDigest)) (notice : Option SeatNotice) (old new wired_old wired_new : List Passage) : Type 0 where

@@ -6,5 +6,6 @@ pub mod Others
 pub mod Writing
 pub mod Guesting
 pub mod Seating
+pub mod Hurrying
 pub mod Telling
 pub mod Coming

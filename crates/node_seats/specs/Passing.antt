@@ -11,14 +11,14 @@ abbrev pub passages_of : SeatNotice → List Passage
 passages_of (notices.Came seat) = Began (Seat seat) ∷ []
 passages_of (notices.Piece seat bytes) = PieceCame (Seat seat) bytes.items ∷ []
 passages_of (notices.Gone seat) = []
-passages_of (notices.Refused seat) = []
+passages_of (notices.Refused seat source) = []
 
 -- the seat of which it came
 abbrev pub seat_of : SeatNotice → ℕ
 seat_of (notices.Came seat) = seat
 seat_of (notices.Piece seat bytes) = seat
 seat_of (notices.Gone seat) = seat
-seat_of (notices.Refused seat) = seat
+seat_of (notices.Refused seat source) = seat
 
 abbrev pub passed_by : Option SeatNotice → List Passage
 passed_by None = []
@@ -32,7 +32,7 @@ Passed notice old new = new ≡ old ++ passed_by notice
 abbrev pub Leaves : Option SeatNotice → List ℕ → List ℕ → Type 0
 Leaves None old new = new ≡ old
 Leaves (Some (notices.Piece seat bytes)) old new = new ≡ old
-Leaves (Some (notices.Refused seat)) old new = new ≡ old
+Leaves (Some (notices.Refused seat source)) old new = new ≡ old
 Leaves (Some (notices.Came seat)) old new = new ≡ []
 Leaves (Some (notices.Gone seat)) old new = new ≡ []
 
@@ -41,7 +41,7 @@ abbrev pub TakesNobody : Option SeatNotice → Type 0
 TakesNobody None = Unit {0}
 TakesNobody (Some (notices.Piece seat bytes)) = Unit {0}
 TakesNobody (Some (notices.Gone seat)) = Unit {0}
-TakesNobody (Some (notices.Refused seat)) = ⊥
+TakesNobody (Some (notices.Refused seat source)) = ⊥
 TakesNobody (Some (notices.Came seat)) = ⊥
 
 -- ---- guests

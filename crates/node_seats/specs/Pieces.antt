@@ -10,11 +10,11 @@ IsPieceOf seat most None = Unit {0}
 IsPieceOf seat most (Some (notices.Came at)) = Unit {0}
 IsPieceOf seat most (Some (notices.Piece at bytes)) = (at ≡ seat) × (length bytes.items ≤ most)
 IsPieceOf seat most (Some (notices.Gone at)) = Unit {0}
-IsPieceOf seat most (Some (notices.Refused at)) = Unit {0}
+IsPieceOf seat most (Some (notices.Refused at source)) = Unit {0}
 
 -- more may be there, but not behind a piece that is shorter than it may be
 abbrev pub may_have_more : SeatNotice → Bool
 may_have_more (notices.Piece seat bytes) = length bytes.items == PIECE
 may_have_more (notices.Came seat) = true
 may_have_more (notices.Gone seat) = true
-may_have_more (notices.Refused seat) = true
+may_have_more (notices.Refused seat source) = true

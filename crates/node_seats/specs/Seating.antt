@@ -8,7 +8,7 @@ use Rattle.node_seats.specs.declared.seat_notice.SeatNotice.TheVariants as notic
 use Rattle.node_seats.specs.Lines.{line_of}
 
 abbrev pub nobody : Seat
-nobody = record { sits = false; waiting = record { waiting = []; room = 0 } }
+nobody = record { sits = false; since = None; waiting = record { waiting = []; room = 0 } }
 
 -- what waits for a seat, and whether somebody sits there
 abbrev pub waits_at : List Seat → ℕ → List ℕ
@@ -30,7 +30,7 @@ Clears number old new = (waits_at new number ≡ []) × ((seat : ℕ) → seat �
 abbrev pub Follows : Option SeatNotice → List Seat → List Seat → Type 0
 Follows None old new = (seat : ℕ) → waits_at new seat ≡ waits_at old seat
 Follows (Some (notices.Piece number bytes)) old new = (seat : ℕ) → waits_at new seat ≡ waits_at old seat
-Follows (Some (notices.Refused number)) old new = (seat : ℕ) → waits_at new seat ≡ waits_at old seat
+Follows (Some (notices.Refused number source)) old new = (seat : ℕ) → waits_at new seat ≡ waits_at old seat
 Follows (Some (notices.Came number)) old new = Clears number old new
 Follows (Some (notices.Gone number)) old new = Clears number old new
 
@@ -38,7 +38,7 @@ Follows (Some (notices.Gone number)) old new = Clears number old new
 abbrev pub Changes : Option SeatNotice → List Seat → List Seat → Type 0
 Changes None old new = (seat : ℕ) → sits_at new seat ≡ sits_at old seat
 Changes (Some (notices.Piece number bytes)) old new = (seat : ℕ) → sits_at new seat ≡ sits_at old seat
-Changes (Some (notices.Refused number)) old new = (seat : ℕ) → sits_at new seat ≡ sits_at old seat
+Changes (Some (notices.Refused number source)) old new = (seat : ℕ) → sits_at new seat ≡ sits_at old seat
 Changes (Some (notices.Came number)) old new = (sits_at old number ≡ false) × (sits_at new number ≡ true) × ((seat : ℕ) → seat ≢ number → sits_at new seat ≡ sits_at old seat)
 Changes (Some (notices.Gone number)) old new = (sits_at new number ≡ false) × ((seat : ℕ) → seat ≢ number → sits_at new seat ≡ sits_at old seat)
 
@@ -46,7 +46,7 @@ Changes (Some (notices.Gone number)) old new = (sits_at new number ≡ false) ×
 abbrev pub Sits : Option SeatNotice → Bool → Bool → Type 0
 Sits None old new = new ≡ old
 Sits (Some (notices.Piece number bytes)) old new = new ≡ old
-Sits (Some (notices.Refused number)) old new = new ≡ old
+Sits (Some (notices.Refused number source)) old new = new ≡ old
 Sits (Some (notices.Came number)) old new = (old ≡ false) × (new ≡ true)
 Sits (Some (notices.Gone number)) old new = new ≡ false
 
@@ -59,7 +59,7 @@ pub record Tells (number : ℕ) (line : List ℕ) (kept : Bool) (old new : List 
 abbrev pub IsOf : Option SeatNotice → ℕ → Type 0
 IsOf None seat = ⊥
 IsOf (Some (notices.Piece number bytes)) seat = ⊥
-IsOf (Some (notices.Refused number)) seat = ⊥
+IsOf (Some (notices.Refused number source)) seat = ⊥
 IsOf (Some (notices.Came number)) seat = seat ≡ number
 IsOf (Some (notices.Gone number)) seat = seat ≡ number
 

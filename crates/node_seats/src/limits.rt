@@ -12,5 +12,8 @@ pub const TOKEN_LINE: usize = 73;
 /// A guest is refused who hasn't said his line within this time.
 pub const TOKEN_TIME: u64 = 2_000_000;
 
+/// A bot that hasn't named the protocol's version within this time since it was taken in is let go of.
+pub const VERSION_TIME: u64 = 10_000_000;
+
 /// The connection of a guest is closed so long after he was refused.
 pub const REFUSED_TIME: u64 = 200_000;

@@ -1,6 +1,6 @@
 //! One seat.
 
-ghost use Rattle.std.specs.Prelude.{◌≡◌, ◌++◌, ℕ, [], true, false, IfSome, Some, length, OnOk, OnErr};
+ghost use Rattle.std.specs.Prelude.{◌≡◌, ◌++◌, ◌+◌, ◌<◌, ◌≤◌, ℕ, Bool, [], true, false, IfSome, Some, None, length, OnOk, OnErr};
 ghost use Rattle.node_seats.specs.declared.seat_notice.SeatNotice.TheVariants as notices;
 ghost use Rattle.node_seats.specs.Lines.{line_of};
 ghost use Rattle.node_wires.specs.declared.line.Line.TheVariants.{Guest as GuestAt};
@@ -9,9 +9,11 @@ ghost use Rattle.node_seats.specs.Passing.{Passed, TakesNobody, seat_of, Leaves}
 ghost use Rattle.node_seats.specs.Pieces.{IsPieceOf};
 ghost use Rattle.node_seats.specs.Guesting.{ShowsToken, IsToldOf, Passes};
 ghost use Rattle.node_seats.specs.Seating.{Sits};
+ghost use Rattle.node_seats.specs.Hurrying.{HasTime, Lasts, Hurries};
 ghost use Rattle.node_seats.specs.Writing.{Writes};
 
 use crate::guests::Guests;
+use crate::limits::VERSION_TIME;
 use crate::seat_notice::SeatNotice;
 use byte_queue::ByteQueue;
 use node_wires::{Halt, Line, Wire};
@@ -21,12 +23,22 @@ use std::alloc::{AllocError, Global};
 #[derive(Drop)]
 pub(crate) struct Seat {
     pub(crate) sits: bool,
+    /// When its bot was taken in, until its time for the version is seen to be over.
+    since: Option<u64>,
     waiting: ByteQueue,
 }
 
 /// Where nothing was written the connection goes on, and no more is to be written now.
 fn unless_written(count: usize) -> Option<bool> {
     if count == 0 { Some(true) } else { None }
+}
+
+/// Whether a bot that was taken in then has had the time to name the version.
+fn is_late(came: u64, now: u64) -> bool
+    ensures late { came + VERSION_TIME ≤ now → result ≡ true }
+    ensures in_time { now < came + VERSION_TIME → result ≡ false }
+{
+    now.saturating_sub(came) >= VERSION_TIME
 }
 
 impl Seat {
@@ -37,6 +49,7 @@ impl Seat {
     {
         Seat {
             sits: false,
+            since: None,
             waiting: ByteQueue::new(alloc),
         }
     }
@@ -46,6 +59,7 @@ impl Seat {
         ensures told { OnOk result (self.new.waiting.waiting ≡ self.old.waiting.waiting ++ line_of line.now) }
         ensures failed { OnErr result (self.new.waiting.waiting ≡ self.old.waiting.waiting) }
         ensures sits { self.new.sits ≡ self.old.sits }
+        ensures since { self.new.since ≡ self.old.since }
     {
         self.waiting.reserve(line.len().saturating_add(2))?;
         self.waiting.push(line)?;
@@ -62,18 +76,20 @@ impl Seat {
 
     /// Takes in a bot, where nobody sits there and one came.
     #[tactic(auto, using(crate::proofs::Lists::nothing_more, crate::proofs::Lists::nothing_passed))]
-    fn take_in<W: Wire>(&mut self, wire: &mut W, number: u8) -> Option<SeatNotice>
+    fn take_in<W: Wire>(&mut self, wire: &mut W, number: u8, now: u64) -> Option<SeatNotice>
         requires { self.old.sits ≡ false }
         ensures passed { Passed result (W.passed wire.old) (W.passed wire.new) }
         ensures seat { IfSome result (λ notice. seat_of notice ≡ number) }
         ensures piece { (seat most : ℕ) → IsPieceOf seat most result }
         ensures waiting { Leaves result self.old.waiting.waiting self.new.waiting.waiting }
         ensures sits { Sits result self.old.sits self.new.sits }
+        ensures since { (greeted : Bool) → Lasts greeted now result self.old.since self.new.since }
     {
         if !wire.accept_seat(number) {
             return None;
         }
         self.sits = true;
+        self.since = Some(now);
         self.waiting.clear();
         Some(SeatNotice::Came { seat: number })
     }
@@ -84,6 +100,7 @@ impl Seat {
         ensures passed { W.passed wire.new ≡ W.passed wire.old }
         ensures gone { result ≡ notices.Gone number }
         ensures sits { self.new.sits ≡ false }
+        ensures since { self.new.since ≡ self.old.since }
         ensures waiting { self.new.waiting.waiting ≡ [] }
     {
         self.sits = false;
@@ -107,6 +124,7 @@ impl Seat {
         ensures piece { IsPieceOf number (length buffer.old) result }
         ensures waiting { Leaves result self.old.waiting.waiting self.new.waiting.waiting }
         ensures sits { Sits result self.old.sits self.new.sits }
+        ensures since { self.new.since ≡ self.old.since }
     {
         let Ok(mut bytes) = Vec::with_capacity(alloc, buffer.len()) else {
             return None;
@@ -124,13 +142,36 @@ impl Seat {
         }
     }
 
-    /// The next piece of who sits there, if anybody does, or his end.
+    /// Whether the bot that sits there is to be let go of: it hasn't named the version, and its time for that was over before.
+    /// Where it is over only now, what came of the bot is taken once more.
+    fn hurry(&mut self, greeted: bool, now: u64) -> bool
+        ensures over { greeted ≡ false → self.old.since ≡ None → result ≡ true }
+        ensures ends { (came : ℕ) → greeted ≡ false → self.old.since ≡ Some came → came + VERSION_TIME ≤ now → self.new.since ≡ None }
+        ensures lasts { HasTime greeted now self.old.since → (result ≡ false) × (self.new.since ≡ self.old.since) }
+        ensures sits { self.new.sits ≡ self.old.sits }
+        ensures waiting { self.new.waiting ≡ self.old.waiting }
+    {
+        if greeted {
+            return false;
+        }
+        let Some(came) = self.since else {
+            return true;
+        };
+        if is_late(came, now) {
+            self.since = None;
+        }
+        false
+    }
+
+    /// The next piece of who sits there, if anybody does, or his end. Who hasn't named the version in time is let go of.
     pub(crate) fn next_piece<W: Wire>(
         &mut self,
         alloc: Global,
         buffer: &mut [u8],
         wire: &mut W,
         number: u8,
+        greeted: bool,
+        now: u64,
     ) -> Option<SeatNotice>
         ensures passed { Passed result (W.passed wire.old) (W.passed wire.new) }
         ensures nobody { TakesNobody result }
@@ -138,12 +179,16 @@ impl Seat {
         ensures piece { IsPieceOf number (length buffer.old) result }
         ensures waiting { Leaves result self.old.waiting.waiting self.new.waiting.waiting }
         ensures sits { Sits result self.old.sits self.new.sits }
+        ensures hurries { Hurries greeted now number result self.old self.new }
     {
-        if self.sits {
-            self.take_piece(alloc, buffer, wire, number)
-        } else {
-            None
+        if !self.sits {
+            return None;
         }
+        if self.hurry(greeted, now) {
+            let gone = self.leave(wire, number);
+            return Some(gone);
+        }
+        self.take_piece(alloc, buffer, wire, number)
     }
 
     /// What came of the seat next, if anything did.
@@ -154,17 +199,20 @@ impl Seat {
         buffer: &mut [u8],
         wire: &mut W,
         number: u8,
+        greeted: bool,
+        now: u64,
     ) -> Option<SeatNotice>
         ensures passed { Passed result (W.passed wire.old) (W.passed wire.new) }
         ensures seat { IfSome result (λ notice. seat_of notice ≡ number) }
         ensures piece { IsPieceOf number (length buffer.old) result }
         ensures waiting { Leaves result self.old.waiting.waiting self.new.waiting.waiting }
         ensures sits { Sits result self.old.sits self.new.sits }
+        ensures hurries { Hurries greeted now number result self.old self.new }
     {
         if self.sits {
-            self.take_piece(alloc, buffer, wire, number)
+            self.next_piece(alloc, buffer, wire, number, greeted, now)
         } else {
-            self.take_in(wire, number)
+            self.take_in(wire, number, now)
         }
     }
 
@@ -186,6 +234,7 @@ impl Seat {
         ensures seat { IfSome result (λ notice. seat_of notice ≡ number) }
         ensures waiting { Leaves result self.old.waiting.waiting self.new.waiting.waiting }
         ensures sits { Sits result self.old.sits self.new.sits }
+        ensures since { Lasts true now result self.old.since self.new.since }
     {
         if self.sits {
             return Some(self.leave(wire, number));
@@ -194,6 +243,7 @@ impl Seat {
             return None;
         }
         self.sits = true;
+        self.since = Some(now);
         self.waiting.clear();
         Some(SeatNotice::Came { seat: number })
     }
@@ -203,6 +253,7 @@ impl Seat {
     fn write_some<W: Wire>(&mut self, wire: &mut W, number: u8) -> Option<bool>
         ensures wrote { Writes number self.old.waiting.waiting self.new.waiting.waiting (W.passed wire.old) (W.passed wire.new) }
         ensures sits { self.new.sits ≡ self.old.sits }
+        ensures since { self.new.since ≡ self.old.since }
     {
         let bytes = self.waiting.waiting();
         if bytes.is_empty() {
@@ -223,6 +274,7 @@ impl Seat {
     pub(crate) fn flush<W: Wire>(&mut self, wire: &mut W, number: u8) -> bool
         ensures wrote { Writes number self.old.waiting.waiting self.new.waiting.waiting (W.passed wire.old) (W.passed wire.new) }
         ensures sits { self.new.sits ≡ self.old.sits }
+        ensures since { self.new.since ≡ self.old.since }
     {
         for _ in 0..u64::MAX {
             if let Some(goes_on) = self.write_some(wire, number) {

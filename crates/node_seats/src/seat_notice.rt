@@ -2,6 +2,7 @@ ghost use Rattle.std.specs.Prelude.{◌≡◌};
 ghost use Rattle.node_seats.specs.Pieces.{may_have_more};
 
 use crate::limits::PIECE;
+use std::net::IpAddr;
 
 /// What came of a seat.
 #[derive(Drop)]
@@ -10,10 +11,10 @@ pub enum SeatNotice {
     Came { seat: u8 },
     /// It sent these bytes.
     Piece { seat: u8, bytes: Vec<u8> },
-    /// Its connection ended, or is to make room for one who showed the seat's token.
+    /// Its connection ended, or was closed: it named no version in time, or is to make room for one who showed the seat's token.
     Gone { seat: u8 },
-    /// Who came to its port didn't show its token.
-    Refused { seat: u8 },
+    /// Who came to its port didn't show its token: from this address, where it is known.
+    Refused { seat: u8, source: Option<IpAddr> },
 }
 
 impl SeatNotice {

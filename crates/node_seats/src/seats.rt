@@ -7,6 +7,7 @@ ghost use Rattle.node_seats.specs.Guesting.{IsToldOf, Passes};
 ghost use Rattle.node_seats.specs.Others.{KeepsOthers, TellsNoGuest};
 ghost use Rattle.node_seats.specs.Writing.{WritesToSeats};
 ghost use Rattle.node_seats.specs.Seating.{Follows, Changes, bit_of, waits_at};
+ghost use Rattle.node_seats.specs.Hurrying.{LastsAt};
 ghost use Rattle.node_seats.specs.Telling.{lines_of, AreSaid, Loses};
 ghost use Rattle.node_seats.specs.Coming.{passed_in, tokens_in};
 
@@ -82,10 +83,14 @@ fn hear_guest<W: Wire>(
     ensures tokens { guests.new.tokens ≡ guests.old.tokens }
     ensures waits { Follows result seats.old.items seats.new.items }
     ensures sits { Changes result seats.old.items seats.new.items }
+    ensures time { (seat : ℕ) → LastsAt now result seats.old.items seats.new.items seat }
 {
     match guests.hear(wire, place, now) {
         Found::Nothing => None,
-        Found::Refused { seat } => Some(SeatNotice::Refused { seat }),
+        Found::Refused { seat } => {
+            let source = wire.source(Line::Guest(place));
+            Some(SeatNotice::Refused { seat, source })
+        }
         Found::Shown { seat } => match seats.get_mut(seat as usize) {
             Some(at) => at.welcome(guests, wire, place, seat, now),
             None => None,
@@ -97,6 +102,7 @@ impl Seats {
     ghost use Rattle.node_seats.specs.Seating.{sits_at, Tells, Flushes};
     ghost use Rattle.node_seats.specs.declared.limits.TheConstants.{BACKLOG as MOST, PIECE as LONGEST};
     ghost use Rattle.node_seats.specs.Pieces.{IsPieceOf};
+    ghost use Rattle.node_seats.specs.Hurrying.{HurriesAt, KeepsTime};
     ghost use Rattle.node_seats.specs.Coming.{tokens_of, passed_of, Comes};
 
     /// So many seats, where nobody sits. With tokens, of each seat by its number, a seat takes nobody but who shows its own,
@@ -126,16 +132,24 @@ impl Seats {
 
     /// What came next of a seat. Where seats have tokens, who came to its port is a guest from now on.
     #[tactic(auto, using(crate::proofs::Coming::plain_passes, crate::proofs::Coming::nothing_passes, crate::proofs::Coming::bot_passes))]
-    fn look_at_seat<W: Wire>(&mut self, wire: &mut W, number: u8, now: u64) -> Option<SeatNotice>
+    fn look_at_seat<W: Wire>(
+        &mut self,
+        wire: &mut W,
+        number: u8,
+        greeted: bool,
+        now: u64,
+    ) -> Option<SeatNotice>
+        requires { number < self.old.count }
+        ensures time { HurriesAt greeted now number result self.old self.new }
         ensures comes { Comes result self.old self.new (W.passed wire.old) (W.passed wire.new) }
         ensures piece { IsPieceOf number LONGEST result }
     {
         let seat = self.seats.get_mut(number as usize)?;
         match &mut self.guests {
-            None => seat.next(self.alloc, &mut self.buffer, wire, number),
+            None => seat.next(self.alloc, &mut self.buffer, wire, number, greeted, now),
             Some(guests) => {
                 guests.accept(wire, number, now);
-                seat.next_piece(self.alloc, &mut self.buffer, wire, number)
+                seat.next_piece(self.alloc, &mut self.buffer, wire, number, greeted, now)
             }
         }
     }
@@ -145,6 +159,8 @@ impl Seats {
     fn look_at_guest<W: Wire>(&mut self, wire: &mut W, place: u8, now: u64) -> Option<SeatNotice>
         ensures comes { Comes result self.old self.new (W.passed wire.old) (W.passed wire.new) }
         ensures piece { (seat most : ℕ) → IsPieceOf seat most result }
+        ensures time { (seat : ℕ) → LastsAt now result self.old.seats.items self.new.seats.items seat }
+        ensures count { self.new.count ≡ self.old.count }
     {
         match &mut self.guests {
             Some(guests) => hear_guest(guests, &mut self.seats, wire, place, now),
@@ -153,12 +169,13 @@ impl Seats {
     }
 
     /// What came next of a seat or, by numbers behind those of all seats, of the guest at a place.
-    fn look<W: Wire>(&mut self, wire: &mut W, at: u8, now: u64) -> Option<SeatNotice>
+    fn look<W: Wire>(&mut self, wire: &mut W, at: u8, greeted: bool, now: u64) -> Option<SeatNotice>
+        ensures time { HurriesAt greeted now at result self.old self.new }
         ensures comes { Comes result self.old self.new (W.passed wire.old) (W.passed wire.new) }
         ensures piece { IsPieceOf at LONGEST result }
     {
         match at.checked_sub(self.count) {
-            None => self.look_at_seat(wire, at, now),
+            None => self.look_at_seat(wire, at, greeted, now),
             Some(place) => self.look_at_guest(wire, place, now),
         }
     }
@@ -177,8 +194,18 @@ impl Seats {
     ///
     /// With tokens who was taken in was a guest who showed the token of that seat, and nothing else had come of him; who sat
     /// there is told to be gone before. Nothing that came of a guest is told.
+    ///
+    /// A bot has 10 seconds to name the version. `greeted` says whether the one at this seat has. Once they are over, one more
+    /// call takes what came of it, and the call behind that one lets go of it.
     #[tactic(auto, using(crate::proofs::Coming::plain_passed, crate::proofs::Coming::seats_come, crate::proofs::Coming::log_stays, crate::proofs::Others::keeps_coming, crate::proofs::Telling::said_coming))]
-    pub fn next<W: Wire>(&mut self, wire: &mut W, at: u8, now: u64) -> Option<SeatNotice>
+    pub fn next<W: Wire>(
+        &mut self,
+        wire: &mut W,
+        at: u8,
+        greeted: bool,
+        now: u64,
+    ) -> Option<SeatNotice>
+        ensures time { HurriesAt greeted now at result self.old self.new }
         ensures comes { Comes result self.old self.new (W.passed wire.old) (W.passed wire.new) }
         ensures piece { IsPieceOf at LONGEST result }
         ensures plain { tokens_of self.old ≡ None → Passed result (W.passed wire.old) (W.passed wire.new) }
@@ -188,7 +215,7 @@ impl Seats {
         ensures unsaid { TellsNoGuest (W.passed wire.old) (W.passed wire.new) }
         ensures said { AreSaid (W.passed wire.old) (lines_of self.old) self.old.seats.items → AreSaid (W.passed wire.new) (lines_of self.old) self.new.seats.items }
     {
-        self.look(wire, at, now)
+        self.look(wire, at, greeted, now)
     }
 
     /// Puts a line behind those that wait for a seat, as `tell` does.
@@ -199,6 +226,7 @@ impl Seats {
         ensures tells { Tells seat line.now result self.old.seats.items self.new.seats.items }
         ensures bound { result ≡ true → sits_at self.old.seats.items seat ≡ true → length (waits_at self.old.seats.items seat) < MOST }
         ensures sits { (seat : ℕ) → sits_at self.new.seats.items seat ≡ sits_at self.old.seats.items seat }
+        ensures time { KeepsTime self.old self.new }
     {
         match self.seats.get_mut(seat as usize) {
             Some(seat) => {
@@ -220,6 +248,7 @@ impl Seats {
         ensures tells { Tells seat line.now result self.old.seats.items self.new.seats.items }
         ensures bound { result ≡ true → sits_at self.old.seats.items seat ≡ true → length (waits_at self.old.seats.items seat) < MOST }
         ensures sits { (seat : ℕ) → sits_at self.new.seats.items seat ≡ sits_at self.old.seats.items seat }
+        ensures time { KeepsTime self.old self.new }
         ensures said { (passed : List Passage) → AreSaid passed (lines_of self.old) self.old.seats.items → AreSaid passed (lines_of self.new) self.new.seats.items }
     {
         self.told.wrote(Line::Seat(seat), line);
@@ -244,6 +273,7 @@ impl Seats {
         ensures guests { self.new.guests ≡ self.old.guests }
         ensures waits { Follows result self.old.seats.items self.new.seats.items }
         ensures sits { Changes result self.old.seats.items self.new.seats.items }
+        ensures time { KeepsTime self.old self.new }
         ensures said { AreSaid (W.passed wire.old) (lines_of self.old) self.old.seats.items → AreSaid (W.passed wire.new) (lines_of self.old) self.new.seats.items }
     {
         self.let_go(wire, seat)
@@ -258,6 +288,7 @@ impl Seats {
         ensures passed { W.passed wire.new ≡ W.passed wire.old }
         ensures waits { Follows result self.old.seats.items self.new.seats.items }
         ensures sits { Changes result self.old.seats.items self.new.seats.items }
+        ensures time { KeepsTime self.old self.new }
     {
         let number = seat;
         match self.seats.get_mut(number as usize) {
@@ -286,6 +317,7 @@ impl Seats {
         ensures wrote { WritesToSeats (W.passed wire.old) (W.passed wire.new) }
         ensures told { self.new.told ≡ self.old.told }
         ensures guests { self.new.guests ≡ self.old.guests }
+        ensures time { KeepsTime self.old self.new }
     {
         let seat = self.seats.get_mut(number as usize)?;
         if seat.sits && !seat.flush(wire, number) {
@@ -307,6 +339,7 @@ impl Seats {
         ensures unsaid { TellsNoGuest (W.passed wire.old) (W.passed wire.new) }
         ensures told { lines_of self.new ≡ lines_of self.old }
         ensures guests { self.new.guests ≡ self.old.guests }
+        ensures time { KeepsTime self.old self.new }
         ensures said { AreSaid (W.passed wire.old) (lines_of self.old) self.old.seats.items → AreSaid (W.passed wire.new) (lines_of self.old) self.new.seats.items }
     {
         self.flush_all(wire)
@@ -325,6 +358,7 @@ impl Seats {
         ensures wrote { WritesToSeats (W.passed wire.old) (W.passed wire.new) }
         ensures told { self.new.told ≡ self.old.told }
         ensures guests { self.new.guests ≡ self.old.guests }
+        ensures time { KeepsTime self.old self.new }
     {
         for number in 0..self.count {
             if let Some(notice) = self.flush_one(wire, number) {

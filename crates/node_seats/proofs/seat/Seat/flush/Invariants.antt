@@ -6,4 +6,5 @@ abbrev pub invariant-loop : goal.invariant-loop
 invariant-loop g l = record {
   wrote : Writes l.number l.initial.self.waiting.waiting l.self.waiting.waiting (g.W.Wire.passed l.initial.wire) (g.W.Wire.passed l.wire);
   sits : l.self.sits ≡ l.initial.self.sits;
+  since : l.self.since ≡ l.initial.self.since;
 }
