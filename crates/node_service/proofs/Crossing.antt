@@ -237,7 +237,8 @@ heard_notice own lines (notices.Joined peer (Some life)) is = (∥∥₁_map is 
 heard_notice own lines (notices.Joined peer None) is = tt
 heard_notice own lines (notices.Gone peer) is = tt
 heard_notice own lines (notices.Refused peer fault source) is = tt
-heard_notice own lines (notices.Strangers count fault) is = tt
+heard_notice own lines (notices.Strangers peer count fault) is = tt
+heard_notice own lines (notices.Settings peer settings) is = tt
 heard_notice own lines (notices.Unreached peer refuses) is = tt
 
 pub heard_now : (own : Own) (lines : List Passage) (notice : Option Notice) → IfSome notice (λ n. IsTold own lines n) → AreHeard own lines (told_by notice)

@@ -162,12 +162,12 @@ no_other_node is = cc
 -- ---- who came to a seat without its token
 
 -- the first is told at once
-first_told_at_once : due_of (and_one nobody) 7 ≡ 1
+first_told_at_once : due_of (and_one None nobody) 7 ≡ 1
 first_told_at_once = refl
 
 -- two more within the second behind that note aren't, but once it has passed
 abbrev two_more : Untold
-two_more = and_one (and_one (told_at 5000))
+two_more = and_one None (and_one None (told_at 5000))
 
 not_told_yet : due_of two_more 1004999 ≡ 0
 not_told_yet = refl

@@ -72,7 +72,8 @@ opened_on own lines more (notices.Joined peer life) told =
     })
 opened_on own lines more (notices.Gone peer) told = tt
 opened_on own lines more (notices.Refused peer fault source) told = tt
-opened_on own lines more (notices.Strangers count fault) told = tt
+opened_on own lines more (notices.Strangers peer count fault) told = tt
+opened_on own lines more (notices.Settings peer settings) told = tt
 opened_on own lines more (notices.Unreached peer refuses) told = tt
 
 told_on : (own : Own) (lines more : List Passage) (told : List Notice) → AreTold own lines told → AreTold own (lines ++ more) told

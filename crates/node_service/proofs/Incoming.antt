@@ -16,18 +16,18 @@ passed_is_incoming None = refl
 passed_is_incoming (Some (notices.Came seat)) = refl
 passed_is_incoming (Some (notices.Piece seat bytes)) = refl
 passed_is_incoming (Some (notices.Gone seat)) = refl
-passed_is_incoming (Some (notices.Refused seat)) = refl
+passed_is_incoming (Some (notices.Refused seat source)) = refl
 
 pub no_peer_told : (notice : Option SeatNotice) → peers_of (incoming_by notice) ≡ []
 no_peer_told None = refl
 no_peer_told (Some (notices.Came seat)) = refl
 no_peer_told (Some (notices.Piece seat bytes)) = refl
 no_peer_told (Some (notices.Gone seat)) = refl
-no_peer_told (Some (notices.Refused seat)) = refl
+no_peer_told (Some (notices.Refused seat source)) = refl
 
 pub none_of_peers : (own : Own) (lines : List Passage) (notice : Option SeatNotice) → AreHeard own lines (incoming_by notice)
 none_of_peers own lines None = tt
 none_of_peers own lines (Some (notices.Came seat)) = (tt, tt)
 none_of_peers own lines (Some (notices.Piece seat bytes)) = (tt, tt)
 none_of_peers own lines (Some (notices.Gone seat)) = tt
-none_of_peers own lines (Some (notices.Refused seat)) = tt
+none_of_peers own lines (Some (notices.Refused seat source)) = tt

@@ -24,4 +24,6 @@ pub mod Meaning
 pub mod Seats
 pub mod Others
 pub mod Counting
+pub mod Acting
+pub mod Coming
 mod Examples

@@ -20,7 +20,8 @@ no_seat_told (Some (notices.Joined peer (Some life))) = refl
 no_seat_told (Some (notices.Joined peer None)) = refl
 no_seat_told (Some (notices.Gone peer)) = refl
 no_seat_told (Some (notices.Refused peer fault source)) = refl
-no_seat_told (Some (notices.Strangers count fault)) = refl
+no_seat_told (Some (notices.Strangers peer count fault)) = refl
+no_seat_told (Some (notices.Settings peer settings)) = refl
 no_seat_told (Some (notices.Unreached peer refuses)) = refl
 
 -- what the peers put down of them is what they tell
@@ -31,7 +32,8 @@ told_is_heard (Some (notices.Joined peer (Some life))) = refl
 told_is_heard (Some (notices.Joined peer None)) = refl
 told_is_heard (Some (notices.Gone peer)) = refl
 told_is_heard (Some (notices.Refused peer fault source)) = refl
-told_is_heard (Some (notices.Strangers count fault)) = refl
+told_is_heard (Some (notices.Strangers peer count fault)) = refl
+told_is_heard (Some (notices.Settings peer settings)) = refl
 told_is_heard (Some (notices.Unreached peer refuses)) = refl
 
 -- ---- a node is told to be there

@@ -113,7 +113,7 @@ below_by : (at : ℕ) (xs : List Incoming) (notice : Option SeatNotice) → IsPi
 below_by at xs None is = more_below at xs [] refl (λ seat. no_piece_more at seat (pieces_of seat (seats_of xs)))
 below_by at xs (Some (notices.Came number)) is = more_below at xs (incoming_by (Some (notices.Came number))) refl (λ seat. no_piece_more at seat (pieces_of seat (seats_of xs)))
 below_by at xs (Some (notices.Gone number)) is = more_below at xs [] refl (λ seat. no_piece_more at seat (pieces_of seat (seats_of xs)))
-below_by at xs (Some (notices.Refused number)) is = more_below at xs [] refl (λ seat. no_piece_more at seat (pieces_of seat (seats_of xs)))
+below_by at xs (Some (notices.Refused number source)) is = more_below at xs [] refl (λ seat. no_piece_more at seat (pieces_of seat (seats_of xs)))
 below_by at xs (Some (notices.Piece number bytes)) is =
     more_below at xs (incoming_by (Some (notices.Piece number bytes))) refl
     (λ seat so_far. subst (λ (n : ℕ). IsTaken (nat_lt seat (at + 1)) (pieces_of seat (seats_of xs) ++ ((if n == seat then bytes.items ∷ [] else []) ++ []))) (sym is.0)

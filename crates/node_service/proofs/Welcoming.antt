@@ -96,7 +96,7 @@ let_in_coming (Some (notices.Came seat)) old new wired_old wired_new comes = (
 )
 let_in_coming (Some (notices.Piece seat bytes)) old new wired_old wired_new comes = (no_seat (tokens_in new.guests) (passed_in new.guests) seat bytes.items, tt)
 let_in_coming (Some (notices.Gone seat)) old new wired_old wired_new comes = tt
-let_in_coming (Some (notices.Refused seat)) old new wired_old wired_new comes = tt
+let_in_coming (Some (notices.Refused seat source)) old new wired_old wired_new comes = tt
 
 -- ---- what is told of peers
 
@@ -114,7 +114,8 @@ of_notice guests (tells.Joined peer (Some life)) = (no_seat_of_lives (tokens_in 
 of_notice guests (tells.Joined peer None) = tt
 of_notice guests (tells.Gone peer) = tt
 of_notice guests (tells.Refused peer fault source) = tt
-of_notice guests (tells.Strangers count fault) = tt
+of_notice guests (tells.Strangers peer count fault) = tt
+of_notice guests (tells.Settings peer settings) = tt
 of_notice guests (tells.Unreached peer refuses) = tt
 
 pub let_in_of_peers : (guests : Option Guests) (notice : Option Notice) → AreLetIn guests (told_by notice)

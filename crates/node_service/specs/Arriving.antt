@@ -61,4 +61,4 @@ abbrev pub incoming_of : SeatNotice → List Incoming
 incoming_of (notices.Came seat) = OfSeat (Began (Seat seat)) ∷ []
 incoming_of (notices.Piece seat bytes) = OfSeat (PieceCame (Seat seat) bytes.items) ∷ []
 incoming_of (notices.Gone seat) = []
-incoming_of (notices.Refused seat) = []
+incoming_of (notices.Refused seat source) = []

@@ -1,5 +1,5 @@
 -- What a process knows of its peers and of the seat to act, and what is due by that.
-use Rattle.std.specs.Prelude.{◌≡◌, ℕ, zero, suc, ◌+◌, ◌-◌, ◌*◌, ◌%◌, ◌^◌, ◌==◌, ◌&&◌, not, min, max, nat_lt, nat_le, if◌then◌else◌, bit_and, unwrap_or, slice_get, Bool, false, List, [], ◌∷◌, ◌++◌, length, Option, Some, None}
+use Rattle.std.specs.Prelude.{◌≡◌, ℕ, zero, suc, ◌+◌, ◌-◌, ◌*◌, ◌%◌, ◌^◌, ◌==◌, ◌&&◌, not, min, max, nat_lt, nat_le, if◌then◌else◌, bit_and, slice_get, Bool, false, List, [], ◌∷◌, ◌++◌, length, Option, Some, None}
 use Rattle.std.specs.Borrow.{Bor}
 use Rattle.promise_store.specs.declared.disk.Disk.{Ghosts}
 use Rattle.paxos_wire.specs.declared.ballot.Ballot.{Ballot}
@@ -13,10 +13,13 @@ use Rattle.dealer_node.specs.Seeing.{member_in, IsSeen}
 use Rattle.dealer_node.specs.Scenes.{IsTableOf}
 use Rattle.dealer_world.specs.declared.event.Event.{Event}
 use Rattle.dealer_world.specs.declared.event.Event.TheVariants as event
-use Rattle.clockwork.specs.ActionTimeout.{away_due_of}
 use Rattle.clockwork.specs.Dues.{due_of}
 use Rattle.clockwork.specs.Measuring.{lately}
+use Rattle.clockwork.specs.Openings.{is_open, stood_open}
+use Rattle.clockwork.specs.Orders.{order_due_of}
+use Rattle.clockwork.specs.SeatWatches.{since_of, turns_of}
 use Rattle.clockwork.specs.Silence.{is_heard}
+use Rattle.clockwork.specs.Wakings.{is_awake}
 use Rattle.clockwork.specs.Watches.{known_of}
 use Rattle.clockwork.specs.declared.action_timeout.Awaited.{Awaited}
 use Rattle.clockwork.specs.declared.answer.Due.TheVariants.{Now}
@@ -24,7 +27,9 @@ use Rattle.clockwork.specs.declared.known.Link.{Link}
 use Rattle.clockwork.specs.declared.known.Link.TheVariants.{Closed, Open}
 use Rattle.clockwork.specs.declared.known.Peer.{Peer}
 use Rattle.clockwork.specs.declared.known.PeerReport.{PeerReport}
-use Rattle.clockwork.specs.declared.limits.TheConstants.{LATEST, MOST_PEERS}
+use Rattle.clockwork.specs.declared.limits.TheConstants.{LATEST, LONGEST_PATIENCE, MOST_PEERS}
+use Rattle.clockwork.specs.declared.order.Expected.{Expected}
+use Rattle.clockwork.specs.declared.seat_watch.At.{At}
 use Rattle.clockwork.specs.declared.watch.Seen.{Seen}
 use Rattle.node_links.specs.Owing.{serves}
 use Rattle.node_links.specs.declared.owed.Question.{Question}
@@ -34,11 +39,10 @@ use Rattle.node_seats.specs.Seating.{sits_at}
 use Rattle.node_wires.specs.declared.wire.Wire.{Ghosts as OfWire}
 use Rattle.stations.specs.Looking.{look_of}
 use Rattle.node_service.specs.Serving.{nodes_of}
+use Rattle.node_service.specs.Watching.{watch_at, was_taken, here_of, there_of}
 use Rattle.node_service.specs.declared.limits.TheConstants.{SEATS}
 use Rattle.node_service.specs.declared.peer_reports.LastReport.{LastReport}
 use Rattle.node_service.specs.declared.peer_reports.PeerReports.{PeerReports}
-use Rattle.node_service.specs.declared.turn_timer.Seating.{Seating}
-use Rattle.node_service.specs.declared.turn_timer.TurnTimer.{TurnTimer}
 use Rattle.node_service.specs.declared.server.NodeServer.{NodeServer}
 
 -- ---- peers
@@ -83,14 +87,6 @@ tells_seat (Some report) seat = nat_lt seat 16 && has_bit report.seats seat
 abbrev pub is_there : Option View → ℕ → ℕ → Bool
 is_there None now silence = false
 is_there (Some view) now silence = view.is_open && is_heard view.heard now silence
-
--- since when a seat is waited for, where the front last moved at that moment
-abbrev pub since_seated : Option Seating → ℕ → ℕ
-since_seated None begun = begun
-since_seated (Some seating) begun = max begun (unwrap_or seating.since 0)
-
-abbrev pub since_in : TurnTimer → ℕ → ℕ → ℕ
-since_in timer seat moved = since_seated (slice_get timer.seatings seat) (max moved timer.quorate_since)
 
 -- when it was last ordered, where that was since the front moved
 abbrev pub ordered_since : Option ℕ → ℕ → Option ℕ
@@ -165,11 +161,23 @@ module _ {D W : Type 0} {disk : Ghosts D} {wire : OfWire W} where
   abbrev pub rank_for : NodeServer D W disk wire → ℕ → ℕ
   rank_for server seat = if sits_here server seat then sits_below server seat (moment_of server) (number_of server) else server.rank
 
+  -- how a seat is seen at another node: gone where that isn't there
+  abbrev pub seen_there : NodeServer D W disk wire → ℕ → ℕ → ℕ → At
+  seen_there server seat now number = there_of (is_there (view_of server.desk.company.peers number) now server.silence) (tells_seat (slice_get server.reports.all number) seat)
+
+  -- and at each node of the match
+  abbrev pub seen_at : NodeServer D W disk wire → ℕ → ℕ → ℕ → At
+  seen_at server seat now number = if number == number_of server then here_of (was_taken server.seat_watches seat) (sits_here server seat) else seen_there server seat now number
+
+  -- since when the table has stood: its front moved, the node became quorate, the process began, and seats began to be played for
+  abbrev pub stood_of : NodeServer D W disk wire → ℕ
+  stood_of server = stood_open server.opening (max server.watch.moved server.turn_timer.quorate_since)
+
   -- what it knows of a seat, where one may hold the table for so long
   abbrev pub awaited_of : NodeServer D W disk wire → ℕ → ℕ → Awaited
   awaited_of server seat patience = record {
     time = moment_of server;
-    patience = min patience LATEST;
+    patience = min patience LONGEST_PATIENCE;
     over = server.watch.seen.over;
     hand_runs = server.watch.seen.hand_runs;
     quorate = server.turn_timer.is_quorate;
@@ -177,23 +185,35 @@ module _ {D W : Type 0} {disk : Ghosts D} {wire : OfWire W} where
     sits_here = sits_here server seat;
     sits_elsewhere = nat_lt 0 (sits_below server seat (moment_of server) (nodes_of server));
     rank = min (rank_for server seat) MOST_PEERS;
-    since = since_in server.turn_timer seat server.watch.moved;
+    since = since_of (watch_at server.seat_watches seat).places (stood_of server);
     ordered = ordered_since server.turn_timer.ordered server.watch.moved;
   }
 
+  -- and of itself and the match
+  abbrev pub expected_of : NodeServer D W disk wire → ℕ → ℕ → Expected
+  expected_of server seat patience = record {
+    awaited = awaited_of server seat patience;
+    is_awake = is_awake server.waking (nodes_of server);
+    is_open = is_open server.opening;
+    turns = turns_of (watch_at server.seat_watches seat);
+    stood = stood_of server;
+    slept = server.waking.slept;
+    nodes = nodes_of server;
+  }
+
   -- this is what it knows of this seat, which is to act, in a match in which one that does nothing is played for
-  pub record IsAwaited (server : NodeServer D W disk wire) (seat : ℕ) (awaited : Awaited) : Type 0 where
+  pub record IsExpected (server : NodeServer D W disk wire) (seat : ℕ) (expected : Expected) : Type 0 where
     pub patience : ℕ
     pub most : server.desk.member.terms.patience ≡ Some patience
     pub acts : IsToAct disk (look_of server.desk.member.station).node seat
-    pub is : awaited ≡ awaited_of server seat patience
+    pub is : expected ≡ expected_of server seat patience
 
   -- that the seat to act is played for is due by what it knows
   pub record IsAwayDue (server : NodeServer D W disk wire) : Type 0 where
     pub seat : ℕ
-    pub awaited : Awaited
-    pub known : IsAwaited server seat awaited
-    pub due : away_due_of awaited ≡ Now
+    pub expected : Expected
+    pub known : IsExpected server seat expected
+    pub due : order_due_of expected ≡ Now
 
   -- what a process gives to its node: a start once and never a stop, a tick and an order that a seat is played for only where they are due
   abbrev pub MayCall : NodeServer D W disk wire → Event → Type 0

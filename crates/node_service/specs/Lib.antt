@@ -24,5 +24,8 @@ pub mod Desks
 pub mod Serving
 pub mod WrongTokens
 pub mod Others
+pub mod Acts
+pub mod Watching
+pub mod Following
 pub mod Knowing
 pub mod Meaning

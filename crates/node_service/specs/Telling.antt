@@ -12,7 +12,8 @@ told_of (notices.Joined peer (Some life)) = OfJoined peer ∷ []
 told_of (notices.Joined peer None) = []
 told_of (notices.Gone peer) = []
 told_of (notices.Refused peer fault source) = []
-told_of (notices.Strangers count fault) = []
+told_of (notices.Strangers peer count fault) = []
+told_of (notices.Settings peer settings) = []
 told_of (notices.Unreached peer refuses) = []
 
 abbrev pub told_by : Option Notice → List Incoming

@@ -297,7 +297,8 @@ impl<D: Disk + Drop, W: Wire + Drop> Desk<D, W> {
         ensures takes { Takes D.Disk (incoming_by result) (served_by W.Wire self.old) (served_by W.Wire self.new) }
         ensures piece { IsPieceOf at PIECE result }
     {
-        let notice = self.seats.next(&mut self.wire, at, now);
+        let is_greeted = self.member.is_connected(at);
+        let notice = self.seats.next(&mut self.wire, at, is_greeted, now);
         note_gone(&notice, &mut self.sittings);
         notice
     }
@@ -379,11 +380,19 @@ impl<D: Disk + Drop, W: Wire + Drop> Desk<D, W> {
         self.askers.flush(&mut self.wire, now);
     }
 
+    /// What was written goes out.
+    fn flush(&mut self)
+        ensures { IsKept W.Wire self.old self.new }
+    {
+        self.wire.flush();
+    }
+
     /// Writes what waits for peers, seats and those who asked, and first tells peers how the node is, where that is due.
     pub(crate) fn speak(&mut self, told: OwnReport, now: u64)
         ensures { IsKept W.Wire self.old self.new }
     {
         self.write_to_peers(told, now);
+        self.flush();
         self.write_to_askers(now);
         for _ in 0..SEATS {
             if !self.write_to_seats() {

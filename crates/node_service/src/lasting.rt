@@ -3,7 +3,7 @@
 ghost use Rattle.std.specs.Prelude.{◌≤◌};
 ghost use Rattle.node_links.specs.declared.limits.TheConstants.{LOOK};
 
-use crate::limits::{HANG_UP, WAITING, WAITING_AGAIN};
+use crate::limits::{HANG_UP, MISSING, WAITING, WAITING_AGAIN};
 use node_links::limits::LOOK;
 
 /// Since when this is so. Moments are whole microseconds since one that stays the same.
@@ -19,6 +19,8 @@ pub(crate) struct Lasting {
     over: Option<u64>,
     /// When it was last told for which seat all wait, since something went on.
     waited: Option<u64>,
+    /// When it was last told which seats haven't come yet; at first, when the process began.
+    missed: u64,
 }
 
 /// What a moment makes of the quorum.
@@ -43,6 +45,7 @@ impl Lasting {
             is_joined: false,
             over: None,
             waited: None,
+            missed: now,
         }
     }
 
@@ -91,6 +94,15 @@ impl Lasting {
         let since = self.over.unwrap_or(now);
         self.over = Some(since);
         now.saturating_sub(since)
+    }
+
+    /// Whether it is to be told now which seats haven't come yet, where the match waits for them.
+    pub(crate) fn tells_missing(&mut self, now: u64) -> bool {
+        if now.saturating_sub(self.missed) < MISSING {
+            return false;
+        }
+        self.missed = now;
+        true
     }
 
     /// Whether it is to be told now that all wait for a seat, where something went on last at that moment.

@@ -23,6 +23,9 @@ pub const WAITING: u64 = 5_000_000;
 /// and again each time that so long has passed.
 pub const WAITING_AGAIN: u64 = 60_000_000;
 
+/// Once so long has passed it is told which seats haven't come yet, and again each time that so long has passed.
+pub const MISSING: u64 = 60_000_000;
+
 /// The most nodes of a match.
 pub const NODES: usize = clockwork::limits::MOST_PEERS + 1;
 

@@ -136,6 +136,9 @@ impl<D: Disk + Drop> LocalNode<D> {
             terms: Terms {
                 nodes: 0,
                 patience: None,
+                start: 0,
+                gives_up: false,
+                settings: None,
             },
         }
     }

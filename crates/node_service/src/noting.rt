@@ -63,7 +63,8 @@ impl<D: Disk + Drop, W: Wire + Drop> NodeServer<D, W> {
         }
         let seat = found.seat as u8;
         let fault = found.fault;
-        self.tell(ServerNotice::Faulty { seat, fault });
+        let hand = self.desk.member.node().table().dealt().checked_sub(1);
+        self.tell(ServerNotice::Faulty { seat, fault, hand });
         if !closes(fault) {
             return true;
         }
@@ -90,6 +91,7 @@ impl<D: Disk + Drop, W: Wire + Drop> NodeServer<D, W> {
         ensures { IsKept W.Wire self.old.desk self.new.desk }
     {
         let took = now.saturating_sub(began);
+        self.in_calls = self.in_calls.saturating_add(took);
         self.desk.forgive(took, now);
         self.watch.see(seen_of(&self.desk.member), took, now);
         if let Some(ballot) = self.desk.member.node().promised() {
@@ -128,10 +130,12 @@ impl<D: Disk + Drop, W: Wire + Drop> NodeServer<D, W> {
         if count == 0 {
             return;
         }
-        let is_told = self
-            .desk
-            .company
-            .tell(ServerNotice::WrongToken { seat, count });
+        let source = self.wrong_tokens.source(seat);
+        let is_told = self.desk.company.tell(ServerNotice::WrongToken {
+            seat,
+            count,
+            source,
+        });
         if is_told {
             self.wrong_tokens.tell(seat, now);
         }
@@ -177,6 +181,36 @@ impl<D: Disk + Drop, W: Wire + Drop> NodeServer<D, W> {
         }
         if self.lasting.tells_waiting(self.watch.moved, now) {
             self.tell(ServerNotice::Waits { seat });
+        }
+    }
+
+    /// Whether the match waits for seats that haven't come yet, as far as is known here.
+    fn awaits_seats(&self) -> bool {
+        !self.opening.is_open()
+            && self.turn_timer.is_quorate
+            && !self.replays
+            && !self.watch.seen.over
+            && self.desk.member.terms().patience.is_some()
+    }
+
+    /// Tells that a seat hasn't come yet, if it hasn't.
+    fn note_missing_seat(&mut self, seat: u8)
+        ensures { IsKept W.Wire self.old.desk self.new.desk }
+    {
+        if !self.seat_watches.at(seat).has_come {
+            self.tell(ServerNotice::Missing { seat });
+        }
+    }
+
+    /// Tells which seats haven't come yet, where the match waits for them, once a minute.
+    pub(crate) fn note_missing(&mut self, now: u64)
+        ensures { IsKept W.Wire self.old.desk self.new.desk }
+    {
+        if !self.awaits_seats() || !self.lasting.tells_missing(now) {
+            return;
+        }
+        for seat in 0..self.players() {
+            self.note_missing_seat(seat);
         }
     }
 }

@@ -121,6 +121,16 @@ impl PeerReports {
         }
     }
 
+    /// Whether the last beat of a peer that is seen so is another than the one that was taken before.
+    pub(crate) fn is_further(&self, peer: u8, view: &View) -> bool {
+        match (&view.beat, self.all.get(peer as usize)) {
+            (Some(told), Some(report)) => {
+                report.beat.is_none() || report.since != view.since || report.number != told.number
+            }
+            _ => false,
+        }
+    }
+
     /// This node promised itself to a ballot of a peer.
     pub(crate) fn lead(&mut self, peer: u8, now: u64) {
         if let Some(report) = self.all.get_mut(peer as usize) {

@@ -5,6 +5,7 @@ ghost use Rattle.dealer_node.specs.Seeing.{runs};
 ghost use Rattle.clockwork.specs.declared.limits.TheConstants.{MOST_SILENT as MOST};
 ghost use Rattle.node_links.specs.declared.limits.TheConstants.{LOOK};
 ghost use Rattle.node_service.specs.Arriving.{taken_for};
+ghost use Rattle.node_service.specs.declared.limits.TheConstants.{SEATS as COUNT};
 ghost use Rattle.node_peers.specs.Peering.{own_of, passed_of, frames_of, heard_of};
 ghost use Rattle.node_seats.specs.Telling.{lines_of};
 ghost use Rattle.node_service.specs.Crossing.{IsCarried, Carries};
@@ -19,19 +20,21 @@ use crate::company::Company;
 use crate::deals::read_deals;
 use crate::desk::Desk;
 use crate::lasting::Lasting;
-use crate::limits::NODES;
+use crate::limits::{NODES, SEATS};
 use crate::local_node::LocalNode;
 use crate::noting::seen_of;
 use crate::outcome::Outcome;
 use crate::peer_reports::PeerReports;
 use crate::rate::Rate;
+use crate::seat_acts::SeatActs;
+use crate::seat_watches::SeatWatches;
 use crate::server_notice::ServerNotice;
 use crate::sitting::Sittings;
 use crate::terms::Terms;
 use crate::turn_timer::TurnTimer;
 use crate::wrong_tokens::WrongTokens;
-use clockwork::Watch;
 use clockwork::limits::SHORTEST;
+use clockwork::{Opening, Waking, Watch};
 use dealer_node::NodeFault;
 use dealer_world::Event;
 use match_log::laws::{commands_add_to_the_log, logs_begin_with_their_header};
@@ -54,6 +57,12 @@ pub struct NodeServer<D: Disk + Drop, W: Wire + Drop> {
     pub(crate) reports: PeerReports,
     pub(crate) lasting: Lasting,
     pub(crate) turn_timer: TurnTimer,
+    /// What is kept of each seat, and what the commands that the node applied say of its acts.
+    pub(crate) seat_watches: SeatWatches,
+    pub(crate) acts: SeatActs,
+    /// Since when anybody is played for, and what was heard since the process slept.
+    pub(crate) opening: Opening,
+    pub(crate) waking: Waking,
     pub(crate) rate: Rate,
     /// How long a peer may be silent and still counts as present.
     pub(crate) silence: u64,
@@ -65,6 +74,9 @@ pub struct NodeServer<D: Disk + Drop, W: Wire + Drop> {
     /// When the process began, and when it last left a turn.
     pub(crate) began: u64,
     pub(crate) left: u64,
+    /// When it last looked whether it slept, and how long calls of its node took since then.
+    marked: u64,
+    pub(crate) in_calls: u64,
     /// The ballot that the node promised itself to last, as far as it was seen; and whether the node was started.
     pub(crate) leader: Option<Ballot>,
     pub(crate) is_started: bool,
@@ -85,6 +97,10 @@ impl<D: Disk + Drop, W: Wire + Drop> Drop for NodeServer<D, W> {
             reports: _,
             lasting: _,
             turn_timer: _,
+            seat_watches: _,
+            acts: _,
+            opening: _,
+            waking: _,
             rate: _,
             silence: _,
             looked: _,
@@ -92,6 +108,8 @@ impl<D: Disk + Drop, W: Wire + Drop> Drop for NodeServer<D, W> {
             rank: _,
             began: _,
             left: _,
+            marked: _,
+            in_calls: _,
             leader: _,
             is_started: _,
             wrong_tokens: _,
@@ -139,6 +157,8 @@ impl<D: Disk + Drop, W: Wire + Drop> NodeServer<D, W> {
         let now = wire.now();
         let seen = seen_of(&member);
         let is_foreign = peers.number() != member.number();
+        let config = member.station().config();
+        let acts = SeatActs::new(*config.game(), config.hands());
         let company = Company::new(alloc, peers);
         NodeServer {
             desk: Desk {
@@ -154,6 +174,10 @@ impl<D: Disk + Drop, W: Wire + Drop> NodeServer<D, W> {
             reports: PeerReports::new(),
             lasting: Lasting::new(now),
             turn_timer: TurnTimer::new(now),
+            seat_watches: SeatWatches::new(),
+            acts,
+            opening: Opening::new(),
+            waking: Waking::new(),
             rate: Rate::new(seen.front, now),
             silence: SHORTEST,
             looked: now,
@@ -161,6 +185,8 @@ impl<D: Disk + Drop, W: Wire + Drop> NodeServer<D, W> {
             rank: 0,
             began: now,
             left: now,
+            marked: now,
+            in_calls: 0,
             leader: None,
             is_started: false,
             wrong_tokens: WrongTokens::new(),
@@ -210,6 +236,14 @@ impl<D: Disk + Drop, W: Wire + Drop> NodeServer<D, W> {
         ensures { result ≡ nodes_of self.now }
     {
         self.desk.member.terms().nodes.min(NODES as u8)
+    }
+
+    /// How many seats the match has, as many as there may be at most.
+    pub(crate) fn players(&self) -> u8
+        ensures { result ≤ COUNT }
+    {
+        let players = self.desk.member.station().config().game().players();
+        players.min(SEATS as usize) as u8
     }
 
     /// The wires of the process.
@@ -355,7 +389,20 @@ impl<D: Disk + Drop, W: Wire + Drop> NodeServer<D, W> {
         answer
     }
 
+    /// What went by since the last mark beyond calls of the node and a wait of so long: where that is long the process slept. So
+    /// every moment of a process lies between two marks.
+    pub(crate) fn mark(&mut self, now: u64, most: u64)
+        ensures { self.new.desk ≡ self.old.desk }
+    {
+        let went_by = now.saturating_sub(self.marked);
+        let lost = went_by.saturating_sub(self.in_calls).saturating_sub(most);
+        self.waking.pass(lost);
+        self.marked = now;
+        self.in_calls = 0;
+    }
+
     /// Waits for so long at most. What goes by beyond that since the last turn isn't counted as silence.
+    /// Where it is long the process slept.
     pub(crate) fn wait(&mut self, most: u64) -> u64
         ensures { IsKept W.Wire self.old.desk self.new.desk }
     {
@@ -363,6 +410,7 @@ impl<D: Disk + Drop, W: Wire + Drop> NodeServer<D, W> {
         let now = self.desk.now();
         let lost = now.saturating_sub(self.left).saturating_sub(most);
         self.desk.forgive(lost, now);
+        self.mark(now, most);
         now
     }
 
@@ -436,9 +484,11 @@ impl<D: Disk + Drop, W: Wire + Drop> NodeServer<D, W> {
         let until_due = self.keep_time();
         let now = self.desk.now();
         self.note_waiting(now);
+        self.note_missing(now);
         let is_asked = self.answer_askers(alloc, now);
         let over = self.finish(is_all, now);
         self.speak(now);
+        self.note_read(is_all, now);
         self.left = now;
         let is_over = self.is_done(over, now);
         (is_over, self.rest(is_all & !is_asked, until_due, now))

@@ -4,6 +4,19 @@ use peer_codes::Life;
 use seat_session::SessionFault;
 use std::net::IpAddr;
 
+/// What match files of one match may say differently.
+#[derive(Clone, Copy, Debug, PartialEq, Eq)]
+pub enum Setting {
+    /// How long a seat is waited for until it is played for.
+    Patience,
+    /// How long seats are waited for that haven't come yet.
+    Start,
+    /// What is done about a seat at which nobody is.
+    Away,
+    /// The tokens of seats.
+    Tokens,
+}
+
 /// What a process may tell of a turn, one line of standard error each. Peers and seats are counted from 0.
 #[derive(Clone, Copy, Debug)]
 pub enum ServerNotice {
@@ -24,8 +37,10 @@ pub enum ServerNotice {
         fault: PeerFault,
         source: Option<IpAddr>,
     },
-    /// So many callers who aren't known were refused since this was last told, the last of them by this fault.
+    /// So many callers who aren't known were refused since this was last told, the last of them by this fault; all from an
+    /// address of this peer, or from others.
     Callers {
+        peer: Option<u8>,
         count: u32,
         fault: PeerFault,
     },
@@ -33,6 +48,14 @@ pub enum ServerNotice {
     Unreached {
         peer: u8,
         refuses: bool,
+    },
+    /// The match file of a peer's process says something else than that of this one: these milliseconds there, and those
+    /// here, 0 where a file says nothing. Of tokens both are 0. Each setting is told once a connection.
+    Setting {
+        peer: u8,
+        what: Setting,
+        there: u32,
+        here: u32,
     },
     /// A bot sits at a seat.
     Seated {
@@ -42,19 +65,25 @@ pub enum ServerNotice {
     Left {
         seat: u8,
     },
-    /// A fault in what a seat sent. The seat itself is told nothing.
+    /// A fault in what a seat sent, while this was the newest hand, counted from 0. The seat itself is told nothing.
     Faulty {
         seat: u8,
         fault: SessionFault,
+        hand: Option<u32>,
     },
-    /// So many came to a seat since this was last told of it who showed another token than its own, or none; it is told once
-    /// a second at most.
+    /// So many came to a seat since this was last told of it who showed another token than its own, or none; the last of them
+    /// from this address, where it is known. It is told once a second at most.
     WrongToken {
         seat: u8,
         count: u32,
+        source: Option<IpAddr>,
     },
-    /// It was ordered that this seat, which is to act, is played for.
+    /// It was ordered that this seat, which is to act, is played for, and a default action waits for it since.
     Ordered {
+        seat: u8,
+    },
+    /// The seat hasn't come yet, and the match waits for it. It is told once a minute.
+    Missing {
         seat: u8,
     },
     /// The seat is to act, and nothing has gone on for a while.

@@ -13,9 +13,10 @@ ghost use Rattle.node_peers.specs.declared.notice.Notice.TheVariants.{Joined};
 use crate::limits::{CALLS, SEATS};
 use crate::outcome::Outcome;
 use crate::server::NodeServer;
-use crate::server_notice::ServerNotice;
+use crate::server_notice::{ServerNotice, Setting};
+use crate::sitting::Sitting;
 use dealer_world::Event;
-use node_links::PeerFault;
+use node_links::{PeerFault, Settings};
 use node_peers::Notice;
 use node_seats::SeatNotice;
 use node_wires::Wire;
@@ -100,10 +101,25 @@ impl<D: Disk + Drop, W: Wire + Drop> NodeServer<D, W> {
         is_all
     }
 
+    /// Whether a seat, or who comes to one, is looked at. Whoever isn't here yet waits at the port until the node has a quorum
+    /// and has learned what was chosen before, so that he isn't told all lines of before; without a quorum for a while he is
+    /// turned away.
+    fn takes_in(&self, at: u8) -> bool {
+        match self.desk.sittings.at(at) {
+            Sitting::Here | Sitting::LetGo => true,
+            Sitting::Away => {
+                self.lasting.is_apart || (self.turn_timer.is_quorate && !self.replays)
+            }
+        }
+    }
+
     /// Takes what came next of a seat, or of a guest, by its number. It says whether nothing is left of it.
     fn take_next_of_seat(&mut self, at: u8, now: u64) -> bool
         ensures { GoesOnWith D.Disk (IsNextOf at) (served_of self.old) (served_of self.new) }
     {
+        if !self.takes_in(at) {
+            return true;
+        }
         match self.desk.next_of_seats(at, now) {
             Some(notice) => {
                 let has_more = notice.may_have_more();
@@ -151,8 +167,12 @@ impl<D: Disk + Drop, W: Wire + Drop> NodeServer<D, W> {
                 self.note_refused(peer, fault, source);
                 Taken::One
             }
-            Notice::Strangers { count, fault } => {
-                self.tell(ServerNotice::Callers { count, fault });
+            Notice::Strangers { peer, count, fault } => {
+                self.tell(ServerNotice::Callers { peer, count, fault });
+                Taken::One
+            }
+            Notice::Settings { peer, settings } => {
+                self.note_settings(peer, settings);
                 Taken::One
             }
             Notice::Unreached { peer, refuses } => {
@@ -190,6 +210,50 @@ impl<D: Disk + Drop, W: Wire + Drop> NodeServer<D, W> {
         });
     }
 
+    /// A peer told a setting of its process: where it isn't that of this one, that is told.
+    fn note_setting(&mut self, peer: u8, what: Setting, there: u32, here: u32)
+        ensures { IsKept W.Wire self.old.desk self.new.desk }
+    {
+        if there == here {
+            return;
+        }
+        self.tell(ServerNotice::Setting {
+            peer,
+            what,
+            there,
+            here,
+        });
+    }
+
+    /// A peer told whose tokens its seats have: where they aren't those of this one, that is told.
+    fn note_tokens(&mut self, peer: u8, are_same: bool)
+        ensures { IsKept W.Wire self.old.desk self.new.desk }
+    {
+        if are_same {
+            return;
+        }
+        let (what, there, here) = (Setting::Tokens, 0, 0);
+        self.tell(ServerNotice::Setting {
+            peer,
+            what,
+            there,
+            here,
+        });
+    }
+
+    /// A peer told the settings of its process: those that aren't those of this one are told.
+    fn note_settings(&mut self, peer: u8, there: Settings)
+        ensures { IsKept W.Wire self.old.desk self.new.desk }
+    {
+        let Some(here) = self.desk.member.terms().settings else {
+            return;
+        };
+        self.note_setting(peer, Setting::Patience, there.patience, here.patience);
+        self.note_setting(peer, Setting::Start, there.start, here.start);
+        self.note_setting(peer, Setting::Away, there.away, here.away);
+        self.note_tokens(peer, there.tokens == here.tokens);
+    }
+
     /// A frame of a peer. Without memory for it, it is lost.
     pub(crate) fn take_frame(&mut self, alloc: Global, from: u8, bytes: &[u8])
         ensures { Does D.Disk (OfPeer from bytes.now ∷ []) (served_of self.old) (served_of self.new) }
@@ -209,7 +273,7 @@ impl<D: Disk + Drop, W: Wire + Drop> NodeServer<D, W> {
             SeatNotice::Came { seat } => self.seat_bot(seat),
             SeatNotice::Piece { seat, bytes } => self.take_piece(seat, bytes),
             SeatNotice::Gone { seat } => self.leave(seat),
-            SeatNotice::Refused { seat } => self.wrong_tokens.count(seat),
+            SeatNotice::Refused { seat, source } => self.wrong_tokens.count(seat, source),
         }
     }
 
@@ -232,7 +296,7 @@ impl<D: Disk + Drop, W: Wire + Drop> NodeServer<D, W> {
         let node = self.desk.member.number();
         match self.call(&Event::Connect { node, seat }) {
             Some(Ok(())) => {
-                self.turn_timer.seat(seat);
+                self.seat_watches.take(seat);
                 self.tell(ServerNotice::Seated { seat });
             }
             _ => self.desk.hang_up(seat),

@@ -1,28 +1,57 @@
 //! When the node ticks, and when the seat to act is played for.
 
-ghost use Rattle.std.specs.Prelude.{◌≡◌, ◌≤◌, [], IfSome};
-ghost use Rattle.clockwork.specs.declared.limits.TheConstants.{LATEST as LAST, MOST_PEERS as MOST};
+ghost use Rattle.std.specs.Prelude.{◌≡◌, ◌≤◌, ◌<◌, [], IfSome};
+ghost use Rattle.clockwork.specs.declared.limits.TheConstants.{LATEST as LAST, LONGEST_PATIENCE as LONGEST, MOST_PEERS as MOST, MOST_NODES as ALL};
+ghost use Rattle.node_service.specs.declared.limits.TheConstants.{SEATS as COUNT};
 ghost use Rattle.clockwork.specs.declared.answer.Due.TheVariants.{Now};
+ghost use Rattle.node_peers.specs.Viewing.{view_of};
+ghost use Rattle.node_rules.specs.Standings.{Standing};
+ghost use Rattle.dealer_node.specs.Seeing.{IsSeen};
+ghost use Rattle.stations.specs.Looking.{look_of};
+ghost use Rattle.node_service.specs.Following.{FollowsAll};
 
 use crate::lasting::Turned;
 use crate::limits::NODES;
+use crate::local_node::LocalNode;
 use crate::noting::seat_to_act;
 use crate::outcome::Outcome;
 use crate::peer_reports::{Others, PeerReports};
+use crate::seat_acts::SeatActs;
+use crate::seat_watches::{here_of, there_of};
 use crate::server::NodeServer;
 use crate::server_notice::ServerNotice;
-use clockwork::limits::{LATEST, LOOK, MOST_PEERS};
+use clockwork::limits::{LATEST, LONGEST_PATIENCE, LOOK, MOST_PEERS};
 use clockwork::{
-    Awaited, Due, Peer, Watch, away_due, due, has_work, is_behind, is_quorate, most_silence, rank,
-    replays,
+    At, Awaited, Due, Expected, Peer, SeatLook, Waking, Watch, due, has_work, is_behind,
+    is_quorate, most_silence, order_due, rank, replays,
 };
 use dealer_world::Event;
 use node_peers::{Peers, View};
 use node_wires::Wire;
 use promise_store::Disk;
+use slot_log::Command;
 
-/// Keeps what a peer has told by its last beat.
-fn look_at(view: &View, reports: &mut PeerReports, watch: &mut Watch, number: u8, now: u64) {
+/// Whether a default action waits that didn't before.
+fn is_another(waits: Option<(u32, u16)>, waited: Option<(u32, u16)>) -> bool {
+    match (waits, waited) {
+        (Some(new), Some(old)) => new != old,
+        (Some(_), None) => true,
+        (None, _) => false,
+    }
+}
+
+/// Keeps what a peer has told by its last beat. One that is another than the last is heard by a process that slept.
+fn look_at(
+    view: &View,
+    reports: &mut PeerReports,
+    watch: &mut Watch,
+    waking: &mut Waking,
+    number: u8,
+    now: u64,
+) {
+    if reports.is_further(number, view) {
+        waking.hear(number);
+    }
     reports.take(number, view, watch.seen.front, now);
     if let Some(beat) = view.beat {
         if beat.campaigns {
@@ -32,12 +61,25 @@ fn look_at(view: &View, reports: &mut PeerReports, watch: &mut Watch, number: u8
 }
 
 /// The same of all peers.
-fn look_at_all(peers: &Peers, reports: &mut PeerReports, watch: &mut Watch, now: u64) {
+fn look_at_all(
+    peers: &Peers,
+    reports: &mut PeerReports,
+    watch: &mut Watch,
+    waking: &mut Waking,
+    now: u64,
+) {
     for number in 0..NODES as u8 {
         if let Some(view) = peers.view(number) {
-            look_at(&view, reports, watch, number, now);
+            look_at(&view, reports, watch, waking, number, now);
         }
     }
+}
+
+/// Follows the commands that the node has applied and that weren't followed yet.
+fn follow_list<D: Disk + Drop>(member: &LocalNode<D>, acts: &mut SeatActs)
+    ensures { (s : Standing) → IsSeen D.Disk (look_of member.now.station).node s → FollowsAll s acts.old acts.new }
+{
+    acts.follow(member.node().commands());
 }
 
 impl<D: Disk + Drop, W: Wire + Drop> NodeServer<D, W> {
@@ -45,14 +87,20 @@ impl<D: Disk + Drop, W: Wire + Drop> NodeServer<D, W> {
     ghost use Rattle.node_service.specs.Going.{Does};
     ghost use Rattle.node_service.specs.Serving.{served_of};
     ghost use Rattle.node_service.specs.Others.{listed};
-    ghost use Rattle.node_service.specs.Knowing.{is_owed_by, other_at, others_of, moment_of, IsTickDue, rank_for, awaited_of, IsAwaited, IsAwayDue};
+    ghost use Rattle.node_service.specs.Knowing.{is_owed_by, other_at, others_of, is_there, moment_of, IsTickDue, rank_for, seen_at, stood_of, awaited_of, expected_of, IsExpected, IsAwayDue};
 
     /// Keeps what peers have told by beats.
     pub(crate) fn look(&mut self, now: u64)
         ensures { self.new.desk ≡ self.old.desk }
     {
         let company = &self.desk.company;
-        look_at_all(&company.peers, &mut self.reports, &mut self.watch, now);
+        look_at_all(
+            &company.peers,
+            &mut self.reports,
+            &mut self.watch,
+            &mut self.waking,
+            now,
+        );
     }
 
     /// Whether a peer that is back owes an answer that would still serve.
@@ -125,6 +173,98 @@ impl<D: Disk + Drop, W: Wire + Drop> NodeServer<D, W> {
         self.desk.set_silence(self.silence);
         self.watch.stand(work, behind, now);
         self.note_quorum(quorate, now);
+        self.look_at_seats(now);
+    }
+
+    /// Whether the peer of this number is there.
+    fn is_there(&self, number: u8, now: u64) -> bool
+        ensures { result ≡ is_there (view_of self.now.desk.company.peers number) now self.now.silence }
+    {
+        match self.desk.company.peers.view(number) {
+            Some(view) => self.is_present(&view, now),
+            None => false,
+        }
+    }
+
+    /// How a seat is seen at a node of the match at this moment.
+    fn seen_at(&self, seat: u8, number: u8, now: u64) -> At
+        ensures { result ≡ seen_at self.now seat now number }
+    {
+        if number == self.desk.member.number() {
+            return here_of(self.seat_watches.was_taken(seat), self.sits_here(seat));
+        }
+        there_of(
+            self.is_there(number, now),
+            self.reports.has_seat(number, seat),
+        )
+    }
+
+    /// Looks at a seat at each node.
+    fn look_at_nodes(&mut self, seat: u8, now: u64)
+        requires { seat < COUNT }
+        ensures { self.new.desk ≡ self.old.desk }
+    {
+        let moved = self.watch.moved;
+        for number in 0..self.nodes() {
+            let at = self.seen_at(seat, number, now);
+            self.seat_watches.look_at(seat, number, at, moved, now);
+        }
+    }
+
+    /// Looks at a seat.
+    fn look_at_seat(&mut self, seat: u8, seen: SeatLook)
+        requires { seat < COUNT }
+        ensures { self.new.desk ≡ self.old.desk }
+    {
+        self.look_at_nodes(seat, seen.now);
+        self.seat_watches.look(seat, self.acts.at(seat), seen);
+    }
+
+    /// Looks at all seats, by the commands that the node has applied.
+    fn look_at_seats(&mut self, now: u64)
+        ensures { self.new.desk ≡ self.old.desk }
+    {
+        let member = &self.desk.member;
+        follow_list(member, &mut self.acts);
+        let terms = self.desk.member.terms();
+        let quorate = self.turn_timer.is_quorate;
+        let nodes = self.nodes();
+        let is_awake = self.waking.is_awake(nodes);
+        let seen = SeatLook {
+            quorate: quorate && is_awake,
+            gives_up: terms.gives_up,
+            patience: terms
+                .patience
+                .unwrap_or(LONGEST_PATIENCE)
+                .min(LONGEST_PATIENCE),
+            now,
+        };
+        let players = self.players();
+        for seat in 0..players {
+            self.look_at_seat(seat, seen);
+        }
+        self.seat_watches.end_look();
+        let all_came = self.seat_watches.have_come(players);
+        self.opening.look(quorate, all_came, terms.start, now);
+        let stood = self.stood();
+        self.waking.stand(stood);
+    }
+
+    /// A turn ends: nothing is left to read, unless something is left of what came, or at a connection.
+    pub(crate) fn note_read(&mut self, is_all: bool, now: u64)
+        ensures { self.new.desk ≡ self.old.desk }
+    {
+        if is_all && self.desk.company.peers.wait(now) > 0 {
+            self.waking.read_all();
+        }
+    }
+
+    /// What went by in this turn beyond what calls of the node took: where that is long the process slept.
+    fn note_sleep(&mut self)
+        ensures { IsKept W.Wire self.old.desk self.new.desk }
+    {
+        let now = self.desk.now();
+        self.mark(now, 0);
     }
 
     /// Whether the node is to tick, by what the process knows.
@@ -165,13 +305,13 @@ impl<D: Disk + Drop, W: Wire + Drop> NodeServer<D, W> {
     fn awaited_at(&self, seat: u8, patience: u64) -> Awaited
         ensures value { result ≡ awaited_of self.now seat patience }
         ensures time { result.time ≤ LAST }
-        ensures patience { result.patience ≤ LAST }
+        ensures patience { result.patience ≤ LONGEST }
         ensures rank { result.rank ≤ MOST }
     {
         let seen = self.watch.seen;
         Awaited {
             time: self.moment(),
-            patience: patience.min(LATEST),
+            patience: patience.min(LONGEST_PATIENCE),
             over: seen.over,
             hand_runs: seen.hand_runs,
             quorate: self.turn_timer.is_quorate,
@@ -179,34 +319,71 @@ impl<D: Disk + Drop, W: Wire + Drop> NodeServer<D, W> {
             sits_here: self.sits_here(seat),
             sits_elsewhere: self.sits_elsewhere(seat, self.moment()),
             rank: self.rank_for(seat).min(MOST_PEERS),
-            since: self.turn_timer.since(seat, self.watch.moved),
+            since: self.seat_watches.at(seat).since(self.stood()),
             ordered: self.turn_timer.ordered_since(self.watch.moved),
         }
     }
 
-    /// The seat to act, and what is known of it; none where no hand runs, nobody is played for, or the process is to end.
-    fn awaited(&self) -> Option<(u8, Awaited)>
-        ensures time { IfSome result (λ found. found.1.time ≤ LAST) }
-        ensures patience { IfSome result (λ found. found.1.patience ≤ LAST) }
-        ensures rank { IfSome result (λ found. found.1.rank ≤ MOST) }
-        ensures is { IfSome result (λ found. IsAwaited self.now found.0 found.1) }
+    /// Since when the table has stood: its front moved, the node became quorate, and seats began to be played for.
+    fn stood(&self) -> u64
+        ensures { result ≡ stood_of self.now }
+    {
+        self.opening.stood(self.turn_timer.stood(self.watch.moved))
+    }
+
+    /// What is known of a seat, which may hold the table for so long, and of the process itself.
+    fn expected_at(&self, seat: u8, patience: u64) -> Expected
+        ensures value { result ≡ expected_of self.now seat patience }
+        ensures time { result.awaited.time ≤ LAST }
+        ensures patience { result.awaited.patience ≤ LONGEST }
+        ensures rank { result.awaited.rank ≤ MOST }
+        ensures nodes { result.nodes ≤ ALL }
+    {
+        Expected {
+            awaited: self.awaited_at(seat, patience),
+            is_awake: self.waking.is_awake(self.nodes()),
+            is_open: self.opening.is_open(),
+            turns: self.seat_watches.at(seat).turns(),
+            stood: self.stood(),
+            slept: self.waking.slept,
+            nodes: self.nodes(),
+        }
+    }
+
+    /// Whether an act that a seat said itself waits at the node.
+    fn has_own_act(&self) -> bool {
+        matches!(self.desk.member.node().pending(), Some(Command::Act { .. }))
+    }
+
+    /// The seat to act, and what is known of it; none where no hand runs, nobody is played for, its own act waits here, or the
+    /// process is to end.
+    fn expected(&self) -> Option<(u8, Expected)>
+        ensures time { IfSome result (λ found. found.1.awaited.time ≤ LAST) }
+        ensures patience { IfSome result (λ found. found.1.awaited.patience ≤ LONGEST) }
+        ensures rank { IfSome result (λ found. found.1.awaited.rank ≤ MOST) }
+        ensures nodes { IfSome result (λ found. found.1.nodes ≤ ALL) }
+        ensures is { IfSome result (λ found. IsExpected self.now found.0 found.1) }
     {
         if self.ending() != Outcome::GoesOn {
             return None;
         }
+        if self.has_own_act() {
+            return None;
+        }
         let patience = self.desk.member.terms().patience?;
         let seat = seat_to_act(self.desk.member.node().table())?;
-        Some((seat, self.awaited_at(seat, patience)))
+        Some((seat, self.expected_at(seat, patience)))
     }
 
     /// Orders that the seat to act is played for, where that is due, and answers how long it is until it may be.
     fn keep_patience(&mut self) -> u64
         ensures { Does D.Disk [] (served_of self.old) (served_of self.new) }
     {
-        let Some((seat, awaited)) = self.awaited() else {
+        self.note_sleep();
+        let Some((seat, expected)) = self.expected() else {
             return LOOK;
         };
-        match away_due(&awaited) {
+        match order_due(&expected) {
             Due::Now => {
                 self.order(seat);
                 0
@@ -221,9 +398,18 @@ impl<D: Disk + Drop, W: Wire + Drop> NodeServer<D, W> {
         ensures { Does D.Disk [] (served_of self.old) (served_of self.new) }
     {
         let node = self.desk.member.number();
-        match self.call(&Event::Away { node }) {
-            Some(Ok(())) => self.tell(ServerNotice::Ordered { seat }),
-            _ => (),
+        let waited = self.waiting_away();
+        let _ = self.call(&Event::Away { node });
+        if is_another(self.waiting_away(), waited) {
+            self.tell(ServerNotice::Ordered { seat });
+        }
+    }
+
+    /// The default action that waits at the node, by its hand and the number of actions before it, if one does.
+    fn waiting_away(&self) -> Option<(u32, u16)> {
+        match self.desk.member.node().pending() {
+            Some(Command::Away { hand, index }) => Some((hand, index)),
+            _ => None,
         }
     }
 
@@ -257,7 +443,7 @@ impl<D: Disk + Drop, W: Wire + Drop> NodeServer<D, W> {
     pub(crate) fn note_quorum(&mut self, is_quorate: bool, now: u64)
         ensures { IsKept W.Wire self.old.desk self.new.desk }
     {
-        self.turn_timer.stand(is_quorate, self.watch.moved, now);
+        self.turn_timer.stand(is_quorate, now);
         match self.lasting.stand(is_quorate, now) {
             Turned::Stays => (),
             Turned::Had => self.tell(ServerNotice::Quorum),

@@ -7,12 +7,16 @@ ghost use Rattle.node_service.specs.WrongTokens.{nobody, untold_at, and_one, due
 
 use crate::limits::{PLACES, SEATS};
 use node_links::limits::NOTED;
+use std::net::IpAddr;
 
-/// So many came to a seat without its token since the last note of it, and when that was, in whole microseconds.
+/// So many came to a seat without its token since the last note of it, when that was, in whole microseconds, and from where the
+/// last one came.
 #[derive(Clone, Copy)]
 pub(crate) struct Untold {
     count: u32,
     noted: Option<u64>,
+    /// The address of the last of them, where it is known.
+    source: Option<IpAddr>,
 }
 
 /// The same of each seat, by its number.
@@ -25,6 +29,7 @@ pub(crate) struct WrongTokens {
 const NOBODY: Untold = Untold {
     count: 0,
     noted: None,
+    source: None,
 };
 
 /// Whether a note may follow the one that was made at that moment.
@@ -57,23 +62,34 @@ impl WrongTokens {
         }
     }
 
-    /// One more came to a seat.
-    pub(crate) fn count(&mut self, seat: u8)
-        ensures { seat < COUNT → Becomes seat (and_one (untold_at self.old seat)) self.old self.new }
+    /// One more came to a seat, from this address, where it is known.
+    pub(crate) fn count(&mut self, seat: u8, source: Option<IpAddr>)
+        ensures { seat < COUNT → Becomes seat (and_one source (untold_at self.old seat)) self.old self.new }
     {
         if seat >= SEATS {
             return;
         }
-        let Untold { count, noted } = self.at(seat);
-        let count = count.saturating_add(1);
-        self.all[seat as usize] = Untold { count, noted };
+        let Untold { count, noted, .. } = self.at(seat);
+        let untold = Untold {
+            count: count.saturating_add(1),
+            noted,
+            source,
+        };
+        self.all[seat as usize] = untold;
+    }
+
+    /// From where the last one came, where that is known.
+    pub(crate) fn source(&self, seat: u8) -> Option<IpAddr>
+        ensures { result ≡ (untold_at self.now seat).source }
+    {
+        self.at(seat).source
     }
 
     /// How many are to be told now of a seat; 0 where nobody came, or where the last note is too new.
     pub(crate) fn due(&self, seat: u8, now: u64) -> u32
         ensures { result ≡ due_of (untold_at self.now seat) now }
     {
-        let Untold { count, noted } = self.at(seat);
+        let Untold { count, noted, .. } = self.at(seat);
         if is_noted(noted, now) { count } else { 0 }
     }
 
@@ -85,6 +101,7 @@ impl WrongTokens {
         self.all[seat as usize] = Untold {
             count: 0,
             noted: Some(now),
+            source: None,
         };
     }
 }

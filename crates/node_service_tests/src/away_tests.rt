@@ -22,12 +22,32 @@ const HEARD: &[u8] =
     b"node 0 front 1 hand 0 over no replaying no promised 1.0 leads yes quorum yes peers 1:1,2:1 seats alice:away,bob:away pending no backlog 0,0 commands 0/s
 ";
 
-/// A match of two hands by three nodes, which nobody comes to, with this patience.
-fn empty(rt: &impl Abort, alloc: Global, patience: Option<u64>) -> Result<World, AllocError> {
-    let mut world = World::new(rt, alloc, 3, 2, [0, 1], b'f', (0, 0))?;
-    world.patience = patience;
+/// A match of so many hands by three nodes, which nobody comes to, with this patience, and without waiting for who hasn't come.
+fn empty_of(
+    rt: &impl Abort,
+    alloc: Global,
+    hands: u32,
+    patience: Option<u64>,
+) -> Result<World, AllocError> {
+    let mut world = World::new(rt, alloc, 3, hands, [0, 1], b'f', (0, 0))?;
+    world.waiting.patience = patience;
     world.bots.clear();
     Ok(world)
+}
+
+/// Such a match of two hands.
+fn empty(rt: &impl Abort, alloc: Global, patience: Option<u64>) -> Result<World, AllocError> {
+    empty_of(rt, alloc, 2, patience)
+}
+
+/// How often all nodes told that they ordered to play for a seat.
+fn orders(world: &World) -> u64 {
+    let mut count = 0u64;
+    for place in world.places.iter() {
+        let [first, second] = place.counts.ordered;
+        count = count.saturating_add(first).saturating_add(second);
+    }
+    count
 }
 
 /// Each of the two seats folds its small blind, once, by one node's order: that of the lowest number.
@@ -40,6 +60,88 @@ fn who_is_away_is_played_for(rt: HostRuntime) -> Result<(), Fail> {
         panic!(rt; "no nodes");
     };
     assert_eq!(rt; place.counts.ordered, [1, 1]);
+    Ok(())
+}
+
+/// Nobody is played for before each seat has come, or `start` has passed; a note says each minute who hasn't.
+#[test]
+fn who_has_not_come_is_waited_for(rt: HostRuntime) -> Result<(), Fail> {
+    let mut world = empty(&rt, rt.alloc(), Some(200_000))?;
+    world.waiting.start = 1_500_000;
+    run(&rt, &mut world, 1_400)?;
+    assert_eq!(rt; orders(&world), 0);
+    run(&rt, &mut world, 2_000)?;
+    assert_whole(&rt, &world);
+    Ok(())
+}
+
+/// A seat whose turns are played for is given up: of four hands each seat's second act waits half a second, and not two.
+#[test]
+fn who_is_given_up_is_waited_for_shortly(rt: HostRuntime) -> Result<(), Fail> {
+    let mut world = empty_of(&rt, rt.alloc(), 4, Some(2_000_000))?;
+    run(&rt, &mut world, 4_500)?;
+    assert!(rt; !world.is_over());
+    run(&rt, &mut world, 1_500)?;
+    assert!(rt; world.is_over());
+    Ok(())
+}
+
+/// Where a match file says that they are waited for, it isn't.
+#[test]
+fn who_is_not_to_be_given_up_is_not(rt: HostRuntime) -> Result<(), Fail> {
+    let mut world = empty_of(&rt, rt.alloc(), 4, Some(2_000_000))?;
+    world.waiting.gives_up = false;
+    run(&rt, &mut world, 6_000)?;
+    assert!(rt; !world.is_over());
+    Ok(())
+}
+
+/// All processes are stopped for longer than the patience: behind that nobody is played for who is there.
+#[test]
+fn who_slept_orders_nothing(rt: HostRuntime) -> Result<(), Fail> {
+    let mut world = World::new(&rt, rt.alloc(), 3, 60, [0, 1], b'f', (0, 0))?;
+    world.waiting.patience = Some(2_000_000);
+    run(&rt, &mut world, 150)?;
+    assert!(rt; world.front() > 0 && !world.is_over());
+    world.now = world.now.saturating_add(3_000_000);
+    run(&rt, &mut world, 6_000)?;
+    assert!(rt; world.is_over());
+    assert_eq!(rt; orders(&world), 0);
+    Ok(())
+}
+
+/// Who sat down at seat 0 of node 0, and how many were gone from there.
+fn sitters(rt: &impl Abort, world: &World) -> (u64, u64) {
+    let Some(place) = world.places.first() else {
+        panic!(rt; "no nodes");
+    };
+    (place.counts.seated, place.counts.left)
+}
+
+/// A stranger who sits down and says nothing is let go of after ten seconds; then the bot that waits behind him sits down, and
+/// is told the line of the hand that runs.
+#[test]
+fn who_names_no_version_makes_room(rt: HostRuntime) -> Result<(), Fail> {
+    let mut world = empty(&rt, rt.alloc(), None)?;
+    go_on(&rt, &mut world, 300)?;
+    wire_of(&rt, &mut world, 0).come_to_seat(0);
+    go_on(&rt, &mut world, 5)?;
+    wire_of(&rt, &mut world, 0).come_to_seat(0);
+    world.now = world.now.saturating_add(9_900_000);
+    go_on(&rt, &mut world, 50)?;
+    assert_eq!(rt; sitters(&rt, &world), (1, 0));
+    world.now = world.now.saturating_add(100_000);
+    go_on(&rt, &mut world, 5)?;
+    assert_eq!(rt; sitters(&rt, &world), (2, 1));
+    let wire = wire_of(&rt, &mut world, 0);
+    wire.take_written(Line::Seat(0));
+    wire.come(Line::Seat(0), b"VERSION:2.0.0\r\n")?;
+    go_on(&rt, &mut world, 3)?;
+    assert!(rt;
+        wire_of(&rt, &mut world, 0)
+            .written(Line::Seat(0))
+            .starts_with(b"MATCHSTATE:")
+    );
     Ok(())
 }
 

@@ -47,6 +47,9 @@ fn has_failed(wire: &mut MemoryWire, call: u64) -> bool {
 pub(crate) struct Counts {
     pub(crate) quorum: u64,
     pub(crate) lost: u64,
+    /// That a bot took seat 0, and that one was gone from there.
+    pub(crate) seated: u64,
+    pub(crate) left: u64,
     /// Of each seat that it was ordered to play for.
     pub(crate) ordered: [u64; 2],
 }
@@ -57,6 +60,8 @@ impl Counts {
         match told {
             ServerNotice::Quorum => self.quorum = self.quorum.saturating_add(1),
             ServerNotice::QuorumLost => self.lost = self.lost.saturating_add(1),
+            ServerNotice::Seated { seat: 0 } => self.seated = self.seated.saturating_add(1),
+            ServerNotice::Left { seat: 0 } => self.left = self.left.saturating_add(1),
             ServerNotice::Ordered { seat } => self.count_order(seat),
             _ => (),
         }
@@ -84,6 +89,8 @@ impl Place {
             counts: Counts {
                 quorum: 0,
                 lost: 0,
+                seated: 0,
+                left: 0,
                 ordered: [0, 0],
             },
             call: 0,

@@ -91,6 +91,17 @@ fn own(node: u8, nodes: u8) -> Own {
     }
 }
 
+/// For how long seats are waited for, in microseconds.
+#[derive(Clone, Copy)]
+pub(crate) struct Waiting {
+    /// How long one may hold the table.
+    pub(crate) patience: Option<u64>,
+    /// How long those are waited for that haven't come yet.
+    pub(crate) start: u64,
+    /// One at which nobody is may be given up.
+    pub(crate) gives_up: bool,
+}
+
 /// The process of a node, in a match of so many nodes and hands, over this disk.
 pub(crate) fn server(
     rt: &impl Abort,
@@ -101,7 +112,7 @@ pub(crate) fn server(
     disk: MemoryDisk,
     call: u64,
     now: u64,
-    patience: Option<u64>,
+    waiting: Waiting,
 ) -> Result<Option<Server>, AllocError> {
     let config = config(rt, alloc, nodes, hands)?;
     assert!(rt; (node as usize) < config.nodes());
@@ -114,7 +125,13 @@ pub(crate) fn server(
     let peers = Peers::new(alloc, own(node, nodes), &[], SILENCE)?;
     let seats = Seats::new(alloc, 2, None)?;
     let askers = Askers::new(alloc)?;
-    let terms = Terms { nodes, patience };
+    let terms = Terms {
+        nodes,
+        patience: waiting.patience,
+        start: waiting.start,
+        gives_up: waiting.gives_up,
+        settings: None,
+    };
     let mut server = NodeServer::new(
         alloc,
         LocalNode::new(alloc, station),

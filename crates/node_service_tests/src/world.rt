@@ -2,7 +2,7 @@
 
 use crate::bot::Bot;
 use crate::place::{NODES, Place};
-use crate::samples::{disk_of, new_disk, server};
+use crate::samples::{Waiting, disk_of, new_disk, server};
 use node_service::Outcome;
 use std::alloc::{AllocError, Global};
 use std::process::Abort;
@@ -20,8 +20,8 @@ pub(crate) struct World {
     pub(crate) bots: Vec<Bot>,
     /// Pairs of which nothing comes through, by sender and receiver.
     pub(crate) cuts: [[bool; NODES]; NODES],
-    /// How long a seat may hold the table, of processes that begin from now on.
-    pub(crate) patience: Option<u64>,
+    /// How long seats are waited for, of processes that begin from now on.
+    pub(crate) waiting: Waiting,
 }
 
 /// By hand, so that letting one go is one call for whoever owns it.
@@ -35,7 +35,7 @@ impl Drop for World {
             places: _,
             bots: _,
             cuts: _,
-            patience: _,
+            waiting: _,
         } = self;
     }
 }
@@ -70,14 +70,18 @@ impl World {
             places,
             bots,
             cuts: [[false; NODES]; NODES],
-            patience: None,
+            waiting: Waiting {
+                patience: None,
+                start: 0,
+                gives_up: true,
+            },
         })
     }
 
     /// Begins a process where one is to begin.
     fn begin(&mut self, rt: &impl Abort, node: u8) -> Result<(), AllocError> {
         let (nodes, hands, now, alloc) = (self.nodes, self.hands, self.now, self.alloc);
-        let patience = self.patience;
+        let waiting = self.waiting;
         let Some(place) = self.places.get_mut(node as usize) else {
             return Ok(());
         };
@@ -90,7 +94,7 @@ impl World {
         }
         let disk = disk_of(rt, alloc, &place.bytes)?;
         let call = place.call;
-        place.begin(server(rt, alloc, node, nodes, hands, disk, call, now, patience)?);
+        place.begin(server(rt, alloc, node, nodes, hands, disk, call, now, waiting)?);
         Ok(())
     }
 

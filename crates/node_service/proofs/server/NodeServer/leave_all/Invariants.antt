@@ -1,5 +1,4 @@
 use Rattle.node_service.specs.Going.{Does}
-use Rattle.node_service.specs.Arriving.{Incoming}
 use Rattle.std.proofs.Common.{[]}
 use Rattle.node_service.specs.Serving.{served_of}
 use Rattle.node_service.proofs.server.NodeServer.leave_all.Given as goal

@@ -20,6 +20,9 @@ returns-in-Refused-clause-goes g c = rw c.in-Refused.is (goes_kept g.W.Wire c.no
 pub returns-in-Strangers-clause-goes : goal.returns-in-Strangers-clause-goes
 returns-in-Strangers-clause-goes g c = rw c.in-Strangers.is (goes_kept g.W.Wire c.tell-in-Strangers.ensures)
 
+pub returns-in-Settings-clause-goes : goal.returns-in-Settings-clause-goes
+returns-in-Settings-clause-goes g c = rw c.in-Settings.is (goes_kept g.W.Wire c.note_settings.ensures)
+
 pub returns-in-Unreached-clause-goes : goal.returns-in-Unreached-clause-goes
 returns-in-Unreached-clause-goes g c = rw c.in-Unreached.is (goes_kept g.W.Wire c.tell-in-Unreached.ensures)
 

@@ -12,6 +12,7 @@ pub returns-clause-takes : goal.returns-clause-takes
 returns-clause-takes g c =
     let first = kept_on g.W.Wire c.wait-begun.ensures (kept_on g.W.Wire c.hear.ensures (as_it_was g.W.Wire c.look.ensures)) in
     let taken = with_does IsTurn (does_with IsTurn (goes_kept g.W.Wire first) c.take_all-is_all.ensures) (goes_kept g.W.Wire c.note_wrong_tokens.ensures) in
-    let due = then_kept g.W.Wire c.keep_time-until_due.ensures (kept_on g.W.Wire c.now-now.ensures c.note_waiting.ensures) in
-    let last = then_kept g.W.Wire c.answer_askers-is_asked.ensures (kept_on g.W.Wire c.finish-over.ensures c.speak.ensures) in
+    let noted = kept_on g.W.Wire c.now-now.ensures (kept_on g.W.Wire c.note_waiting.ensures c.note_missing.ensures) in
+    let due = then_kept g.W.Wire c.keep_time-until_due.ensures noted in
+    let last = then_kept g.W.Wire c.answer_askers-is_asked.ensures (kept_on g.W.Wire c.finish-over.ensures (kept_on g.W.Wire c.speak.ensures (as_it_was g.W.Wire c.note_read.ensures))) in
     with_does IsTurn taken (does_on due last)
