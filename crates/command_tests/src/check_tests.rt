@@ -1,11 +1,12 @@
 use crate::test_streams::{
     Gives, L2, Reading, Run, Takes, Writing, ends, is_begun, is_written, reads_or_stops,
 };
+use operator_notes::Stop;
 use std::alloc::{AllocError, Global};
 use std::io::{ErrorKind, Read, Write};
 use std::process::Abort;
 use std::test::Fail;
-use streamed::{Ending, Stop, check_run, read_all};
+use streamed::{Ending, check_run, read_all};
 
 const LOG: &[u8] = b"# name/game/hands m l2.game 1
 STATE:0:f:TdAs|8hTc:5|-5:alice|bob

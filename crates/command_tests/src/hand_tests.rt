@@ -3,12 +3,13 @@ use crate::test_streams::{
     reads_or_stops,
 };
 use game_def::GameDef;
+use operator_notes::Stop;
 use std::alloc::{AllocError, Global};
 use std::cell::Cell;
 use std::io::{ErrorKind, Read, Write};
 use std::process::Abort;
 use std::test::Fail;
-use streamed::{Ending, MOST_READS, Stop, hand_run, run_script};
+use streamed::{Ending, MOST_READS, hand_run, run_script};
 
 const SCRIPT: &[u8] = b"names alice|bob
 deal TdAs|8hTc/2c8c3h/9c/Kh

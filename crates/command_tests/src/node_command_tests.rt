@@ -4,21 +4,17 @@ use crate::test_streams::{config, holds, is_same, is_written, prints};
 use dealer_node::NodeFault;
 use match_file::{Difference, Key, MatchFault};
 use match_log::Name;
-use match_runs::Unserved;
-use node_links::{Mismatch, Own, PeerFault, Whose};
+use node_links::{Digests, Mismatch, Own, PeerFault, Whose};
 use node_peers::Peers;
-use node_runs::{
-    KeyFault, LifeKeeper, NodeEnd, NodeNote, key_text, life_path, node_kept_path, node_run,
-    read_key, tell_node_note,
-};
+use node_runs::{LifeKeeper, NodeEnd, key_text, node_run, read_key};
 use node_seats::Seats;
 use node_service::{LocalNode, NodeServer, Terms};
 use node_status::Askers;
 use node_wires::MemoryWire;
+use operator_notes::{KeyFault, NodeNote, life_path, node_kept_path, tell_node_note};
 use paxos_wire::Ballot;
 use peer_codes::{Key as SharedKey, Life, MatchDigest, RecordFault};
 use promise_store::{Disk, OnceDisk, Store, StoreFault};
-use serving::ServeFault;
 use stations::Station;
 use std::alloc::{AllocError, Global};
 use std::net::{IpAddr, SocketAddr};
@@ -26,26 +22,31 @@ use std::process::Abort;
 use std::test::Fail;
 
 /// The lines of all notes that tell nothing of a seat.
-const NOTES: &[u8] = b"match m1 node 2 front 7
-key port isn't used by node
+const NOTES: &[u8] = b"match m1, node 2: started, first unchosen slot 7
+key port is for serve only, ignored
 stores/match.kept: not found: copy it from the machine of node 0
-no key: peers and seats are trusted by their addresses
-match.key: open to others than its owner
+no key: connections between nodes are neither authenticated nor encrypted
+match?[2J.key: open to others than its owner
 status at 127.0.0.1:7090
-peer 1: joined
-peer 1: gone
+peer 1: connected
+peer 1: disconnected
 peer 2: 127 StoreReplaced
-peer 0: 123 OtherMatch digest (from 10.0.0.7)
-caller: 122 BadHello
-callers: no place
-quorum
-quorum lost
+peer 0: 123 OtherMatch digest: here 1a2b3c4d, there 0000000a (from 10.0.0.7)
+inbound connection refused: 122 BadHello
+inbound connection refused: 124 WrongProof (from peer 2's address)
+peer 2: patience 100, here 12
+peer 2: start 1.050, here none
+peer 2: away wait, here play
+peer 2: tokens differ
+inbound connection refused: no place
+quorum: more than half of the nodes are connected
+quorum lost: bots are disconnected until it returns
 campaigns in ballot (5, 1)
 12 notes left out
 ";
 
 /// Notes of all kinds, in the order of their lines.
-fn notes<'a>(name: Name) -> [NodeNote<'a>; 16] {
+fn notes<'a>(name: Name) -> [NodeNote<'a>; 21] {
     [
         NodeNote::Begins {
             name,
@@ -55,7 +56,7 @@ fn notes<'a>(name: Name) -> [NodeNote<'a>; 16] {
         NodeNote::PassedOver("port"),
         NodeNote::NotCopied("stores/match.kept"),
         NodeNote::NoKey,
-        NodeNote::BadKey("match.key", KeyFault::NotSecret),
+        NodeNote::BadKey("match\u{1b}[2J.key", KeyFault::NotSecret),
         NodeNote::Status(SocketAddr::from(([127, 0, 0, 1], 7090))),
         NodeNote::Joined(1),
         NodeNote::Gone(1),
@@ -66,10 +67,38 @@ fn notes<'a>(name: Name) -> [NodeNote<'a>; 16] {
         },
         NodeNote::Refused {
             peer: 0,
-            fault: PeerFault::OtherMatch(Mismatch::Digest),
+            fault: PeerFault::OtherMatch(Mismatch::Digest(Digests {
+                here: 0x1a2b_3c4d,
+                there: 10,
+            })),
             source: Some(IpAddr::from([10, 0, 0, 7])),
         },
-        NodeNote::Caller(PeerFault::Record(RecordFault::BadHello)),
+        NodeNote::Caller {
+            peer: None,
+            fault: PeerFault::Record(RecordFault::BadHello),
+        },
+        NodeNote::Caller {
+            peer: Some(2),
+            fault: PeerFault::WrongProof,
+        },
+        NodeNote::OtherTime {
+            peer: 2,
+            key: "patience",
+            there: 100_000,
+            here: 12_000,
+        },
+        NodeNote::OtherTime {
+            peer: 2,
+            key: "start",
+            there: 1050,
+            here: 0,
+        },
+        NodeNote::OtherAway {
+            peer: 2,
+            waits_there: true,
+            waits_here: false,
+        },
+        NodeNote::OtherTokens(2),
         NodeNote::NoPlace,
         NodeNote::Quorum,
         NodeNote::QuorumLost,
@@ -93,11 +122,10 @@ fn each_note_is_a_line(rt: HostRuntime) -> Result<(), Fail> {
 fn ends(
     rt: &impl Abort,
     alloc: Global,
-    why: Unserved,
+    end: NodeEnd,
     status: u8,
     text: &str,
 ) -> Result<(), AllocError> {
-    let end = NodeEnd::Unserved(why);
     is_same(rt, end.status(), status);
     prints(rt, alloc, &end, text)
 }
@@ -106,40 +134,22 @@ fn ends(
 fn the_status_says_what_is_at_fault(rt: HostRuntime) -> Result<(), Fail> {
     let alloc = rt.alloc();
     let store = NodeFault::Store(StoreFault::Disk);
+    ends(&rt, alloc, NodeEnd::from(store), 3, "91 Store 63 Disk")?;
     ends(
         &rt,
         alloc,
-        Unserved::from(ServeFault::Node(store)),
-        3,
-        "91 Store 63 Disk",
-    )?;
-    ends(
-        &rt,
-        alloc,
-        Unserved::from(ServeFault::Node(NodeFault::Conflict)),
+        NodeEnd::from(NodeFault::Conflict),
         3,
         "95 Conflict",
     )?;
-    ends(&rt, alloc, Unserved::from(AllocError), 1, "92 OutOfMemory")?;
-    ends(
-        &rt,
-        alloc,
-        Unserved::from(ServeFault::LinkFailed),
-        1,
-        "105 LinkFailed",
-    )?;
-    ends(
-        &rt,
-        alloc,
-        Unserved::from(ServeFault::LogFailed),
-        1,
-        "106 LogFailed",
-    )?;
-    ends(&rt, alloc, Unserved::StoreInUse, 2, "108 StoreInUse")?;
-    ends(&rt, alloc, Unserved::Unreadable, 2, "104 Unreadable")?;
-    let other = Unserved::OtherMatch(Difference::Node);
+    ends(&rt, alloc, NodeEnd::from(AllocError), 1, "92 OutOfMemory")?;
+    ends(&rt, alloc, NodeEnd::LinkFailed, 1, "105 LinkFailed")?;
+    ends(&rt, alloc, NodeEnd::LogFailed, 1, "106 LogFailed")?;
+    ends(&rt, alloc, NodeEnd::StoreInUse, 2, "108 StoreInUse")?;
+    ends(&rt, alloc, NodeEnd::Unreadable, 2, "104 Unreadable")?;
+    let other = NodeEnd::OtherMatch(Difference::Node);
     ends(&rt, alloc, other, 2, "109 OtherMatch node")?;
-    let entry = Unserved::from(MatchFault::BadEntry(Key::Peers));
+    let entry = NodeEnd::from(MatchFault::BadEntry(Key::Peers));
     ends(&rt, alloc, entry, 2, "101 BadEntry peers")?;
     is_same(&rt, NodeEnd::StoreReplaced.status(), 2);
     prints(&rt, alloc, &NodeEnd::StoreReplaced, "127 StoreReplaced")?;
@@ -203,6 +213,9 @@ fn server<D: Disk + Drop>(
     let terms = Terms {
         nodes: 3,
         patience: None,
+        start: 0,
+        gives_up: false,
+        settings: None,
     };
     Ok(Some(NodeServer::new(alloc, member, wire, peers, seats, askers, terms)))
 }
@@ -245,7 +258,11 @@ fn ended_by_store(
     end: NodeEnd,
     notes: &[u8],
 ) -> Result<bool, AllocError> {
-    is_written(rt, notes, b"match m1 node 0 front 0\n");
+    is_written(
+        rt,
+        notes,
+        b"match m1, node 0: started, first unchosen slot 0\n",
+    );
     let is_by_store = end.status() == 3;
     let text = if is_by_store {
         "91 Store 63 Disk"

@@ -13,6 +13,7 @@ use promise_store::{OnceDisk, Store};
 use seat_session::SessionFault;
 use stations::Station;
 use std::alloc::{AllocError, Global};
+use std::net::IpAddr;
 use std::process::Abort;
 use std::test::Fail;
 
@@ -40,18 +41,21 @@ const fn nothing(at: u64) -> Wave {
 const TOO_LONG: ServerNotice = ServerNotice::Faulty {
     seat: 0,
     fault: SessionFault::LineTooLong,
+    hand: Some(3),
 };
 
 /// Seat 1 answered what it has not now.
 const NOT_CURRENT: ServerNotice = ServerNotice::Faulty {
     seat: 1,
     fault: SessionFault::NotCurrent,
+    hand: Some(3),
 };
 
 /// Seat 1 raised by too little.
 const TOO_SMALL: ServerNotice = ServerNotice::Faulty {
     seat: 1,
     fault: SessionFault::Illegal(ActFault::RaiseTooSmall(200)),
+    hand: Some(3),
 };
 
 /// The station of node 0 of a match of alice and bob.
@@ -147,18 +151,18 @@ fn refused_answers_are_told_whole_at_first(rt: HostRuntime) -> Result<(), Fail> 
         &rt,
         rt.alloc(),
         &waves,
-        b"seat 1 (bob) at node 0: 85 Illegal 24 RaiseTooSmall 200
-seat 1 (bob) at node 0: 85 Illegal 24 RaiseTooSmall 200
-seat 1 (bob) at node 0: 85 Illegal 24 RaiseTooSmall 200
-seat 1 (bob) at node 0: 85 Illegal 24 RaiseTooSmall 200
-seat 1 (bob) at node 0: 85 Illegal 24 RaiseTooSmall 200
-seat 1 (bob) at node 0: 85 Illegal 24 RaiseTooSmall 200
-seat 1 (bob) at node 0: 85 Illegal 24 RaiseTooSmall 200
-seat 1 (bob) at node 0: 85 Illegal 24 RaiseTooSmall 200
-seat 1 (bob) at node 0: 85 Illegal 24 RaiseTooSmall 200
-seat 1 (bob) at node 0: 85 Illegal 24 RaiseTooSmall 200
+        b"seat 1 (bob) at node 0, hand 3: 85 Illegal 24 RaiseTooSmall 200
+seat 1 (bob) at node 0, hand 3: 85 Illegal 24 RaiseTooSmall 200
+seat 1 (bob) at node 0, hand 3: 85 Illegal 24 RaiseTooSmall 200
+seat 1 (bob) at node 0, hand 3: 85 Illegal 24 RaiseTooSmall 200
+seat 1 (bob) at node 0, hand 3: 85 Illegal 24 RaiseTooSmall 200
+seat 1 (bob) at node 0, hand 3: 85 Illegal 24 RaiseTooSmall 200
+seat 1 (bob) at node 0, hand 3: 85 Illegal 24 RaiseTooSmall 200
+seat 1 (bob) at node 0, hand 3: 85 Illegal 24 RaiseTooSmall 200
+seat 1 (bob) at node 0, hand 3: 85 Illegal 24 RaiseTooSmall 200
+seat 1 (bob) at node 0, hand 3: 85 Illegal 24 RaiseTooSmall 200
 seat 1 (bob) at node 0: 83 NotCurrent
-seat 1 (bob) at node 0: 85 Illegal 24 RaiseTooSmall 200 (3 times)
+seat 1 (bob) at node 0, hand 3: 85 Illegal 24 RaiseTooSmall 200 (3 times)
 seat 1 (bob) at node 0: 83 NotCurrent
 ",
         b"",
@@ -169,14 +173,25 @@ seat 1 (bob) at node 0: 83 NotCurrent
 #[test]
 fn each_kind_has_its_own_line(rt: HostRuntime) -> Result<(), Fail> {
     let bad_length = ServerNotice::Callers {
+        peer: None,
         count: 3,
         fault: PeerFault::Record(RecordFault::BadLength),
     };
     let wrong_proof = ServerNotice::Callers {
+        peer: None,
         count: 1,
         fault: PeerFault::WrongProof,
     };
-    let wrong_token = ServerNotice::WrongToken { seat: 0, count: 4 };
+    let at_peer = ServerNotice::Callers {
+        peer: Some(2),
+        count: 1,
+        fault: PeerFault::WrongProof,
+    };
+    let wrong_token = ServerNotice::WrongToken {
+        seat: 0,
+        count: 4,
+        source: Some(IpAddr::from([10, 0, 0, 7])),
+    };
     let waves = [
         Wave {
             at: 0,
@@ -199,6 +214,11 @@ fn each_kind_has_its_own_line(rt: HostRuntime) -> Result<(), Fail> {
             told: wrong_proof,
         },
         Wave {
+            at: 3,
+            times: 1,
+            told: at_peer,
+        },
+        Wave {
             at: 4,
             times: 2,
             told: wrong_token,
@@ -215,15 +235,16 @@ fn each_kind_has_its_own_line(rt: HostRuntime) -> Result<(), Fail> {
         rt.alloc(),
         &waves,
         b"seat 0 (alice) at node 0: seated
-seat 0 (alice) at node 0: gone
-caller: 120 BadLength (3 times)
-caller: 124 WrongProof
-seat 0 (alice) at node 0: wrong token (4 times)
-peer 2: gone
+seat 0 (alice) at node 0: disconnected
+inbound connection refused: 120 BadLength (3 times)
+inbound connection refused: 124 WrongProof
+inbound connection refused: 124 WrongProof (from peer 2's address)
+seat 0 (alice) at node 0: wrong token (from 10.0.0.7) (4 times)
+peer 2: disconnected
 seat 0 (alice) at node 0: seated (2 times)
-seat 0 (alice) at node 0: gone (2 times)
-seat 0 (alice) at node 0: wrong token (4 times)
-caller: 120 BadLength (3 times)
+seat 0 (alice) at node 0: disconnected (2 times)
+seat 0 (alice) at node 0: wrong token (from 10.0.0.7) (4 times)
+inbound connection refused: 120 BadLength (3 times)
 ",
         b"",
     )

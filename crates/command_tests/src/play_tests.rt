@@ -4,12 +4,13 @@ use crate::test_streams::{
 };
 use dealer_kind::Config;
 use match_runs::{play_match, play_run};
+use operator_notes::Stop;
 use std::alloc::{AllocError, Global};
 use std::cell::Cell;
 use std::io::{ErrorKind, Read, Write};
 use std::process::Abort;
 use std::test::Fail;
-use streamed::{Ending, MOST_READS, Stop};
+use streamed::{Ending, MOST_READS};
 
 /// What each node's log begins with.
 const HEADERS: &[u8] = b"0 L # name/game/hands m1 l2.game 1

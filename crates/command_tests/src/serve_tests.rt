@@ -6,7 +6,8 @@ use dealer_node::NodeFault;
 use dealer_world::Cluster;
 use match_file::{Absent, Outage};
 use match_links::{Links, MemoryLinks, Reached};
-use match_runs::{Conclusion, SeatPorts, Unserved, serve_run};
+use match_runs::{Conclusion, Unserved, serve_run};
+use operator_notes::SeatPorts;
 use promise_store::{Disk, OnceDisk};
 use serving::{Outages, ServeFault, Server};
 use std::alloc::{AllocError, Global};
@@ -25,12 +26,12 @@ const VERSION: &[u8] = b"VERSION:2.0.0\r\n";
 /// What bob's bot sends: a line that isn't the one of now, and then it folds.
 const BOB: &[u8] = b"VERSION:2.0.0\r\nMATCHSTATE:1:0:c:|8hTc:f\r\nMATCHSTATE:1:0::|8hTc:f\r\n";
 
-const NOTES: &[u8] = b"awaiting seat 0 (alice) at node 0, port 2000
+const NOTES: &[u8] = b"seat 0 (alice) not connected: expected at node 0, port 2000
 seat 0 (alice) at node 0: seated
-awaiting seat 1 (bob) at node 0, port 2001
+seat 1 (bob) not connected: expected at node 0, port 2001
 seat 1 (bob) at node 0: seated
 node 0: stopped
-awaiting seat 1 (bob) at node 1, port 2003
+seat 1 (bob) not connected: expected at node 1, port 2003
 seat 1 (bob) at node 1: seated
 seat 1 (bob) at node 1, hand 0: f: 83 NotCurrent
 SCORE:5|-5:alice|bob
@@ -41,27 +42,27 @@ SCORE:5|-5:alice|bob
 static WAITS: [u64; 8] = [24, 11, 12, 0, 23, 1, 25, 1];
 
 /// Of the waits in a row the first is told, and each twelfth; with a line only where the seat was shown one at that node.
-const WAITING_NOTES: &[u8] = b"awaiting seat 0 (alice) at node 0, port 2000
+const WAITING_NOTES: &[u8] = b"seat 0 (alice) not connected: expected at node 0, port 2000
 waiting for seat 0 (alice) at node 0, port 2000
 waiting for seat 0 (alice) at node 0, port 2000
 waiting for seat 0 (alice) at node 0, port 2000
 seat 0 (alice) at node 0: seated
 waiting for seat 0 (alice) at node 0, port 2000
-awaiting seat 1 (bob) at node 0, port 2001
+seat 1 (bob) not connected: expected at node 0, port 2001
 waiting for seat 1 (bob) at node 0, port 2001
 waiting for seat 1 (bob) at node 0, port 2001
 seat 1 (bob) at node 0: seated
 node 0: stopped
-awaiting seat 1 (bob) at node 1, port 2003
+seat 1 (bob) not connected: expected at node 1, port 2003
 waiting for seat 1 (bob) at node 1, port 2003
 waiting for seat 1 (bob) at node 1, port 2003
 seat 1 (bob) at node 1: seated
 waiting for seat 1 (bob) at node 1, port 2003
-waiting for seat 1 (bob) at node 1, port 2003: MATCHSTATE:1:0::|8hTc
-waiting for seat 1 (bob) at node 1, port 2003: MATCHSTATE:1:0::|8hTc
-waiting for seat 1 (bob) at node 1, port 2003: MATCHSTATE:1:0::|8hTc
+waiting for seat 1 (bob) at node 1, port 2003, to answer MATCHSTATE:1:0::|8hTc
+waiting for seat 1 (bob) at node 1, port 2003, to answer MATCHSTATE:1:0::|8hTc
+waiting for seat 1 (bob) at node 1, port 2003, to answer MATCHSTATE:1:0::|8hTc
 seat 1 (bob) at node 1, hand 0: f: 83 NotCurrent
-waiting for seat 1 (bob) at node 1, port 2003: MATCHSTATE:1:0::|8hTc
+waiting for seat 1 (bob) at node 1, port 2003, to answer MATCHSTATE:1:0::|8hTc
 SCORE:5|-5:alice|bob
 ";
 
@@ -79,11 +80,11 @@ MATCHSTATE:1:0::|8hTc:r\r
 MATCHSTATE:1:0:rr:|8hTc:r\r
 ";
 
-const RAISING_NOTES: &[u8] = b"awaiting seat 0 (alice) at node 0, port 2000
+const RAISING_NOTES: &[u8] = b"seat 0 (alice) not connected: expected at node 0, port 2000
 seat 0 (alice) at node 0: seated
-awaiting seat 1 (bob) at node 0, port 2001
+seat 1 (bob) not connected: expected at node 0, port 2001
 seat 1 (bob) at node 0: seated
-seat 1 (bob) at node 0, hand 0: r: 83 NotCurrent late
+seat 1 (bob) at node 0, hand 0: r: 83 NotCurrent (answers an earlier line)
 seat 0 (alice) at node 0, hand 0: r: 85 Illegal 22 TooManyRaises
 SCORE:-30|30:alice|bob
 ";

@@ -3,13 +3,14 @@
 
 use dealer_kind::Config;
 use match_file::MatchFile;
+use operator_notes::Stop;
 use std::alloc::{AllocError, Global};
 use std::cell::Cell;
 use std::fmt::{Debug, Display};
 use std::io::{Error, ErrorKind, Read, Result as IoResult, Write};
 use std::process::Abort;
 use std::test::Fail;
-use streamed::{Ending, Stop};
+use streamed::Ending;
 
 pub(crate) const L2: &[u8] = b"GAMEDEF
 limit

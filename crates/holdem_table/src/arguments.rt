@@ -143,10 +143,10 @@ impl Verb {
     fn about<'a>(self) -> &'a str {
         match self {
             Verb::Hand => "Plays a script of deals and actions, and prints each seat's lines",
-            Verb::Play => "Runs all nodes of a match over a script, and prints all they send",
+            Verb::Play => "Simulates a match's nodes from a script; prints all frames and lines",
             Verb::Check => "Checks the log of a match against the rules of its game",
             Verb::Init => "Makes the empty stores of a match's nodes, its key, tokens or seeds",
-            Verb::Serve => "Deals a match to its seats over TCP",
+            Verb::Serve => "Runs a match over TCP, with all its nodes in one process",
             Verb::Node => "Runs one node of a match in a process of its own",
             Verb::Relay => "Stands between a bot that dials once and the nodes of a match",
         }

@@ -19,18 +19,19 @@ A script comes on standard input, one line after another:
   c             he calls, or checks
   r             he raises, in a limit game
   rN            he raises to N chips over the whole hand, in a no-limit game
-  away          he is played for: he folds where he faces something, and
-                else calls
-Each line ends with LF; a last line without one isn't read. Words are
-separated by one space, and no line may be empty.
+  away          the default action for the player to act: fold when facing a
+                bet, else check
+Each line ends with LF; a last line without LF is ignored. Words are separated
+by one space, and no line may be empty.
 
 An answer is written before the next line is read:
   to names                     nothing; with --log the log's header
   to a deal or an action       SEAT LINE for each seat: what the seat sees
       that ends a hand         with --log then L STATE:.., and after the
                                last hand L SCORE:..
-  to an action that the rules  E CODE Name, for 24 and 25 with the least or
-  of betting don't allow       the greatest amount; nothing changes
+  to an action that the rules  E CODE Name, with the least amount behind 24
+  of betting don't allow       RaiseTooSmall and the greatest behind 25
+                               RaiseTooLarge; nothing changes
   to any other line            E 110 BadScript; nothing changes
 With --log the word GAME stands in the log's header, so it must be 1 to 200
 printable ASCII characters without space.
@@ -89,17 +90,17 @@ Standard error has notes, one a line: each file that was made, keys of MATCH
 that no command reads, and seeds below 2^55, which can be guessed. Stores,
 nodeI.kept, the key and tokens can be read by their owner alone.
 
-A store keeps what a node promised, so no store may be thrown away while its
-match is played. Where init ends in the middle (63, 92, or by a signal), no
-node has used what it made: delete match.kept and the files node*.journal in
-the folder and run it again.
+A store keeps what a node promised, so no store may be deleted while its match
+is played. If init fails (63 Disk, 92 OutOfMemory) or is interrupted, no node
+has used what it made: delete match.kept and node*.journal in that folder and
+run it again.
 
 With I the store of node I alone is made, for holdem_table node: first
 nodeI.kept, which says whose store it is, and then nodeI.journal. For node 0
-match.kept is made before them, where it isn't there; it is copied beside the
-stores of the other nodes before those are made, else they are refused (104).
-Where it ended in the middle, delete nodeI.kept and nodeI.journal and run it
-again.
+match.kept is made before them, unless it is there; copy it beside the stores
+of the other nodes before you make those, else they are refused (104
+Unreadable). If init fails or is interrupted, delete nodeI.kept and
+nodeI.journal and run it again.
 
 With --key FILE the key alone is made, for holdem_table node: 32 random bytes
 as 64 hexadecimal digits in FILE. MATCH names it by key = \"FILE\", and each
@@ -116,11 +117,12 @@ machine's MATCH knows all of them.
 
 Exit status:
   0  all was made, or printed
-  2  the command line is wrong, MATCH is refused (100, 101, 102), MATCH or the
-     game can't be read (104), a store file, match.kept, FILE or a token is
-     there already (103; then nothing was made or touched), match.kept is of
-     another match (109), a file can't be made or written (63), standard
-     output failed (107), or memory was refused (92)
+  2  the command line is wrong, MATCH is refused (100 NotToml, 101 BadEntry,
+     102 Game), MATCH or the game can't be read (104 Unreadable), a store
+     file, match.kept, FILE or a token is there already (103 StoreExists; then
+     nothing was made or touched), match.kept is of another match (109
+     OtherMatch), a file can't be made or written (63 Disk), standard output
+     failed (107 StreamFailed), or memory was refused (92 OutOfMemory)
 The last line of standard error says which; where a file is at fault, the line
 before names it.
 docs/OPERATING.md says how to set up a match, and what to do when it stands
@@ -140,19 +142,19 @@ its way until the script delivers it.
 
 A script comes on standard input, one line after another. I is a node, S a
 seat, K a frame, each counted from 0:
-  tick I         node I begins a new ballot, so that it may deal or go on
-  away I         it is ordered at node I that the player to act is played
-                 for: he folds where he faces something, and else calls
-  deliver K      frame K is delivered, again if it was before
-  flush N        at most N times: the first frame that was never delivered is
+  tick I         node I starts a ballot: it campaigns to lead
+  away I         orders, at node I, the default action for the player to act:
+                 fold when facing a bet, else check
+  deliver K      delivers frame K, again if it was delivered before
+  flush N        delivers the oldest undelivered frame, up to N times
   connect I S    seat S connects to node I
   drop I S       its session at node I ends
   line I S TEXT  it sends TEXT and CR LF to node I
-  stop I PICK    node I stops; PICK says what its disk keeps of what wasn't
-                 synced (0: nothing)
+  stop I PICK    node I crashes; PICK chooses which unsynced writes survive
+                 (0: none)
   start I        node I starts again, from its store
-Each line ends with LF; a last line without one isn't read. Words are
-separated by one space.
+Each line ends with LF; a last line without LF is ignored. Words are separated
+by one space.
 
 An answer is written before the next line is read, of each event first the
 frames, then lines of seats and logs, then faults:
@@ -161,7 +163,7 @@ frames, then lines of seats and logs, then faults:
   I L LINE           a line of node I's log
   I S E CODE Name    what is wrong with what the seat sent
   I E CODE Name      why node I did nothing, or went down
-  E 110 BadScript    the line says nothing, or names what there isn't
+  E 110 BadScript    not a script line, or no such node, seat or frame
 
 Exit status:
   0  all of the script was read, whatever was answered
@@ -180,34 +182,37 @@ MATCH is a match file: TOML with name, game, hands, names, a node table for
 each of three, five or seven nodes, stores, logs, port, and perhaps outage and
 away. Its paths go from the working folder. The stores must be there:
 holdem_table init makes them. They are locked while serve runs, and match.kept
-beside them must say this match. Stores that version 0.1 of this program made
-are opened for this one, once and for good: copy them before. A log that an
-earlier start left, node0.log and so on, is kept as node0.log.1 and so on,
-unless all of it stands in the newest kept one too.
+beside them must describe the same match. Stores that version 0.1 of this
+program made are opened for this one, once and for good: copy them before.
+Logs of earlier starts are renamed to node0.log.1 and so on, unless the newest
+of these already contains the whole log.
 
 Seat S is awaited at node I at port + I * (seats) + S on 127.0.0.1, first at
 node 0. It names the version, and then answers each line on which it is to
-act. Where its connection ends or is refused it dials the next node. Where
-MATCH says away = \"play\", a seat that was dropped is played for to the end of
-serve: it folds where it faces something, and else calls, and is turned away
-where it comes again. Started again, serve goes on with the match that the
-stores have, and awaits all seats.
+act. If its connection ends or is refused, it dials the next node. With away =
+\"play\" in MATCH, once a seat's connection was lost, the default action is
+taken for it until serve ends, and its bot is refused: fold when facing a bet,
+else check. Started again, serve resumes the match that the stores have, and
+expects all seats.
 
-Standard error has notes, one a line: ports, who is awaited where, whom all
-wait for, who was seated, is gone or is played for, faults in what seats sent,
-nodes stopped and started, and at the end the score; before them seeds that
-can be guessed, and MATCH and stores that others can read. With --times the
-time (UTC) stands before each. Nothing is printed on standard output.
+Standard error has notes, one a line: ports, which seat is expected where,
+which seat the match waits for, which seats were seated or disconnected, or
+got the default action, faults in what seats sent, nodes stopped and started,
+and at the end the score; before them seeds that can be guessed, and MATCH and
+stores that others can read. With --times the time (UTC) stands before each.
+Nothing is printed on standard output.
 
 Exit status:
   0  the match is over
-  1  a port can't be bound or a node not be reached (105), a log is in use or
-     can't be opened, kept, emptied or written (106), a store is refused, or
-     failed and was no better when its node was started again (91), a node
-     can't go on (93, 94, 95), or memory was refused (92)
-  2  the command line is wrong, MATCH is refused (100, 101, 102), MATCH, its
-     game, match.kept or a store can't be read (104), a store is in use (108),
-     or the stores are of another match, or of nodes that run by node (109)
+  1  a port can't be bound or a node not be reached (105 LinkFailed), a log is
+     in use or can't be opened, kept, emptied or written (106 LogFailed), a
+     store was refused, or failed again after its node was restarted (91
+     Store), a node can't go on (93 Spent, 94 BadFrame, 95 Conflict), or
+     memory was refused (92 OutOfMemory)
+  2  the command line is wrong, MATCH is refused (100 NotToml, 101 BadEntry,
+     102 Game), MATCH, its game, match.kept or a store can't be read (104
+     Unreadable), a store is in use (108 StoreInUse), or the stores are of
+     another match, or of nodes that run by node (109 OtherMatch)
 The last line of standard error says which; where a port or a file is at
 fault, the line before names it.
 docs/OPERATING.md says how to set up a match, and what to do when it stands
@@ -226,18 +231,25 @@ paths and addresses, and in each node's table
   peers = \"HOST:PORT\"   where the node awaits the others
   seats = \"HOST:PORT\"   where it awaits seat 0; seat S at the port S higher
   status = \"HOST:PORT\"  perhaps: who connects gets a line on how it is
+  from = [\"HOST\", ..]   perhaps: other addresses from which it dials
 Above the tables may stand
-  key = \"FILE\"          the key under which the nodes prove who they are, and
-                        hide what they say; init MATCH --key FILE makes it,
-                        and each machine has a copy. Without it hosts must be
-                        addresses of this machine or of a private network
+  key = \"FILE\"          file with the shared key that authenticates and
+                        encrypts traffic between nodes; init MATCH --key FILE
+                        makes it, and each machine has a copy. Without it
+                        hosts must be addresses of this machine or of a
+                        private network
   tokens = [\"HEX\", ..]  the SHA-256 of each seat's token; then a bot's first
                         line is #TOKEN and its token, 64 hexadecimal digits.
                         Without them whoever reaches a seat's port has it;
                         init MATCH --tokens DIR makes them
-  patience = S          a seat for which all wait S seconds is played for: a
-                        number, or a text such as \"2.5\"
-port, outage, away, start and, in a node's table, from aren't used.
+  patience = S          action timeout in seconds, a number or a text such as
+                        \"2.5\"; after it the default action is taken for the
+                        seat
+  start = S             how long a seat that never came is waited for: 600
+                        seconds, if it isn't given
+  away = \"wait\"         a seat at which nobody is gets all of patience each
+                        time; else it is soon given up
+port and outage are for serve only, and ignored.
 
 Each node runs in a process of its own, on the machine of its store, which
 holdem_table init MATCH I makes: first that of node 0, which makes match.kept
@@ -248,23 +260,28 @@ and dials another one where its connection ends.
 
 Standard error has notes, one a line: that no key or tokens are named, a seed
 that can be guessed, MATCH, the store and files beside it that others can
-read, where the status is, which node of which match begins, which peers
-joined or are gone, faults of connections, whether more than half of the nodes
-are here, when this one campaigns, which seats were seated or are gone, came
-with a wrong token, or are played for; with --times the time (UTC) stands
+read, where the status is, which node of which match starts, which peers are
+connected or disconnected, in what their match files differ, faults of
+connections, whether more than half of the nodes are connected, when this one
+campaigns, which seats never came, were seated or disconnected, came with a
+wrong token, or got the default action; with --times the time (UTC) stands
 before each. Nothing is printed on standard output.
 
 Exit status:
   0  the match is over, and the other nodes know it
-  1  a port can't be bound (105), the log is in use or can't be opened, kept,
-     emptied or written (106), or memory was refused (92)
-  2  the command line is wrong, MATCH or its key is refused (100, 101, 102),
-     MATCH, its game, match.kept or the store can't be read or isn't there
-     (104), the store is in use (108), what lies beside the store is of
-     another match, node or source of deals (109), or a peer knows another
-     store of this node (127)
-  3  the store is refused or failed (91), or two commands were chosen at one
-     place (95): look at the disk, and restart the machine before the node
+  1  a port can't be bound (105 LinkFailed), the log is in use or can't be
+     opened, kept, emptied or written (106 LogFailed), or memory was refused
+     (92 OutOfMemory)
+  2  the command line is wrong, MATCH or its key is refused (100 NotToml, 101
+     BadEntry, 102 Game), MATCH, its game, match.kept or the store can't be
+     read or isn't there (104 Unreadable), the store is in use (108
+     StoreInUse), what lies beside the store is of another match, node or
+     source of deals (109 OtherMatch), or a peer knows another store of this
+     node (127 StoreReplaced)
+  3  the store was refused or failed (91 Store), the log would contradict one
+     of an earlier start (129 LogDiffers), or two commands were chosen for one
+     slot (95 Conflict): check the disk, and restart the machine before you
+     start the node again
 The last line of standard error says which; where an address or a file is at
 fault, the line before names it.
 docs/OPERATING.md says how to set up a match on three machines. docs/FAULTS.md

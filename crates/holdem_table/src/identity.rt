@@ -9,8 +9,8 @@ use dealer_kind::Config;
 use match_file::{
     Difference, NodeKept, kept_difference, read_identified, read_node_kept, source_digest,
 };
-use match_runs::{Cause, Unserved};
-use node_runs::{NodeNote, node_kept_path};
+use match_runs::Unserved;
+use operator_notes::{Cause, NodeNote, node_kept_path};
 use peer_codes::{Life, MatchDigest};
 use sha2::{Digest, Sha256};
 use std::{fs, io};

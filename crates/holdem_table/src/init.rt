@@ -9,7 +9,7 @@ use crate::seeds::tell_seeds;
 use crate::store_files::cause;
 use dealer_kind::Config;
 use match_file::MatchFile;
-use match_runs::{Cause, store_path};
+use operator_notes::{Cause, store_path};
 use promise_store::{FileDisk, Store, StoreFault};
 use std::alloc::AllocError;
 use std::fs::File;

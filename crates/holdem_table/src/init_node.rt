@@ -14,8 +14,8 @@ use match_file::{
     Key, MatchFault, MatchFile, MatchId, NodeKept, identified_text, kept_text, node_kept_text,
     source_digest,
 };
-use match_runs::{Cause, is_short, store_path};
-use node_runs::{NodeNote, node_kept_path};
+use match_runs::is_short;
+use operator_notes::{Cause, NodeNote, node_kept_path, store_path};
 use std::random::RandomSource;
 use std::{fs, io};
 use streamed::Ending;

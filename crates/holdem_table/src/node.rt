@@ -1,6 +1,8 @@
 //! `node`: runs one node of a match in a process of its own, from the files that a match file names.
 
-ghost use Rattle.std.specs.Prelude.{◌<◌, length, IfOk};
+ghost use Rattle.std.specs.Prelude.{◌≡◌, ◌<◌, length, IfOk};
+ghost use Rattle.match_runs.specs.Conclusion.{conclusion_of, conclusion_text};
+ghost use Rattle.node_runs.specs.NodeEnds.{end_text};
 
 use crate::arguments::NodeArguments;
 use crate::identity::{Identity, identify};
@@ -17,19 +19,21 @@ use crate::token_files::tell_tokens;
 use clockwork::limits::SHORTEST;
 use dealer_kind::Config;
 use dealer_node::NodeFault;
-use match_file::{Addresses, Key as Entry, MatchFault, MatchFile, NodeEntries};
-use match_runs::{Cause, Unserved, is_short, kept_log_path, log_path, store_path};
-use node_links::Own;
-use node_peers::Peers;
-use node_runs::{ComparedWire, KeptLog, NodeEnd, NodeNote, node_run};
+use match_file::{Absent, Addresses, Key as Entry, MatchFault, MatchFile, NodeEntries};
+use match_runs::{Unserved, is_short};
+use node_links::{Own, Settings};
+use node_peers::{NodeAddress, Peers};
+use node_runs::{ComparedWire, KeptLog, NodeEnd, node_run};
 use node_seats::{Seats, TokenDigest};
 use node_service::{LocalNode, NodeServer, Terms};
 use node_status::Askers;
 use node_wires::limits::NODES;
 use node_wires::{BindFault, Failed, TcpWire};
+use operator_notes::{Cause, NodeNote, kept_log_path, log_path, store_path};
 use peer_codes::{Key, Life};
 use promise_store::FileDisk;
 use serving::ServeFault;
+use sha2::{Digest, Sha256};
 use stations::Station;
 use std::alloc::AllocError;
 use std::fs::File;
@@ -37,6 +41,9 @@ use std::net::{IpAddr, SocketAddr};
 
 /// The process of a node over files and sockets.
 type TcpNode<'k, 'a> = NodeServer<FileDisk, ComparedWire<'k, TcpWire<'a>>>;
+
+/// How many milliseconds seats are waited for that haven't come yet, where the match file doesn't say it.
+const LONGEST_START: u32 = 600_000;
 
 /// Runs a node of the match of a match file until the match is over and all other nodes know it: speaks with the other nodes,
 /// listens for its seats, and keeps its store and its log.
@@ -47,9 +54,9 @@ type TcpNode<'k, 'a> = NodeServer<FileDisk, ComparedWire<'k, TcpWire<'a>>>;
 /// standard error, one a line; the one before a fault names its address or file, where it has one.
 pub(crate) fn node(rt: &HostRuntime, arguments: NodeArguments<'_>) -> Result<(), NodeEnd> {
     let mut notes = Notes::new(rt, arguments.has_times);
-    let text = read(rt, arguments.path, &mut notes)?;
+    let text = read(rt, arguments.path, &mut notes).map_err(end_by)?;
     tell_open_file(rt, arguments.path, &mut notes);
-    let file = MatchFile::read(rt.alloc(), &text).map_err(Unserved::from)?;
+    let file = MatchFile::read(rt.alloc(), &text)?;
     run_file(rt, &file, arguments.node, &mut notes)
 }
 
@@ -60,10 +67,10 @@ fn run_file(
     node: u8,
     notes: &mut Notes<'_>,
 ) -> Result<(), NodeEnd> {
-    tell_unused(rt, file, notes).map_err(Unserved::from)?;
-    let config = configure(rt, file, notes)?;
+    tell_unused(rt, file, notes)?;
+    let config = configure(rt, file, notes).map_err(end_by)?;
     config.limits();
-    let entries = entries_of(rt, file, &config, node, notes)?;
+    let entries = entries_of(rt, file, &config, node, notes).map_err(end_by)?;
     run_entries(rt, config, node, entries, notes)
 }
 
@@ -108,17 +115,21 @@ fn run_entries(
         logs: entries.logs,
         node,
     };
-    let access = place.access(entries, notes)?;
+    let access = place.access(entries, notes).map_err(end_by)?;
     let port = access.seats.port();
     let mut lives = LifeFiles::new(rt, place.stores, node);
     let mut old_logs = Vec::new(rt.alloc());
-    let (opened, kept) = place.open(&config, access, &lives, &mut old_logs, notes)?;
-    let mut server = place.begin(config, opened, KeptLog::new(&kept.text), notes)?;
+    let (opened, kept) = place
+        .open(&config, access, &lives, &mut old_logs, notes)
+        .map_err(end_by)?;
+    let mut server = place
+        .begin(config, opened, KeptLog::new(&kept.text), notes)
+        .map_err(end_by)?;
     let Err(end) = node_run(rt.alloc(), &mut server, &mut lives, port, notes) else {
         return Ok(());
     };
     match (end, server.wire().differing_hand()) {
-        (NodeEnd::Unserved(Unserved::Fault(ServeFault::LogFailed)), Some(hand)) => {
+        (NodeEnd::LogFailed, Some(hand)) => {
             place.tell_difference(hand, &kept, notes)?;
             Err(NodeEnd::LogDiffers)
         }
@@ -126,6 +137,21 @@ fn run_entries(
             place.tell_end(&server, &lives, end, notes)?;
             Err(end)
         }
+    }
+}
+
+/// How a node's process ends where it isn't begun.
+fn end_by(why: Unserved) -> NodeEnd
+    ensures { end_text result ≡ conclusion_text (conclusion_of why) }
+{
+    match why {
+        Unserved::Match(fault) => NodeEnd::Match(fault),
+        Unserved::Unreadable => NodeEnd::Unreadable,
+        Unserved::StoreInUse => NodeEnd::StoreInUse,
+        Unserved::OtherMatch(difference) => NodeEnd::OtherMatch(difference),
+        Unserved::Fault(ServeFault::LinkFailed) => NodeEnd::LinkFailed,
+        Unserved::Fault(ServeFault::LogFailed) => NodeEnd::LogFailed,
+        Unserved::Fault(ServeFault::Node(fault)) => NodeEnd::Node(fault),
     }
 }
 
@@ -144,8 +170,44 @@ struct Access {
     key: Option<Key>,
     /// What the token of each seat is known by.
     tokens: Option<Vec<TokenDigest>>,
-    /// After how many milliseconds a seat is played for.
+    times: Times,
+}
+
+/// How long seats are waited for, by the match file.
+#[derive(Clone, Copy)]
+struct Times {
+    /// After how many milliseconds a seat is played for, if the file says it.
     patience: Option<u32>,
+    /// How many milliseconds seats are waited for that haven't come yet, if the file says it.
+    start: Option<u32>,
+    /// Whether a seat at which nobody is has all of its time too.
+    waits: bool,
+}
+
+impl Times {
+    /// What the file of a node says of times and tokens, as its peers are told it: where one differs, a note tells it.
+    fn settings(self, tokens: &Option<Vec<TokenDigest>>) -> Settings {
+        Settings {
+            patience: self.patience.unwrap_or(0),
+            start: self.start.unwrap_or(0),
+            away: self.waits as u32,
+            tokens: head_of(tokens),
+        }
+    }
+}
+
+/// The first bytes of the SHA-256 of all digests of tokens, in the order of seats.
+fn head_of(tokens: &Option<Vec<TokenDigest>>) -> [u8; 8] {
+    let mut all = Sha256::new();
+    if let Some(tokens) = tokens {
+        for token in tokens {
+            all.update(token.bytes);
+        }
+    }
+    let digest = all.finalize();
+    let mut head = [0; 8];
+    head.copy_from_slice(&digest[..8]);
+    head
 }
 
 /// What a node has before its store is opened.
@@ -161,7 +223,10 @@ struct Opened<'a> {
     wire: TcpWire<'a>,
     key: Option<Key>,
     seats: Seats,
-    patience: Option<u32>,
+    /// The addresses of the nodes that dial this one.
+    addresses: Vec<NodeAddress>,
+    times: Times,
+    settings: Settings,
 }
 
 /// The kept log that the node's log must not contradict.
@@ -204,6 +269,18 @@ fn add_sources_of(
     Ok(())
 }
 
+/// Appends the addresses of a node from which it dials.
+fn put_addresses(
+    addresses: &mut Vec<NodeAddress>,
+    node: u8,
+    others: &[IpAddr],
+) -> Result<(), AllocError> {
+    for at in others {
+        addresses.push(NodeAddress { node, at: *at })?;
+    }
+    Ok(())
+}
+
 impl<'a> Place<'a> {
     /// What the entries say of it, with the key read from its file. Notes tell that none is named, and that there are no tokens,
     /// or which are known.
@@ -212,7 +289,9 @@ impl<'a> Place<'a> {
             addresses,
             key,
             tokens,
+            away,
             patience,
+            start,
             ..
         } = entries;
         let place = self.node as usize;
@@ -233,7 +312,11 @@ impl<'a> Place<'a> {
             status,
             key,
             tokens,
-            patience,
+            times: Times {
+                patience,
+                start,
+                waits: away == Some(Absent::Wait),
+            },
         })
     }
 
@@ -291,8 +374,10 @@ impl<'a> Place<'a> {
             status,
             key,
             tokens,
-            patience,
+            times,
         } = access;
+        let settings = times.settings(&tokens);
+        let addresses = self.dialling(&peers, &from)?;
         let mut wire = self.bind(peers, seats, players, status, notes)?;
         add_sources(&mut wire, &from)?;
         wire.add_log(self.begin_log(old_logs, notes)?);
@@ -306,7 +391,9 @@ impl<'a> Place<'a> {
             wire,
             key,
             seats,
-            patience,
+            addresses,
+            times,
+            settings,
         };
         Ok((opened, kept))
     }
@@ -330,19 +417,47 @@ impl<'a> Place<'a> {
             wire,
             key,
             seats,
-            patience,
+            addresses,
+            times,
+            settings,
         } = opened;
         let station = self.open_station(config, disk, notes)?;
         let alloc = self.rt.alloc();
-        let peers = Peers::new(alloc, self.own(nodes, identity, key), &known, SHORTEST)?;
+        let mut peers = Peers::new(alloc, self.own(nodes, identity, key), &known, SHORTEST)?;
+        peers.set_settings(settings);
+        peers.set_addresses(addresses);
         let askers = Askers::new(alloc)?;
         let member = LocalNode::new(alloc, station);
         let wire = ComparedWire::new(wire, kept);
         let terms = Terms {
             nodes,
-            patience: patience.map(in_microseconds),
+            patience: times.patience.map(in_microseconds),
+            start: in_microseconds(times.start.unwrap_or(LONGEST_START)),
+            gives_up: !times.waits,
+            settings: Some(settings),
         };
         Ok(NodeServer::new(alloc, member, wire, peers, seats, askers, terms))
+    }
+
+    /// The addresses of the nodes that dial this one, those of greater numbers.
+    fn dialling(
+        &self,
+        peers: &[SocketAddr],
+        from: &[Vec<IpAddr>],
+    ) -> Result<Vec<NodeAddress>, AllocError> {
+        let mut addresses = Vec::new(self.rt.alloc());
+        for node in self.node.saturating_add(1)..NODES as u8 {
+            if let Some(peer) = peers.get(node as usize) {
+                addresses.push(NodeAddress {
+                    node,
+                    at: peer.ip(),
+                })?;
+            }
+            if let Some(others) = from.get(node as usize) {
+                put_addresses(&mut addresses, node, others)?;
+            }
+        }
+        Ok(addresses)
     }
 
     /// The logs of the node, whose store has this life.
@@ -424,7 +539,7 @@ impl<'a> Place<'a> {
         hand: u32,
         kept: &Kept,
         notes: &mut Notes<'_>,
-    ) -> Result<(), Unserved> {
+    ) -> Result<(), AllocError> {
         let log = log_path(self.rt.alloc(), self.logs, self.node)?;
         let kept = kept_log_path(self.rt.alloc(), self.logs, self.node, kept.number)?;
         notes.tell_node(&NodeNote::LogDiffers {
@@ -442,16 +557,16 @@ impl<'a> Place<'a> {
         lives: &LifeFiles<'_>,
         end: NodeEnd,
         notes: &mut Notes<'_>,
-    ) -> Result<(), Unserved> {
+    ) -> Result<(), AllocError> {
         if lives.tell_failed(notes)? {
             return Ok(());
         }
         match end {
-            NodeEnd::Unserved(Unserved::Fault(ServeFault::Node(NodeFault::Store(_)))) => {
+            NodeEnd::Node(NodeFault::Store(_)) => {
                 let path = store_path(self.rt.alloc(), self.stores, self.node)?;
                 notes.tell_file(path.as_str(), store_cause(server));
             }
-            NodeEnd::Unserved(Unserved::Fault(ServeFault::LogFailed)) => {
+            NodeEnd::LogFailed => {
                 let path = log_path(self.rt.alloc(), self.logs, self.node)?;
                 notes.tell_file(path.as_str(), log_cause(server));
             }

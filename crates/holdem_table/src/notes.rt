@@ -1,11 +1,10 @@
 //! Where the notes of `init`, `serve` and `node` go.
 
 use crate::utc::Utc;
-use match_runs::{
-    Cause, tell_file, tell_made, tell_no_such_node, tell_not_kept, tell_open, tell_port,
-    tell_short_seeds, tell_unlocked, tell_unused, tell_unused_in_node,
+use operator_notes::{
+    Cause, NodeNote, tell_file, tell_made, tell_no_such_node, tell_node_note, tell_not_kept,
+    tell_open, tell_port, tell_short_seeds, tell_unlocked, tell_unused, tell_unused_in_node,
 };
-use node_runs::{NodeNote, tell_node_note};
 use std::io;
 use std::io::Write;
 use std::time::{SystemTime, UNIX_EPOCH};

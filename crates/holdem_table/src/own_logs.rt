@@ -6,8 +6,8 @@ use crate::log_files::{newest_kept, no_log};
 use crate::made_files::{Readers, put};
 use crate::notes::Notes;
 use match_file::{Difference, LogsKept, logs_kept_text, read_logs_kept};
-use match_runs::{Unserved, kept_log_path};
-use node_runs::logs_kept_path;
+use match_runs::Unserved;
+use operator_notes::{kept_log_path, logs_kept_path};
 use peer_codes::Life;
 use std::{fs, io};
 

@@ -17,9 +17,8 @@ use dealer_world::Cluster;
 use match_file::{MatchFile, Service};
 use match_links::limits::NODES;
 use match_links::{Failed, PortFault, TcpLinks};
-use match_runs::{
-    Cause, Conclusion, SeatPorts, Unserved, log_path, serve_run, store_path, tell_ports,
-};
+use match_runs::{Conclusion, Unserved, serve_run, tell_ports};
+use operator_notes::{Cause, SeatPorts, log_path, store_path};
 use promise_store::FileDisk;
 use serving::{Outages, ServeFault, Server};
 use std::alloc::AllocError;

@@ -9,7 +9,7 @@ use Rattle.toml.specs.Data.{Data, string, integer, array, table, Members, no_mem
 use Rattle.toml.specs.View.{items_of}
 use Rattle.match_file.specs.declared.absent.Absent.TheVariants.{Wait, Play}
 use Rattle.match_file.specs.declared.key.Key.{Key}
-use Rattle.match_file.specs.declared.key.Key.TheVariants.{Node, Stores, Away, KeyFile, Peers, Tokens, Patience, Start}
+use Rattle.match_file.specs.declared.key.Key.TheVariants.{Node, Stores, Port, Away, KeyFile, Peers, Tokens, Patience, Start}
 use Rattle.match_file.specs.declared.match_fault.MatchFault.TheVariants.{BadEntry}
 use Rattle.match_file.specs.Keys.{key_text}
 use Rattle.match_file.specs.Said.{IsAbsent}
@@ -232,8 +232,11 @@ status_at_the_top = refl
 key_is_used : unused_by_node keyed ≡ []
 key_is_used = refl
 
-start_is_not : unused_by_node (member (codes "start") (integer (pos 9)) no_members) ≡ Start ∷ []
-start_is_not = refl
+start_is_used : unused_by_node (member (codes "away") (string (codes "wait")) (member (codes "start") (integer (pos 9)) no_members)) ≡ []
+start_is_used = refl
+
+port_is_not : unused_by_node (member (codes "start") (integer (pos 9)) (member (codes "port") (integer (pos 7000)) no_members)) ≡ Port ∷ []
+port_is_not = refl
 
 -- a node goes by `from` in its table
 abbrev from_there : Data

@@ -11,7 +11,7 @@ use Rattle.toml.specs.View.{items_of}
 use Rattle.dealer_kind.specs.declared.source.Source.TheVariants.{Seed, Listed}
 use Rattle.match_file.specs.declared.node_kept.NodeKept.{NodeKept}
 use Rattle.match_file.specs.declared.logs_kept.LogsKept.{LogsKept}
-use Rattle.match_file.specs.declared.key.Key.TheVariants.{Logs, Port, Away, Peers, Seats}
+use Rattle.match_file.specs.declared.key.Key.TheVariants.{Logs, Port, Peers, Seats}
 use Rattle.match_file.specs.declared.match_fault.MatchFault.TheVariants.{BadEntry}
 use Rattle.match_file.specs.Identities.{identified_text, node_kept_text, life_text, logs_kept_text}
 use Rattle.match_file.specs.SourceTexts.{deal_line, source_text}
@@ -117,8 +117,8 @@ no_node_2 : unused_in_node 2 misspelt ≡ []
 no_node_2 = refl
 
 -- by these a node doesn't go, right or wrong
-two_unused_by_node : unused_by_node of_both ≡ Port ∷ Away ∷ []
-two_unused_by_node = refl
+one_unused_by_node : unused_by_node of_both ≡ Port ∷ []
+one_unused_by_node = refl
 
 none_unused_by_node : unused_by_node (member (codes "stores") (string (codes "s")) no_members) ≡ []
 none_unused_by_node = refl

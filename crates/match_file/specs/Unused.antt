@@ -28,7 +28,7 @@ is_there key table = is_some (entry_at key table)
 
 -- those by which `node` doesn't go, at which something stands
 abbrev pub unused_by_node : Members → List Key
-unused_by_node table = filter (λ key. is_there key table) (Port ∷ Outage ∷ Away ∷ Start ∷ [])
+unused_by_node table = filter (λ key. is_there key table) (Port ∷ Outage ∷ [])
 
 -- some command reads what stands at this key of a node's table
 abbrev pub is_used_in_node : List ℕ → Bool

@@ -27,8 +27,8 @@ const KEYS: [Key; 14] = [
     Key::Start,
 ];
 
-/// The keys by which a node in a process of its own doesn't go: two of `serve` alone, and two that it only reads.
-const UNUSED: [Key; 4] = [Key::Port, Key::Outage, Key::Away, Key::Start];
+/// The keys by which a node in a process of its own doesn't go: those of `serve` alone.
+const UNUSED: [Key; 2] = [Key::Port, Key::Outage];
 
 impl MatchFile {
     ghost use Rattle.match_file.specs.MatchFile.{members};
@@ -68,8 +68,8 @@ impl MatchFile {
         }
     }
 
-    /// The keys that stand in the file and by which a node in a process of its own doesn't go: those of `port`, `outage`,
-    /// `away` and `start`, in this order.
+    /// The keys that stand in the file and by which a node in a process of its own doesn't go: those of `port` and `outage`,
+    /// in this order.
     pub fn unused_by_node(&self, alloc: Global) -> Result<Vec<Key>, AllocError>
         ensures { IfOk result (λ keys. keys.items ≡ unused_by_node (members self.now)) }
     {

@@ -9,5 +9,4 @@ mod Answering
 mod Waiting
 mod Playing
 pub mod Scripting
-pub mod KeptLogs
 mod Bundles

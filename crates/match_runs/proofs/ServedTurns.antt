@@ -11,11 +11,12 @@ use Rattle.serving.specs.declared.turn.Turn.{Turn}
 use Rattle.serving.specs.declared.turn.Turn.TheVariants as turn
 use Rattle.serving.specs.declared.turn.Turn.TheVariants.{Over}
 use Rattle.serving.specs.declared.serve_fault.ServeFault.{ServeFault}
-use Rattle.match_runs.specs.Notes.{AreNoted, note_line, names_in, first_notes}
+use Rattle.operator_notes.specs.Notes.{AreNoted, note_line}
+use Rattle.match_runs.specs.Notes.{names_in, first_notes}
 use Rattle.match_runs.specs.Score.{TellsScore}
 use Rattle.match_runs.specs.Serving.{Turns, IsServed, more}
 use Rattle.match_runs.specs.Turning.{waits_after, AreDealt, TellsAfter}
-use Rattle.match_runs.specs.declared.seat_ports.SeatPorts.{SeatPorts}
+use Rattle.operator_notes.specs.declared.seat_ports.SeatPorts.{SeatPorts}
 
 pub ends_well : {D : Type 0} (g : Ghosts D) (ports : SeatPorts) (first before after : Served (Node D)) (start held between told : Option (List ℕ)) (awaited : Option (ℕ × ℕ)) (count waits : ℕ)
     → IsAwaited g before awaited → Turns g ports first start count waits before held → Turned g before (Ok Over) after

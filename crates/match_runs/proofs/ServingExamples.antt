@@ -2,6 +2,9 @@
 use Rattle.std.proofs.Common.{◌≡◌, ℕ, zero, suc, ◌+◌, ◌-◌, ◌^◌, List, [], ◌∷◌, ◌++◌, inl, inr, refl, sym, subst, arith}
 use Rattle.std.specs.Prelude.{codes, true, false, Option, Some, None, Ok, Err}
 use Rattle.std.specs.Fmt.{digits}
+use Rattle.std.specs.Net.Addr.{ipv4_octets}
+use Rattle.std.specs.declared.net.ip_addr.IpAddr.TheVariants.{V4}
+use Rattle.std.specs.declared.net.ipv4_addr.Ipv4Addr.{Ipv4Addr}
 use Rattle.std.specs.List.{flat_map}
 use Rattle.seat_session.specs.declared.session_fault.SessionFault.TheVariants.{NotCurrent, Illegal}
 use Rattle.betting.specs.declared.fault.ActFault.TheVariants.{FoldNotFacing, RaiseTooSmall}
@@ -13,19 +16,20 @@ use Rattle.serving.specs.declared.serve_fault.ServeFault.TheVariants as serve
 use Rattle.serving.specs.declared.turn.Turn.TheVariants as turn
 use Rattle.serving.specs.declared.turn.Turn.TheVariants.{Over}
 use Rattle.std.specs.declared.io.ErrorKind.TheVariants as kind
-use Rattle.match_runs.specs.declared.cause.Cause.TheVariants.{InUse, NotHere, NoRoom, Failed, Unknown}
-use Rattle.match_runs.specs.Causes.{cause_of}
+use Rattle.operator_notes.specs.declared.cause.Cause.TheVariants.{InUse, NotHere, NoRoom, Failed, Unknown}
+use Rattle.operator_notes.specs.Causes.{cause_of}
 use Rattle.dealer_kind.specs.declared.source.Source.TheVariants.{Seed}
 use Rattle.match_runs.specs.Seeds.{drawn_seed, short_seeds}
-use Rattle.match_runs.specs.declared.note.About.TheVariants.{Seated, Gone, Played, WrongToken, Faulty}
-use Rattle.match_runs.specs.declared.note.Note.TheVariants as note
+use Rattle.operator_notes.specs.declared.note.About.TheVariants.{Seated, Gone, Played, WrongToken, Faulty}
+use Rattle.operator_notes.specs.declared.note.Note.TheVariants as note
 use Rattle.match_runs.specs.declared.conclusion.Conclusion.TheVariants.{Ended, Served}
 use Rattle.streamed.specs.declared.ending.Ending.TheVariants.{Done, Match, Unreadable, StreamFailed}
 use Rattle.match_file.specs.declared.match_fault.MatchFault.TheVariants.{OutOfMemory}
-use Rattle.match_runs.specs.declared.seat_ports.SeatPorts.{SeatPorts}
+use Rattle.operator_notes.specs.declared.seat_ports.SeatPorts.{SeatPorts}
 use Rattle.match_runs.specs.declared.unserved.Unserved.TheVariants as unserved
-use Rattle.match_runs.specs.NodeFiles.{store_name, log_name}
-use Rattle.match_runs.specs.Notes.{note_text, note_line, seat_text, refused_text, waiting_text, waiting_lines, seat_lines, newest_of, played_lines, turn_lines, is_told, IsNoted, port_at, ports_notes, awaited_notes, first_notes, failure_notes}
+use Rattle.operator_notes.specs.NodeFiles.{store_name, log_name}
+use Rattle.operator_notes.specs.Notes.{note_text, note_line, seat_text, refused_text, times_text, waiting_text, IsNoted, port_at}
+use Rattle.match_runs.specs.Notes.{waiting_lines, seat_lines, newest_of, played_lines, turn_lines, is_told, ports_notes, awaited_notes, first_notes, failure_notes}
 use Rattle.match_links.specs.Passages.{Told, Logged}
 use Rattle.serving.specs.Giving.{given_as}
 use Rattle.match_runs.specs.Passing.{IsPart, pieces_between, put_by, told_by}
@@ -34,7 +38,7 @@ use Rattle.match_runs.specs.Conclusion.{status_of, conclusion_text, conclusion_o
 use Rattle.match_runs.specs.Serving.{last_turn}
 use Rattle.match_runs.specs.Turning.{waits_after}
 
-alice_is_awaited : note_text (note.Awaiting 0 (codes "alice") 1 2002) ≡ codes "awaiting seat 0 (alice) at node 1, port 2002"
+alice_is_awaited : note_text (note.Awaiting 0 (codes "alice") 1 2002) ≡ codes "seat 0 (alice) not connected: expected at node 1, port 2002"
 unfolding digits
 alice_is_awaited = refl
 
@@ -42,32 +46,40 @@ alice_is_seated : note_text (note.Seat 0 (codes "alice") (Seated 1)) ≡ codes "
 unfolding digits
 alice_is_seated = refl
 
-bob_is_gone : note_text (note.Seat 1 (codes "bob") (Gone 0)) ≡ codes "seat 1 (bob) at node 0: gone"
+bob_is_gone : note_text (note.Seat 1 (codes "bob") (Gone 0)) ≡ codes "seat 1 (bob) at node 0: disconnected"
 unfolding digits
 bob_is_gone = refl
 
-bob_is_played_for : note_text (note.Seat 1 (codes "bob") (Played 1 17)) ≡ codes "seat 1 (bob) at node 1, hand 17: played for"
+bob_is_played_for : note_text (note.Seat 1 (codes "bob") (Played 1 17)) ≡ codes "seat 1 (bob) at node 1, hand 17: absent, default action ordered"
 unfolding digits
 bob_is_played_for = refl
 
--- how many came without alice's token is told where it was more than one
-somebody_else_came : note_text (note.Seat 0 (codes "alice") (WrongToken 1 1)) ≡ codes "seat 0 (alice) at node 1: wrong token"
+-- where one came from without alice's token is told where that is known
+somebody_else_came : note_text (note.Seat 0 (codes "alice") (WrongToken 1 None)) ≡ codes "seat 0 (alice) at node 1: wrong token"
 unfolding digits
 somebody_else_came = refl
 
-many_others_came : note_text (note.Seat 0 (codes "alice") (WrongToken 1 37)) ≡ codes "seat 0 (alice) at node 1: wrong token (37 times)"
+came_from_an_address : (address : Ipv4Addr) → ipv4_octets address ≡ 10 ∷ 0 ∷ 0 ∷ 7 ∷ [] → note_text (note.Seat 0 (codes "alice") (WrongToken 1 (Some (V4 address)))) ≡ codes "seat 0 (alice) at node 1: wrong token (from 10.0.0.7)"
 unfolding digits
-many_others_came = refl
+came_from_an_address address octets = rw octets refl
+
+-- how many times it was is told of more than one
+two_times : times_text 2 ≡ codes " (2 times)"
+unfolding digits
+two_times = refl
+
+one_time : times_text 1 ≡ []
+one_time = refl
 
 -- at node 0 three hands were dealt, at node 1 eighteen, at node 2, which is down, none
 abbrev three_and_eighteen : List ℕ
 three_and_eighteen = 3 ∷ 18 ∷ 0 ∷ []
 
-an_order_is_told_in_the_newest_hand_of_its_node : played_lines (codes "alice" ∷ codes "bob" ∷ []) three_and_eighteen 1 1 ≡ (codes "seat 1 (bob) at node 1, hand 17: played for" ++ 10 ∷ []) ∷ []
+an_order_is_told_in_the_newest_hand_of_its_node : played_lines (codes "alice" ∷ codes "bob" ∷ []) three_and_eighteen 1 1 ≡ (codes "seat 1 (bob) at node 1, hand 17: absent, default action ordered" ++ 10 ∷ []) ∷ []
 unfolding digits
 an_order_is_told_in_the_newest_hand_of_its_node = refl
 
-at_another_node_in_another_hand : played_lines (codes "alice" ∷ codes "bob" ∷ []) three_and_eighteen 1 0 ≡ (codes "seat 1 (bob) at node 0, hand 2: played for" ++ 10 ∷ []) ∷ []
+at_another_node_in_another_hand : played_lines (codes "alice" ∷ codes "bob" ∷ []) three_and_eighteen 1 0 ≡ (codes "seat 1 (bob) at node 0, hand 2: absent, default action ordered" ++ 10 ∷ []) ∷ []
 unfolding digits
 at_another_node_in_another_hand = refl
 
@@ -95,11 +107,11 @@ an_answer_was_refused : seat_text 1 (codes "bob") ++ refused_text 0 17 (codes "r
 unfolding digits
 an_answer_was_refused = refl
 
-an_answer_came_late : seat_text 0 (codes "alice") ++ refused_text 2 3 (codes "c") NotCurrent true ≡ codes "seat 0 (alice) at node 2, hand 3: c: 83 NotCurrent late"
+an_answer_came_late : seat_text 0 (codes "alice") ++ refused_text 2 3 (codes "c") NotCurrent true ≡ codes "seat 0 (alice) at node 2, hand 3: c: 83 NotCurrent (answers an earlier line)"
 unfolding digits
 an_answer_came_late = refl
 
-alice_has_a_line_and_sends_nothing : waiting_text 0 (codes "alice") 0 7000 (Some (codes "MATCHSTATE:0:3:c:AhKd|")) ≡ codes "waiting for seat 0 (alice) at node 0, port 7000: MATCHSTATE:0:3:c:AhKd|"
+alice_has_a_line_and_sends_nothing : waiting_text 0 (codes "alice") 0 7000 (Some (codes "MATCHSTATE:0:3:c:AhKd|")) ≡ codes "waiting for seat 0 (alice) at node 0, port 7000, to answer MATCHSTATE:0:3:c:AhKd|"
 unfolding digits
 alice_has_a_line_and_sends_nothing = refl
 
@@ -115,7 +127,7 @@ a_port_is_named_alone : note_text (note.Port 7000 Unknown) ≡ codes "port 7000"
 unfolding digits
 a_port_is_named_alone = refl
 
-no_match_is_kept : note_text note.NotKept ≡ codes "no match.kept: whether the stores are of this match can't be told"
+no_match_is_kept : note_text note.NotKept ≡ codes "match.kept not found: can't verify that the stores belong to this match"
 no_match_is_kept = refl
 
 there_is_no_such_node : note_text (note.NoSuchNode 3 3) ≡ codes "node 3: the match has 3 nodes, counted from 0"

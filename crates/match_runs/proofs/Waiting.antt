@@ -1,15 +1,27 @@
 -- What is told of one turn, by what was told step by step.
-use Rattle.std.proofs.Common.{◌≡◌, ℕ, Bool, true, false, List, map, refl, sym, subst}
-use Rattle.std.specs.Prelude.{Option, None}
+use Rattle.std.proofs.Common.{◌≡◌, ℕ, Bool, true, false, List, [], ◌∷◌, map, refl, sym, subst}
+use Rattle.std.specs.Prelude.{Option, Some, None, slice_get}
+use Rattle.std.proofs.KnownBytes.{Keeps-refl}
 use Rattle.dealer_node.specs.declared.fault.NodeFault.{NodeFault}
 use Rattle.dealer_world.specs.Stepping.{View}
 use Rattle.serving.specs.Served.{Served}
 use Rattle.serving.specs.declared.turn.Turn.{Turn}
 use Rattle.serving.specs.declared.turn.Turn.TheVariants as turn
-use Rattle.match_runs.specs.Notes.{AreNoted, note_line, names_in, waiting_lines, failure_notes}
+use Rattle.operator_notes.specs.declared.note.Note.{Note}
+use Rattle.operator_notes.specs.declared.note.Note.TheVariants as note
+use Rattle.operator_notes.specs.Notes.{IsNoted, AreNoted, note_line, port_at}
+use Rattle.match_runs.specs.Notes.{names_in, awaited_notes, waiting_lines, failure_notes}
 use Rattle.match_runs.specs.SeatLines.{HasLine}
 use Rattle.match_runs.specs.Turning.{TellsWaiting, TellsDone, TellsCall, TellsAfter}
-use Rattle.match_runs.specs.declared.seat_ports.SeatPorts.{SeatPorts}
+use Rattle.operator_notes.specs.declared.seat_ports.SeatPorts.{SeatPorts}
+
+-- a seat that is awaited was told
+pub awaited_noted : (names : List (List ℕ)) (ports : SeatPorts) (awaited : Option (ℕ × ℕ)) (seat node port : ℕ) (name : List ℕ) (held held_after : Option (List ℕ)) → awaited ≡ Some (seat, node) → slice_get names seat ≡ Some name
+    → port ≡ port_at ports node seat → IsNoted (note_line (note.Awaiting seat name node port)) held held_after → AreNoted (map note_line (awaited_notes names ports awaited)) held held_after
+awaited_noted names ports awaited seat node port name held held_after is at port_is noted =
+    subst (λ (a : Option (ℕ × ℕ)). AreNoted (map note_line (awaited_notes names ports a)) held held_after) (sym is)
+    (subst (λ (n : Option (List ℕ)). AreNoted (map note_line (elim n as (λ _. List Note) [ Some name ↦ note.Awaiting seat name node (port_at ports node seat) ∷ [] | None ↦ [] ])) held held_after) (sym at)
+    (held_after, subst (λ (p : ℕ). IsNoted (note_line (note.Awaiting seat name node p)) held held_after) port_is noted, Keeps-refl held_after))
 
 -- it was told of a seat that is awaited
 pub awaited_told : {N : Type 0} (view : View N) (ports : SeatPorts) (is_awaited : Bool) (seat node : ℕ) (held held_after : Option (List ℕ)) → is_awaited ≡ true

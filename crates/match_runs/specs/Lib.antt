@@ -1,10 +1,7 @@
 pub mod Played
 pub mod Scripted
 pub mod PlayOutcome
-pub mod NodeFiles
-pub mod LogNames
 pub mod Conclusion
-pub mod Causes
 pub mod Notes
 pub mod SeatLines
 pub mod Seeds

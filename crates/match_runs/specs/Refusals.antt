@@ -12,7 +12,8 @@ use Rattle.seat_session.specs.declared.session_fault.SessionFault.TheVariants.{N
 use Rattle.dealer_node.specs.declared.seat_fault.SeatFault.{SeatFault}
 use Rattle.dealer_world.specs.Records.{Record}
 use Rattle.dealer_world.specs.Stepping.{View}
-use Rattle.match_runs.specs.Notes.{AreNoted, names_in, seat_lines, faulty_text, refused_text}
+use Rattle.operator_notes.specs.Notes.{AreNoted, faulty_text, refused_text}
+use Rattle.match_runs.specs.Notes.{names_in, seat_lines}
 use Rattle.match_runs.specs.SeatLines.{IsLate}
 
 -- ---- what a piece says

@@ -4,7 +4,7 @@ use Rattle.std.specs.Io.KnownBytes.{Keeps}
 use Rattle.protocol_model.specs.Dealers.{Log}
 use Rattle.dealer_world.specs.Records.{Piece}
 use Rattle.streamed.specs.Script.{HasNoFeed}
-use Rattle.match_runs.specs.Notes.{IsNoted}
+use Rattle.operator_notes.specs.Notes.{IsNoted}
 
 -- a text that ends in a line feed
 abbrev pub EndsInFeed : List ℕ → Type 0

@@ -12,10 +12,11 @@ use Rattle.serving.specs.declared.turn.Turn.{Turn}
 use Rattle.serving.specs.declared.turn.Turn.TheVariants.{Over}
 use Rattle.serving.specs.declared.serve_fault.ServeFault.{ServeFault}
 use Rattle.serving.specs.declared.serve_fault.ServeFault.TheVariants.{Node as OfNode}
-use Rattle.match_runs.specs.Notes.{AreNoted, note_line, names_in, first_notes}
+use Rattle.operator_notes.specs.Notes.{AreNoted, note_line}
+use Rattle.match_runs.specs.Notes.{names_in, first_notes}
 use Rattle.match_runs.specs.Score.{TellsScore}
 use Rattle.match_runs.specs.Turning.{waits_after, AreDealt, TellsAfter}
-use Rattle.match_runs.specs.declared.seat_ports.SeatPorts.{SeatPorts}
+use Rattle.operator_notes.specs.declared.seat_ports.SeatPorts.{SeatPorts}
 
 -- what the last turn answered, by how serving ended
 abbrev pub last_turn : Result (Unit {0}) ServeFault → Result Turn ServeFault

@@ -11,10 +11,11 @@ use Rattle.dealer_world.specs.Stepping.{View}
 use Rattle.serving.specs.Served.{Served}
 use Rattle.serving.specs.declared.turn.Turn.{Turn}
 use Rattle.serving.specs.declared.turn.Turn.TheVariants as turn
-use Rattle.match_runs.specs.Notes.{AreNoted, note_line, names_in, is_told, waiting_lines, played_lines, turn_lines, failure_notes}
+use Rattle.operator_notes.specs.Notes.{AreNoted, note_line}
+use Rattle.match_runs.specs.Notes.{names_in, is_told, waiting_lines, played_lines, turn_lines, failure_notes}
 use Rattle.match_runs.specs.Refusals.{TellsFaults}
 use Rattle.match_runs.specs.SeatLines.{HasLine}
-use Rattle.match_runs.specs.declared.seat_ports.SeatPorts.{SeatPorts}
+use Rattle.operator_notes.specs.declared.seat_ports.SeatPorts.{SeatPorts}
 
 -- how many turns in a row have waited, after this one
 abbrev pub waits_after : Turn → ℕ → ℕ

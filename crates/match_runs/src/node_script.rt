@@ -5,9 +5,10 @@ ghost use Rattle.match_runs.specs.PlayOutcome.{SaysPlan, IsNoPlan, AnswersPlay, 
 use crate::scripted::Scripted;
 use dealer_kind::Config;
 use match_file::{MatchFault, MatchFile};
+use operator_notes::Stop;
 use std::alloc::Global;
 use std::io::{Read, Write};
-use streamed::{Ending, MOST_READS, Pieces, Stop};
+use streamed::{Ending, MOST_READS, Pieces};
 
 /// Runs all nodes of a match over a network in memory, driven by a script, which the reader gives in any pieces.
 ///

@@ -5,16 +5,16 @@ ghost use Rattle.dealer_world.specs.Viewing.{view_of};
 ghost use Rattle.matchstate.specs.Answer.{IsCut};
 ghost use Rattle.matchstate.specs.Line.{IsField};
 ghost use Rattle.seat_session.specs.Lines.{text_of};
-ghost use Rattle.match_runs.specs.Notes.{about_text};
+ghost use Rattle.operator_notes.specs.Notes.{about_text};
 ghost use Rattle.match_runs.specs.Score.{EndsInFeed};
 ghost use Rattle.match_runs.specs.Refusals.{IsOneLine, Answers, AnswersNothing, IsTold, IsToldLate, is_of_answer};
 
-use crate::note::About;
 use crate::seat_lines::is_late;
 use dealer_node::SeatFault;
 use dealer_world::Cluster;
 use game_def::GameDef;
 use matchstate::read_answer;
+use operator_notes::About;
 use promise_store::Disk;
 use seat_session::SessionFault;
 

@@ -3,10 +3,10 @@ ghost use Rattle.std.specs.Io.KnownBytes.{Keeps};
 ghost use Rattle.match_runs.specs.Scripted.{Reaches, ReachesOn, BeginsPlay, BreaksPlay};
 
 use dealer_kind::Config;
+use operator_notes::{Stop, send};
 use playing::Playing;
 use std::alloc::{AllocError, Global};
 use std::io::Write;
-use streamed::{Stop, send};
 
 /// A script of `play` on its way: the cluster as the lines so far have made it, what has come of the next line, and
 /// room for an answer.

@@ -7,17 +7,18 @@ ghost use Rattle.dealer_world.specs.Promise.{IsPromised, GoesOnFrom, HasNoForged
 ghost use Rattle.dealer_node.specs.Seeing.{begun_of};
 ghost use Rattle.serving.specs.Serving.{served_of};
 ghost use Rattle.serving.specs.Turned.{HasGivenAll};
-ghost use Rattle.match_runs.specs.Notes.{AreNoted, note_line, names_in, first_notes, is_told};
+ghost use Rattle.operator_notes.specs.Notes.{AreNoted, note_line};
+ghost use Rattle.match_runs.specs.Notes.{names_in, first_notes, is_told};
 ghost use Rattle.match_runs.specs.Passing.{IsWithin, HandsOn};
 ghost use Rattle.match_runs.specs.Serving.{IsServed};
 ghost use Rattle.match_runs.specs.Turning.{waits_after, TellsAfter, TellsCall};
 
 use crate::dealt::Dealt;
-use crate::seat_ports::SeatPorts;
 use crate::telling::{tell_awaited, tell_failure, tell_score, tell_turn, tell_waiting};
 use dealer_node::NodeFault;
 use dealer_world::Cluster;
 use match_links::Links;
+use operator_notes::SeatPorts;
 use promise_store::Disk;
 use serving::{ServeFault, Server, Turn};
 use std::alloc::Global;

@@ -3,20 +3,20 @@
 ghost use Rattle.std.specs.Prelude.{◌≡◌, ◌+◌, ◌<◌, ◌∷◌, ◌++◌, None, Some, IfSome, IsNone, drop, length, map, slice_get, take};
 ghost use Rattle.dealer_world.specs.Viewing.{view_of};
 ghost use Rattle.streamed.specs.Script.{HasNoFeed};
-ghost use Rattle.match_runs.specs.Notes.{AreNoted, note_line, names_in, ports_notes, awaited_notes, seat_lines, played_lines, waiting_lines, about_text, failure_notes};
+ghost use Rattle.operator_notes.specs.Notes.{AreNoted, note_line, about_text};
+ghost use Rattle.match_runs.specs.Notes.{names_in, ports_notes, awaited_notes, seat_lines, played_lines, waiting_lines, failure_notes};
 ghost use Rattle.match_runs.specs.Refusals.{TellsFault, TellsFaults};
 ghost use Rattle.match_runs.specs.Turning.{TellsDone, TellsWaiting};
 ghost use Rattle.match_runs.specs.Score.{IsLastLine, EndsInFeed, IsLastLog, HasNoLog, TellsScore};
 
 use crate::dealt::Dealt;
-use crate::note::{About, Note, tell_note};
 use crate::refusals::about_fault;
 use crate::seat_lines::newest_line;
-use crate::seat_ports::SeatPorts;
 use dealer_kind::Config;
 use dealer_node::{NodeFault, Reader, SeatFault};
 use dealer_world::Cluster;
 use match_log::Name;
+use operator_notes::{About, Note, SeatPorts, tell_note};
 use promise_store::Disk;
 use serving::Turn;
 use std::alloc::Global;

@@ -40,7 +40,7 @@ passed came told limits next account later kept waits = record {
 
 -- of no group more lines find room than of any
 pub room_at_most : (group : ℕ) → room_of group ≤ 50
-room_at_most group = cond_both (nat_lt group 110) 40 50 (λ (n : ℕ). n ≤ 50) (λ is. omega arith) (λ is. omega arith)
+room_at_most group = cond_both (nat_lt group 173) 40 50 (λ (n : ℕ). n ≤ 50) (λ is. omega arith) (λ is. omega arith)
 
 pub sum_pushed : (group : ℕ) (counts : List Count) (one : Count) → sum_of group (counts ++ one ∷ []) ≡ sum_of group counts + cond (one.group == group) one.count 0
 sum_pushed group counts one = sum_by_push (λ (x : Count). cond (is_of group x) x.count 0) counts one
@@ -63,7 +63,7 @@ told_line came came_then told limits next one account room time same more least 
           omega (arith, short, most, in_all));
       low = at_most_more 40 is_low limits.clock limits.recent.items told one account.recent time account.low (λ is.
           let short = count_by-le-length is_low limits.recent.items in
-          let most : room_of one.group ≡ 40 = cond-true (nat_lt one.group 110) 40 50 is in
+          let most : room_of one.group ≡ 40 = cond-true (nat_lt one.group 173) 40 50 is in
           omega (arith, short, most, in_all));
       each = λ group. at_most_more (most_of group) (is_of group) limits.clock limits.recent.items told one account.recent time (account.each group) (λ is.
           subst (λ (g : ℕ). count_by (is_of g) limits.recent.items < most_of g) (eqb-true one.group group is) of_group);

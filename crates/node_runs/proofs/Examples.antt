@@ -15,14 +15,13 @@ use Rattle.node_links.specs.declared.peer_fault.PeerFault.TheVariants.{Record, A
 use Rattle.node_links.specs.declared.peer_fault.Whose.TheVariants.{Own}
 use Rattle.promise_store.specs.declared.fault.StoreFault.TheVariants.{Disk}
 use Rattle.dealer_node.specs.declared.fault.NodeFault.TheVariants as fault
-use Rattle.serving.specs.declared.serve_fault.ServeFault.TheVariants as serve
 use Rattle.match_file.specs.declared.match_fault.MatchFault.TheVariants as file
-use Rattle.match_runs.specs.declared.unserved.Unserved.TheVariants as unserved
 use Rattle.node_service.specs.declared.server_notice.ServerNotice.TheVariants as told
-use Rattle.node_runs.specs.BesideStore.{node_kept_name, life_name, logs_kept_name}
-use Rattle.node_runs.specs.KeyFiles.{fault_of, keyed}
+use Rattle.operator_notes.specs.BesideStore.{node_kept_name, life_name, logs_kept_name}
+use Rattle.operator_notes.specs.KeyFaults.{fault_of}
+use Rattle.node_runs.specs.KeyFiles.{keyed}
 use Rattle.node_runs.specs.KeptLogs.{BeginsWell, ArePrintable, GoesOn}
-use Rattle.node_runs.specs.NodeNotes.{note_text, note_line}
+use Rattle.operator_notes.specs.NodeNotes.{note_text, note_line}
 use Rattle.node_runs.specs.Tokens.{tokens_line}
 use Rattle.node_runs.specs.NodeEnds.{status_of, end_text}
 use Rattle.node_runs.specs.NoteGroups.{group_of, most_of, others}
@@ -30,10 +29,12 @@ use Rattle.node_runs.specs.NoteLimits.{IsAtMost, IsNoneDue, has_room, is_of, is_
 use Rattle.node_runs.specs.ServerNotes.{notice_lines, group_lines}
 use Rattle.node_runs.specs.WaitingNotes.{newest_of}
 use Rattle.node_runs.specs.declared.note_limits.Count.{Count}
-use Rattle.seat_session.specs.declared.session_fault.SessionFault.TheVariants.{LineTooLong}
-use Rattle.node_runs.specs.declared.key_file.KeyFault.TheVariants as key
+use Rattle.seat_session.specs.declared.session_fault.SessionFault.TheVariants.{Illegal, LineTooLong, NotCurrent}
+use Rattle.betting.specs.declared.fault.ActFault.TheVariants.{RaiseTooSmall}
+use Rattle.node_service.specs.declared.server_notice.Setting.TheVariants.{Patience, Start, Away, Tokens}
+use Rattle.operator_notes.specs.declared.key_fault.KeyFault.TheVariants as key
 use Rattle.node_runs.specs.declared.node_end.NodeEnd.TheVariants as end
-use Rattle.node_runs.specs.declared.node_note.NodeNote.TheVariants as note
+use Rattle.operator_notes.specs.declared.node_note.NodeNote.TheVariants as note
 
 abbrev names : List (List ℕ)
 names = codes "alice" ∷ codes "bob" ∷ []
@@ -95,11 +96,11 @@ a_longer_file file mode length = rw (mode, length) refl
 
 -- ---- notes
 
-it_begins : note_text (note.Begins (codes "m1") 2 7) ≡ codes "match m1 node 2 front 7"
+it_begins : note_text (note.Begins (codes "m1") 2 7) ≡ codes "match m1, node 2: started, first unchosen slot 7"
 unfolding digits
 it_begins = refl
 
-one_joined : note_line (note.Joined 1) ≡ codes "peer 1: joined" ++ 10 ∷ []
+one_joined : note_line (note.Joined 1) ≡ codes "peer 1: connected" ++ 10 ∷ []
 unfolding digits
 one_joined = refl
 
@@ -113,36 +114,66 @@ unfolding digits
 there_already address octets = rw octets refl
 
 -- how many callers it were is told of more than one
-one_caller : notice_lines names 1 7010 (told.Callers 1 (Record BadHello)) ≡ (codes "caller: 122 BadHello" ++ 10 ∷ []) ∷ []
+one_caller : notice_lines names 1 7010 (told.Callers None 1 (Record BadHello)) ≡ (codes "inbound connection refused: 122 BadHello" ++ 10 ∷ []) ∷ []
 one_caller = refl
 
-three_callers : notice_lines names 1 7010 (told.Callers 3 (Record BadLength)) ≡ (codes "caller: 120 BadLength (3 times)" ++ 10 ∷ []) ∷ []
+three_callers : notice_lines names 1 7010 (told.Callers None 3 (Record BadLength)) ≡ (codes "inbound connection refused: 120 BadLength (3 times)" ++ 10 ∷ []) ∷ []
 unfolding digits
 three_callers = refl
+
+one_caller_at_a_peer : notice_lines names 1 7010 (told.Callers (Some 2) 1 (Record BadHello)) ≡ (codes "inbound connection refused: 122 BadHello (from peer 2's address)" ++ 10 ∷ []) ∷ []
+unfolding digits
+one_caller_at_a_peer = refl
+
+-- in what the match file of a peer differs; a time is told in seconds
+other_patience : notice_lines names 1 7010 (told.Setting 2 Patience 100000 12000) ≡ (codes "peer 2: patience 100, here 12" ++ 10 ∷ []) ∷ []
+unfolding digits
+other_patience = refl
+
+other_start : notice_lines names 1 7010 (told.Setting 2 Start 1050 0) ≡ (codes "peer 2: start 1.050, here none" ++ 10 ∷ []) ∷ []
+unfolding digits
+other_start = refl
+
+other_away : notice_lines names 1 7010 (told.Setting 2 Away 1 0) ≡ (codes "peer 2: away wait, here play" ++ 10 ∷ []) ∷ []
+unfolding digits
+other_away = refl
+
+other_tokens : notice_lines names 1 7010 (told.Setting 2 Tokens 0 0) ≡ (codes "peer 2: tokens differ" ++ 10 ∷ []) ∷ []
+unfolding digits
+other_tokens = refl
+
+-- the hand is told of an answer to the newest line, and of no other
+too_small_in_hand_17 : notice_lines names 1 7010 (told.Faulty 1 (Illegal (RaiseTooSmall 200)) (Some 17)) ≡ (codes "seat 1 (bob) at node 1, hand 17: 85 Illegal 24 RaiseTooSmall 200" ++ 10 ∷ []) ∷ []
+unfolding digits
+too_small_in_hand_17 = refl
+
+not_current_in_no_hand : notice_lines names 1 7010 (told.Faulty 1 NotCurrent (Some 17)) ≡ (codes "seat 1 (bob) at node 1: 83 NotCurrent" ++ 10 ∷ []) ∷ []
+unfolding digits
+not_current_in_no_hand = refl
 
 many_left_out : note_text (note.LeftOut 1204) ≡ codes "1204 notes left out"
 unfolding digits
 many_left_out = refl
 
 -- a count of several is told by the newest of the group; of notes that have no group of their own only how many they were
-many_wrong_lines : group_lines names 1 7010 (Some (told.Faulty 0 LineTooLong)) 1 1204 ≡ (codes "seat 0 (alice) at node 1: 81 LineTooLong (1204 times)" ++ 10 ∷ []) ∷ []
+many_wrong_lines : group_lines names 1 7010 (Some (told.Faulty 0 LineTooLong None)) 1 1204 ≡ (codes "seat 0 (alice) at node 1: 81 LineTooLong (1204 times)" ++ 10 ∷ []) ∷ []
 unfolding digits
 many_wrong_lines = refl
 
-eleven_others : group_lines names 1 7010 (Some told.Quorum) 124 11 ≡ (codes "11 notes left out" ++ 10 ∷ []) ∷ []
+eleven_others : group_lines names 1 7010 (Some told.Quorum) 187 11 ≡ (codes "11 notes left out" ++ 10 ∷ []) ∷ []
 unfolding digits
 eleven_others = refl
 
-one_other : group_lines names 1 7010 (Some told.Quorum) 124 1 ≡ (codes "quorum" ++ 10 ∷ []) ∷ []
+one_other : group_lines names 1 7010 (Some told.Quorum) 187 1 ≡ (codes "quorum: more than half of the nodes are connected" ++ 10 ∷ []) ∷ []
 one_other = refl
 
-seven_without_a_place : group_lines names 1 7010 None 109 7 ≡ (codes "callers: no place (7 times)" ++ 10 ∷ []) ∷ []
+seven_without_a_place : group_lines names 1 7010 None 109 7 ≡ (codes "inbound connection refused: no place (7 times)" ++ 10 ∷ []) ∷ []
 unfolding digits
 seven_without_a_place = refl
 
 -- ---- groups
 
-wrong_lines_of_bob : group_of (told.Faulty 1 LineTooLong) ≡ 11
+wrong_lines_of_bob : group_of (told.Faulty 1 LineTooLong None) ≡ 11
 wrong_lines_of_bob = refl
 
 last_seat : group_of (told.Ordered 9) ≡ 99
@@ -151,13 +182,23 @@ last_seat = refl
 no_seat_10 : group_of (told.Seated 10) ≡ others
 no_seat_10 = refl
 
-callers_by_120 : group_of (told.Callers 3 (Record BadLength)) ≡ 100
+callers_by_120 : group_of (told.Callers None 3 (Record BadLength)) ≡ 100
 callers_by_120 = refl
 
-callers_by_128 : group_of (told.Callers 1 AlreadyHere) ≡ 108
+callers_by_128 : group_of (told.Callers None 1 AlreadyHere) ≡ 108
 callers_by_128 = refl
 
-gone_peer_6 : group_of (told.Gone 6) ≡ 123
+-- from an address of a peer they are apart, the first and the last of them
+callers_by_120_at_peer_0 : group_of (told.Callers (Some 0) 3 (Record BadLength)) ≡ 110
+callers_by_120_at_peer_0 = refl
+
+callers_by_128_at_peer_6 : group_of (told.Callers (Some 6) 1 AlreadyHere) ≡ 172
+callers_by_128_at_peer_6 = refl
+
+one_of_callers_at_a_peer : most_of 172 ≡ 1
+one_of_callers_at_a_peer = refl
+
+gone_peer_6 : group_of (told.Gone 6) ≡ 186
 gone_peer_6 = refl
 
 -- ten lines a second of refused answers, one of lines that are none
@@ -201,7 +242,7 @@ due_again : ¬ (IsNoneDue (a_line 5 1 ∷ a_line 6 1 ∷ []) (a_line 5 1 ∷ [])
 due_again none = let e : has_room (filter (is_recent 1000005) (a_line 5 1 ∷ [])) 1 ≡ false = none 1 (omega arith) (omega arith) in absurd (cc)
 
 -- the newest of a group
-newest_wrong_line : newest_of 1 (told.Faulty 0 LineTooLong ∷ told.Quorum ∷ []) ≡ Some (told.Faulty 0 LineTooLong)
+newest_wrong_line : newest_of 1 (told.Faulty 0 LineTooLong None ∷ told.Quorum ∷ []) ≡ Some (told.Faulty 0 LineTooLong None)
 newest_wrong_line = refl
 
 a_token_is_known : note_text (note.KnownToken 1) ≡ codes "token of seat 1 is an example's: draw another"
@@ -238,19 +279,19 @@ other_text rest (inr begins) = let e : 99 ≡ 98 = ap (λ (text : List ℕ). sli
 
 -- ---- ends
 
-store_at_fault : status_of (end.Unserved (unserved.Fault (serve.Node (fault.Store Disk)))) ≡ 3
+store_at_fault : status_of (end.Node (fault.Store Disk)) ≡ 3
 store_at_fault = refl
 
-two_commands_at_one_slot : status_of (end.Unserved (unserved.Fault (serve.Node fault.Conflict))) ≡ 3
+two_commands_at_one_slot : status_of (end.Node fault.Conflict) ≡ 3
 two_commands_at_one_slot = refl
 
-no_memory : status_of (end.Unserved (unserved.Match file.OutOfMemory)) ≡ 1
+no_memory : status_of (end.Match file.OutOfMemory) ≡ 1
 no_memory = refl
 
-log_at_fault : status_of (end.Unserved (unserved.Fault serve.LogFailed)) ≡ 1
+log_at_fault : status_of (end.LogFailed) ≡ 1
 log_at_fault = refl
 
-store_in_use : status_of (end.Unserved unserved.StoreInUse) ≡ 2
+store_in_use : status_of (end.StoreInUse) ≡ 2
 store_in_use = refl
 
 log_that_differs : status_of end.LogDiffers ≡ 3
@@ -268,17 +309,25 @@ bob_is_seated : notice_lines names 1 7010 (told.Seated 1) ≡ (codes "seat 1 (bo
 unfolding digits
 bob_is_seated = refl
 
-bob_is_played_for : notice_lines names 1 7010 (told.Ordered 1) ≡ (codes "seat 1 (bob) at node 1: played for" ++ 10 ∷ []) ∷ []
+bob_is_played_for : notice_lines names 1 7010 (told.Ordered 1) ≡ (codes "seat 1 (bob) at node 1: timed out, default action ordered" ++ 10 ∷ []) ∷ []
 unfolding digits
 bob_is_played_for = refl
 
-somebody_else_came_for_alice : notice_lines names 1 7010 (told.WrongToken 0 1) ≡ (codes "seat 0 (alice) at node 1: wrong token" ++ 10 ∷ []) ∷ []
+somebody_else_came_for_alice : notice_lines names 1 7010 (told.WrongToken 0 1 None) ≡ (codes "seat 0 (alice) at node 1: wrong token" ++ 10 ∷ []) ∷ []
 unfolding digits
 somebody_else_came_for_alice = refl
 
-many_others_came_for_alice : notice_lines names 1 7010 (told.WrongToken 0 37) ≡ (codes "seat 0 (alice) at node 1: wrong token (37 times)" ++ 10 ∷ []) ∷ []
+many_others_came_for_alice : notice_lines names 1 7010 (told.WrongToken 0 37 None) ≡ (codes "seat 0 (alice) at node 1: wrong token (37 times)" ++ 10 ∷ []) ∷ []
 unfolding digits
 many_others_came_for_alice = refl
+
+one_came_from_an_address : (address : Ipv4Addr) → ipv4_octets address ≡ 10 ∷ 0 ∷ 0 ∷ 7 ∷ [] → notice_lines names 1 7010 (told.WrongToken 0 37 (Some (V4 address))) ≡ (codes "seat 0 (alice) at node 1: wrong token (from 10.0.0.7) (37 times)" ++ 10 ∷ []) ∷ []
+unfolding digits
+one_came_from_an_address address octets = rw octets refl
+
+bob_has_not_come : notice_lines names 1 7010 (told.Missing 1) ≡ (codes "seat 1 (bob): not connected yet, the match waits" ++ 10 ∷ []) ∷ []
+unfolding digits
+bob_has_not_come = refl
 
 bob_is_waited_for : notice_lines names 1 7010 (told.Waits 1) ≡ (codes "waiting for seat 1 (bob) at node 1, port 7011" ++ 10 ∷ []) ∷ []
 unfolding digits

@@ -11,7 +11,7 @@ use Rattle.dealer_node.specs.Nodes.{Node}
 use Rattle.dealer_node.specs.declared.fault.NodeFault.{NodeFault}
 use Rattle.dealer_node.specs.declared.fault.NodeFault.TheVariants.{Spent}
 use Rattle.stations.specs.Stations.{Look}
-use Rattle.match_runs.specs.Notes.{AreNoted}
+use Rattle.operator_notes.specs.Notes.{AreNoted}
 use Rattle.node_service.specs.Going.{GoesOn as WentOn, TurnsAreOne}
 use Rattle.node_service.specs.Served.{Served}
 use Rattle.node_service.specs.Ending.{is_well, IsFault, IsOverAt}
@@ -26,7 +26,7 @@ use Rattle.node_service.specs.declared.server_notice.ServerNotice.TheVariants as
 use Rattle.node_runs.specs.ServerNotes.{notice_lines, group_lines, Later}
 use Rattle.node_runs.specs.NoteGroups.{no_place}
 use Rattle.node_runs.specs.NoteLimits.{IsNoneDue, counted_at, latest}
-use Rattle.match_runs.specs.Notes.{IsNoted}
+use Rattle.operator_notes.specs.Notes.{IsNoted}
 use Rattle.node_service.proofs.Going.{nothing_done}
 use Rattle.node_runs.proofs.Waiting.{whole_account}
 use Rattle.node_runs.specs.Tellers as teller

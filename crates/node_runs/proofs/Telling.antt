@@ -7,7 +7,7 @@ use Rattle.std.proofs.lemmas.List.{append-nil, length_push}
 use Rattle.std.proofs.lemmas.List.Elements.{filter-append}
 use Rattle.std.proofs.lemmas.List.Sums.{sum_by_push}
 use Rattle.stations.specs.Stations.{Look}
-use Rattle.match_runs.specs.Notes.{AreNoted}
+use Rattle.operator_notes.specs.Notes.{AreNoted}
 use Rattle.node_service.specs.declared.server_notice.ServerNotice.{ServerNotice}
 use Rattle.node_runs.specs.NoteGroups.{most_of, no_place, room_of}
 use Rattle.node_runs.specs.NoteLimits.{IsNoneDue, has_due, has_room, is_of, is_recent, second, waiting_at, counted_at}

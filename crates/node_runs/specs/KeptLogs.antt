@@ -1,7 +1,7 @@
 -- What of a kept log counts, and whether another log goes on as it does.
 use Rattle.std.specs.Prelude.{◌≡◌, ◌≤◌, ◌⊎◌, ℕ, List, [], ◌∷◌, ◌++◌, codes}
 use Rattle.std.specs.List.{AllByRecursion}
-use Rattle.match_runs.specs.LogNames.{StandsIn}
+use Rattle.operator_notes.specs.LogNames.{StandsIn}
 
 -- a line begins as a header, the line of a hand or the score
 abbrev pub BeginsWell : List ℕ → Type 0

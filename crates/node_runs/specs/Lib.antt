@@ -1,7 +1,5 @@
-pub mod BesideStore
 pub mod KeyFiles
 pub mod KeptLogs
-pub mod NodeNotes
 pub mod NodeEnds
 pub mod NoteGroups
 pub mod NoteLimits

@@ -19,7 +19,7 @@ is_of group one = one.group == group
 
 -- whether it is of a group of which fewer than 50 lines may be told in a second
 abbrev pub is_low : Count → Bool
-is_low one = nat_lt one.group 110
+is_low one = nat_lt one.group 173
 
 -- how many they are of a group, in all
 abbrev pub sum_of : ℕ → List Count → ℕ

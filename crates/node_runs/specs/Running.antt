@@ -7,10 +7,8 @@ use Rattle.dealer_node.specs.Nodes.{Node}
 use Rattle.dealer_node.specs.Seeing.{front_in}
 use Rattle.dealer_node.specs.declared.fault.NodeFault.{NodeFault}
 use Rattle.dealer_node.specs.declared.fault.NodeFault.TheVariants.{Spent}
-use Rattle.serving.specs.declared.serve_fault.ServeFault.TheVariants as serve
 use Rattle.stations.specs.Stations.{Look}
-use Rattle.match_runs.specs.Notes.{IsNoted, AreNoted}
-use Rattle.match_runs.specs.declared.unserved.Unserved.TheVariants as unserved
+use Rattle.operator_notes.specs.Notes.{IsNoted, AreNoted}
 use Rattle.node_links.specs.declared.own.Own.{Own}
 use Rattle.node_wires.specs.Passages.{Passage}
 use Rattle.node_service.specs.Company.{IsShown, AreShown}
@@ -24,7 +22,7 @@ use Rattle.node_service.specs.declared.outcome.Outcome.TheVariants as leaves
 use Rattle.node_service.specs.declared.server.NodeServer.{NodeServer}
 use Rattle.node_service.specs.declared.server_notice.ServerNotice.{ServerNotice}
 use Rattle.node_service.specs.declared.server_notice.ServerNotice.TheVariants as tells
-use Rattle.node_runs.specs.NodeNotes.{note_line}
+use Rattle.operator_notes.specs.NodeNotes.{note_line}
 use Rattle.node_runs.specs.NoteGroups.{group_of, no_place}
 use Rattle.node_runs.specs.NoteLimits.{IsAtOnce, IsNoneDue, IsWhole, counted_at, latest}
 use Rattle.node_runs.specs.ServerNotes.{notice_lines, group_lines, Later}
@@ -33,11 +31,11 @@ use Rattle.node_runs.specs.declared.note_limits.Count.{Count}
 use Rattle.node_runs.specs.declared.waiting_notes.WaitingNotes.{WaitingNotes}
 use Rattle.node_runs.specs.declared.node_end.NodeEnd.{NodeEnd}
 use Rattle.node_runs.specs.declared.node_end.NodeEnd.TheVariants as end
-use Rattle.node_runs.specs.declared.node_note.NodeNote.TheVariants as note
+use Rattle.operator_notes.specs.declared.node_note.NodeNote.TheVariants as note
 
 -- a fault of the node as an end of its process
 abbrev pub by_fault : NodeFault → NodeEnd
-by_fault fault = end.Unserved (unserved.Fault (serve.Node fault))
+by_fault fault = end.Node fault
 
 -- ---- what is told
 
@@ -91,7 +89,7 @@ end_of leaves.GoesOn = None
 end_of leaves.Over = Some (Ok tt)
 end_of leaves.StoreReplaced = Some (Err end.StoreReplaced)
 end_of (leaves.Failed fault) = Some (Err (by_fault fault))
-end_of leaves.LogFailed = Some (Err (end.Unserved (unserved.Fault serve.LogFailed)))
+end_of leaves.LogFailed = Some (Err end.LogFailed)
 
 -- of all that turns had to tell this was taken when it ended so, after so many turns the last of which left this to do
 pub data EndsBy (outcome : Outcome) (count : ℕ) : (waiting told : List ServerNotice) → Result (Unit {0}) NodeEnd → Type 0 where

@@ -1,13 +1,17 @@
 -- What the notes tell of what a turn of a node's process had to tell.
-use Rattle.std.specs.Prelude.{◌≡◌, ℕ, ◌+◌, ◌==◌, ◌&&◌, nat_lt, cond, List, [], ◌∷◌, ◌++◌, Option, Some, None, slice_get}
+use Rattle.std.specs.Prelude.{◌≡◌, ℕ, ◌+◌, ◌==◌, ◌&&◌, nat_lt, Bool, true, false, cond, if◌then◌else◌, codes, List, [], ◌∷◌, ◌++◌, Option, Some, None, slice_get}
 use Rattle.node_service.specs.declared.server_notice.ServerNotice.{ServerNotice}
 use Rattle.node_service.specs.declared.server_notice.ServerNotice.TheVariants as told
-use Rattle.match_runs.specs.Notes.{AreNoted, seat_text, about_text, waiting_text, times_text}
-use Rattle.match_runs.specs.Notes as served
-use Rattle.match_runs.specs.declared.note.About.TheVariants as about
-use Rattle.node_runs.specs.NodeNotes.{note_text, note_line}
+use Rattle.seat_session.specs.declared.session_fault.SessionFault.{SessionFault}
+use Rattle.seat_session.specs.declared.session_fault.SessionFault.TheVariants.{NotYourTurn, Illegal}
+use Rattle.node_service.specs.declared.server_notice.Setting.{Setting}
+use Rattle.node_service.specs.declared.server_notice.Setting.TheVariants.{Patience, Start, Away, Tokens}
+use Rattle.operator_notes.specs.Notes.{AreNoted, seat_text, about_text, faulty_text, faulty_in_text, waiting_text, times_text}
+use Rattle.operator_notes.specs.Notes as served
+use Rattle.operator_notes.specs.declared.note.About.TheVariants as about
+use Rattle.operator_notes.specs.NodeNotes.{note_text, note_line, peer_text, difference_text, time_text, away_text}
 use Rattle.node_runs.specs.NoteGroups.{weight_of, others, no_place}
-use Rattle.node_runs.specs.declared.node_note.NodeNote.TheVariants as note
+use Rattle.operator_notes.specs.declared.node_note.NodeNote.TheVariants as note
 use Rattle.node_runs.specs.declared.note_limits.Count.{Count}
 use Rattle.node_runs.specs.declared.server_notes.Noted.{Noted}
 use Rattle.node_runs.specs.declared.server_notes.Noted.TheVariants.{OfNode, OfSeat}
@@ -20,18 +24,38 @@ seat_said names seat text = elim (slice_get names seat) [ Some name ↦ Some (se
 abbrev pub awaited_text : List (List ℕ) → ℕ → ℕ → ℕ → Option (List ℕ)
 awaited_text names node port seat = elim (slice_get names seat) [ Some name ↦ Some (waiting_text seat name node port None) | None ↦ None ]
 
+-- in what the match file of a peer differs
+abbrev pub setting_text : ℕ → Setting → ℕ → ℕ → List ℕ
+setting_text peer Patience there here = peer_text peer (difference_text (codes "patience") (time_text there) (time_text here))
+setting_text peer Start there here = peer_text peer (difference_text (codes "start") (time_text there) (time_text here))
+setting_text peer Away there here = peer_text peer (difference_text (codes "away") (away_text (nat_lt 0 there)) (away_text (nat_lt 0 here)))
+setting_text peer Tokens there here = peer_text peer (codes "tokens differ")
+
+-- a fault of an answer to the seat's newest line
+abbrev pub is_of_newest : SessionFault → Bool
+is_of_newest NotYourTurn = true
+is_of_newest (Illegal why) = true
+is_of_newest other = false
+
+-- a fault in what a seat sent, and of an answer to the newest line in which hand
+abbrev pub fault_said : ℕ → SessionFault → Option ℕ → List ℕ
+fault_said node fault None = faulty_text node fault
+fault_said node fault (Some hand) = if is_of_newest fault then faulty_in_text node hand fault else faulty_text node fault
+
 -- what is told of one thing, at a node that awaits seat 0 at this port, by the seats' names; nothing of a seat that there isn't
 abbrev pub notice_text : List (List ℕ) → ℕ → ℕ → ServerNotice → Option (List ℕ)
 notice_text names node first (told.Joined peer life) = Some (note_text (note.Joined peer))
 notice_text names node first (told.Gone peer) = Some (note_text (note.Gone peer))
 notice_text names node first (told.Refused peer fault source) = Some (note_text (note.Refused peer fault source))
-notice_text names node first (told.Callers count fault) = Some (note_text (note.Caller fault))
+notice_text names node first (told.Callers peer count fault) = Some (note_text (note.Caller peer fault))
+notice_text names node first (told.Setting peer what there here) = Some (setting_text peer what there here)
 notice_text names node first (told.Unreached peer refuses) = Some (note_text (note.Unreached peer refuses))
 notice_text names node first (told.Seated seat) = seat_said names seat (about_text (about.Seated node))
 notice_text names node first (told.Left seat) = seat_said names seat (about_text (about.Gone node))
-notice_text names node first (told.Faulty seat fault) = seat_said names seat (about_text (about.Faulty node fault))
-notice_text names node first (told.WrongToken seat count) = seat_said names seat (about_text (about.WrongToken node 1))
+notice_text names node first (told.Faulty seat fault hand) = seat_said names seat (fault_said node fault hand)
+notice_text names node first (told.WrongToken seat count source) = seat_said names seat (about_text (about.WrongToken node source))
 notice_text names node first (told.Ordered seat) = seat_said names seat (about_text (about.Ordered node))
+notice_text names node first (told.Missing seat) = seat_said names seat (about_text about.Missing)
 notice_text names node first (told.Waits seat) = awaited_text names node (first + seat) seat
 notice_text names node first told.Quorum = Some (note_text note.Quorum)
 notice_text names node first told.QuorumLost = Some (note_text note.QuorumLost)

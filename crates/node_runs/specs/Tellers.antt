@@ -3,7 +3,7 @@ use Rattle.std.specs.Prelude.{◌≡◌, ℕ, ◌≤◌, Bool, cond, List, [], �
 use Rattle.std.specs.List.{count_by}
 use Rattle.peer_codes.specs.declared.hello.Life.{Life}
 use Rattle.stations.specs.Stations.{Look}
-use Rattle.match_runs.specs.Notes.{AreNoted}
+use Rattle.operator_notes.specs.Notes.{AreNoted}
 use Rattle.node_service.specs.declared.server_notice.ServerNotice.{ServerNotice}
 use Rattle.node_runs.specs.NoteGroups.{no_place}
 use Rattle.node_runs.specs.NoteLimits.{IsNoneDue, is_of, sum_of, waiting_at}

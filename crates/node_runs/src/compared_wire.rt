@@ -133,6 +133,10 @@ impl<W: Wire + Drop> Wire for ComparedWire<'_, W> {
         self.wire.write(line, bytes)
     }
 
+    fn flush(&mut self) {
+        self.wire.flush();
+    }
+
     fn know(&mut self, line: Line) {
         self.wire.know(line);
     }

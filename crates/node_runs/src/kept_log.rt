@@ -1,11 +1,11 @@
 //! A kept log, as far as it counts, and whether another log goes on as it does.
 
 ghost use Rattle.std.specs.Prelude.{◌≡◌, ◌⊎◌, ◌↔◌, ℕ, List, ◌++◌, ◌∷◌, codes, true, false, IsTrue, IfSome, IsNone};
-ghost use Rattle.match_runs.specs.LogNames.{StandsIn};
+ghost use Rattle.operator_notes.specs.LogNames.{StandsIn};
 ghost use Rattle.node_runs.specs.KeptLogs.{BeginsWell, ArePrintable, IsLogLine, IsCounted, GoesOn};
 
-use match_runs::stands_in;
 use matchstate::cut;
+use operator_notes::stands_in;
 
 /// What is still to come of a kept log that another log is compared with.
 #[derive(Clone, Copy, Debug)]

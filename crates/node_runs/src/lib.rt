@@ -1,23 +1,20 @@
 //! One node of a match in a process of its own, turn after turn, with its notes; and how that ends.
 //!
 //! `node_run` starts the node of a `node_service::NodeServer` and takes its turns until one says that the match is over or
-//! that the process is to end. What happened in each turn it tells a writer of notes, one line each: it makes a `NodeNote`
-//! of it, and `tell_node_note` writes one. A `Teller` tells what a turn had to tell: by `NoteLimits` some notes are told at once
+//! that the process is to end. What happened in each turn it tells a writer of notes, one line each, as notes of
+//! `operator_notes`. A `Teller` tells what a turn had to tell: by `NoteLimits` some notes are told at once
 //! and the others only counted, so that nobody who makes notes without end fills a disk by them. The life of a peer's store
 //! that is seen first it has kept by a `LifeKeeper`.
 //! `NodeEnd` is how `node` ends otherwise than well: its exit status, and the last line that standard error gets. `read_key`
-//! and `key_text` are what the file of a match's key has, `KeyFault` why a file is none; `tokens_line` is what a match file has of
-//! tokens. A `ComparedWire` keeps a log from
-//! contradicting a `KeptLog`. Nothing here opens a file or a socket.
+//! and `key_text` are what the file of a match's key has; `tokens_line` is what a match file has of tokens. A `ComparedWire`
+//! keeps a log from contradicting a `KeptLog`. Nothing here opens a file or a socket.
 #![tactic(auto)]
 
-mod beside_store;
 mod compared_wire;
 mod kept_log;
 mod key_file;
 mod life_keeper;
 mod node_end;
-mod node_note;
 mod note_groups;
 mod note_limits;
 mod running;
@@ -26,13 +23,11 @@ mod teller;
 mod tokens;
 mod waiting_notes;
 
-pub use beside_store::{life_path, logs_kept_path, node_kept_path};
 pub use compared_wire::ComparedWire;
 pub use kept_log::KeptLog;
-pub use key_file::{KeyFault, MOST_BYTES, key_text, read_key};
+pub use key_file::{key_text, read_key};
 pub use life_keeper::LifeKeeper;
 pub use node_end::NodeEnd;
-pub use node_note::{NodeNote, tell_node_note};
 pub use note_groups::{GROUPS, NO_PLACE, OTHERS, group_of, most_of, room_of, weight_of};
 pub use note_limits::{Count, NoteLimits};
 pub use running::node_run;

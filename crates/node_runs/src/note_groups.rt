@@ -5,26 +5,31 @@ ghost use Rattle.node_runs.specs.NoteGroups.{seat_group, caller_group, peer_grou
 
 use node_service::ServerNotice;
 
-/// How many groups there are: ten of each of ten seats, those of callers by their faults and for want of a place, two of
-/// each of seven peers, and one of all other notes.
-pub const GROUPS: usize = 125;
+/// How many groups there are: ten of each of ten seats, those of callers by their faults and for want of a place, those of
+/// callers from the addresses of seven peers by their faults, two of each of seven peers, and one of all other notes.
+pub const GROUPS: usize = 188;
 
 /// The group of callers for whom there was no place.
 pub const NO_PLACE: usize = 109;
 
 /// The group of notes that have no group of their own.
-pub const OTHERS: usize = 124;
+pub const OTHERS: usize = 187;
 
 /// The groups of callers by their faults begin here, less the number of the first fault.
 const CALLERS: usize = 20;
 
-/// The groups of seats and of callers end here.
-const LOW: usize = 110;
+/// The groups of callers from the address of the first peer begin here, and those of seats and of callers end there.
+const AT_PEERS: usize = 110;
+
+const LOW: usize = 173;
 
 /// The groups of peers that join begin here, and those of peers that are gone.
-const JOINED: usize = 110;
+const JOINED: usize = 173;
 
-const GONE: usize = 117;
+const GONE: usize = 180;
+
+/// How many faults callers have.
+const FAULTS: usize = 9;
 
 /// So many lines of one group may be told in a second where each says something of its own.
 const SEVERAL: usize = 10;
@@ -32,7 +37,7 @@ const SEVERAL: usize = 10;
 /// A seat's notes of one kind.
 fn seat_group(seat: u8, kind: u8) -> usize
     ensures value { result ≡ seat_group seat kind }
-    ensures within { result < 125 }
+    ensures within { result < 188 }
 {
     if seat < 10 && kind < 10 {
         10 * seat as usize + kind as usize
@@ -41,23 +46,26 @@ fn seat_group(seat: u8, kind: u8) -> usize
     }
 }
 
-/// The notes of callers by a fault.
-fn caller_group(code: u8) -> usize
-    ensures value { result ≡ caller_group code }
-    ensures within { result < 125 }
+/// The notes of callers by a fault, from an address of this peer or from others.
+fn caller_group(peer: Option<u8>, code: u8) -> usize
+    ensures value { result ≡ caller_group peer code }
+    ensures within { result < 188 }
 {
-    if 120 <= code && code <= 128 {
-        code as usize - CALLERS
-    } else {
-        OTHERS
+    if code < 120 || 128 < code {
+        return OTHERS;
+    }
+    match peer {
+        None => code as usize - CALLERS,
+        Some(peer) if peer < 7 => AT_PEERS + FAULTS * peer as usize + (code as usize - 120),
+        Some(_) => OTHERS,
     }
 }
 
 /// A peer's notes of one kind, whose groups begin there.
 fn peer_group(first: usize, peer: u8) -> usize
-    requires { first ≤ 117 }
+    requires { first ≤ 180 }
     ensures value { result ≡ peer_group first peer }
-    ensures within { result < 125 }
+    ensures within { result < 188 }
 {
     if peer < 7 {
         first + peer as usize
@@ -69,15 +77,17 @@ fn peer_group(first: usize, peer: u8) -> usize
 /// The group of a notice.
 pub fn group_of(notice: &ServerNotice) -> usize
     ensures value { result ≡ group_of notice.now }
-    ensures within { result < 125 }
+    ensures within { result < 188 }
 {
     match notice {
-        ServerNotice::Faulty { seat, fault } => seat_group(*seat, fault.code().saturating_sub(80)),
+        ServerNotice::Faulty { seat, fault, .. } => {
+            seat_group(*seat, fault.code().saturating_sub(80))
+        }
         ServerNotice::Seated { seat } => seat_group(*seat, 6),
         ServerNotice::Left { seat } => seat_group(*seat, 7),
-        ServerNotice::WrongToken { seat, count: _ } => seat_group(*seat, 8),
+        ServerNotice::WrongToken { seat, .. } => seat_group(*seat, 8),
         ServerNotice::Ordered { seat } => seat_group(*seat, 9),
-        ServerNotice::Callers { count: _, fault } => caller_group(fault.code()),
+        ServerNotice::Callers { peer, fault, .. } => caller_group(*peer, fault.code()),
         ServerNotice::Joined { peer, life: _ } => peer_group(JOINED, *peer),
         ServerNotice::Gone { peer } => peer_group(GONE, *peer),
         _ => OTHERS,
@@ -89,8 +99,8 @@ pub fn weight_of(notice: &ServerNotice) -> u64
     ensures { result ≡ weight_of notice.now }
 {
     match notice {
-        ServerNotice::Callers { count, fault: _ } => *count as u64,
-        ServerNotice::WrongToken { seat: _, count } => *count as u64,
+        ServerNotice::Callers { count, .. } => *count as u64,
+        ServerNotice::WrongToken { count, .. } => *count as u64,
         _ => 1,
     }
 }

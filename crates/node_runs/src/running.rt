@@ -9,21 +9,19 @@ ghost use Rattle.node_service.specs.Ending.{is_well, IsOverAt};
 ghost use Rattle.node_service.specs.Logging.{IsFresh};
 ghost use Rattle.node_runs.specs.OneLog.{IsLeftBy, WritesItsLog, WritesAcceptedLog};
 ghost use Rattle.node_service.specs.declared.outcome.Outcome.TheVariants.{GoesOn as Further, Over as IsOver};
-ghost use Rattle.match_runs.specs.Notes.{IsNoted};
+ghost use Rattle.operator_notes.specs.Notes.{IsNoted};
 ghost use Rattle.node_runs.specs.Running.{Ran, Went, GoesOnTo, begin_line, end_of};
 ghost use Rattle.node_runs.specs.WaitingNotes.{Holds};
 
 use crate::life_keeper::LifeKeeper;
 use crate::node_end::NodeEnd;
-use crate::node_note::{NodeNote, tell_node_note};
 use crate::teller::Teller;
 use dealer_node::NodeFault;
-use match_runs::Unserved;
 use node_service::laws::{lives_stay_shown, turns_are_one};
 use node_service::{NodeServer, Outcome};
 use node_wires::Wire;
+use operator_notes::{NodeNote, tell_node_note};
 use promise_store::Disk;
-use serving::ServeFault;
 use stations::Station;
 use std::alloc::Global;
 use std::io::Write;
@@ -120,7 +118,7 @@ fn end_of(outcome: Outcome) -> Option<Result<(), NodeEnd>>
         Outcome::Over => Some(Ok(())),
         Outcome::StoreReplaced => Some(Err(NodeEnd::StoreReplaced)),
         Outcome::Failed(fault) => Some(Err(NodeEnd::from(fault))),
-        Outcome::LogFailed => Some(Err(NodeEnd::Unserved(Unserved::Fault(ServeFault::LogFailed)))),
+        Outcome::LogFailed => Some(Err(NodeEnd::LogFailed)),
     }
 }
 

@@ -1,14 +1,15 @@
 //! What the notes of a process tell of what a turn had to tell.
 
 ghost use Rattle.std.specs.Prelude.{◌≡◌, ◌+◌, ◌∷◌, [], ◌++◌, option_map, OnOk};
-ghost use Rattle.match_runs.specs.Notes.{IsNoted, AreNoted, about_text, times_text};
-ghost use Rattle.node_runs.specs.ServerNotes.{seat_said, awaited_text, notice_text, noted_text, counted_lines, group_lines, times_lines};
+ghost use Rattle.operator_notes.specs.Notes.{IsNoted, AreNoted, about_text, times_text};
+ghost use Rattle.operator_notes.specs.NodeNotes.{note_text};
+ghost use Rattle.node_runs.specs.ServerNotes.{seat_said, setting_text, fault_said, is_of_newest, awaited_text, notice_text, noted_text, counted_lines, group_lines, times_lines};
 
-use crate::node_note::{NodeNote, put_note, put_times, write_line};
 use crate::note_groups::{NO_PLACE, OTHERS};
 use dealer_kind::Config;
-use match_runs::{About, Note};
-use node_service::ServerNotice;
+use node_service::{ServerNotice, Setting};
+use operator_notes::{About, NodeNote, Note, put_node_note, put_note, put_times, write_line};
+use seat_session::SessionFault;
 use std::alloc::{AllocError, Global};
 use std::io::Write;
 
@@ -77,26 +78,79 @@ fn note_of(config: &Config, node: u8, port: u16, told: &ServerNotice) -> Option<
             fault: *fault,
             source: *source,
         })),
-        ServerNotice::Callers { count: _, fault } => Some(Noted::OfNode(NodeNote::Caller(*fault))),
+        ServerNotice::Callers { peer, fault, .. } => {
+            let (peer, fault) = (*peer, *fault);
+            Some(Noted::OfNode(NodeNote::Caller { peer, fault }))
+        }
         ServerNotice::Unreached { peer, refuses } => {
             let (peer, refuses) = (*peer, *refuses);
             Some(Noted::OfNode(NodeNote::Unreached { peer, refuses }))
         }
         ServerNotice::Seated { seat } => of_seat(config, *seat, About::Seated(node)),
         ServerNotice::Left { seat } => of_seat(config, *seat, About::Gone(node)),
-        ServerNotice::Faulty { seat, fault } => {
-            let fault = *fault;
-            of_seat(config, *seat, About::Faulty { node, fault })
+        ServerNotice::Setting {
+            peer,
+            what,
+            there,
+            here,
+        } => Some(Noted::OfNode(note_of_setting(*peer, *what, *there, *here))),
+        ServerNotice::Faulty { seat, fault, hand } => {
+            of_seat(config, *seat, about_fault(node, *fault, *hand))
         }
-        ServerNotice::WrongToken { seat, count: _ } => {
-            of_seat(config, *seat, About::WrongToken { node, count: 1 })
+        ServerNotice::WrongToken { seat, source, .. } => {
+            let source = *source;
+            of_seat(config, *seat, About::WrongToken { node, source })
         }
         ServerNotice::Ordered { seat } => of_seat(config, *seat, About::Ordered(node)),
+        ServerNotice::Missing { seat } => of_seat(config, *seat, About::Missing),
         ServerNotice::Waits { seat } => awaited(config, node, port, *seat),
         ServerNotice::Quorum => Some(Noted::OfNode(NodeNote::Quorum)),
         ServerNotice::QuorumLost => Some(Noted::OfNode(NodeNote::QuorumLost)),
         ServerNotice::Campaigns { ballot } => Some(Noted::OfNode(NodeNote::Campaigns(*ballot))),
     }
+}
+
+/// What is told of a setting that differs in the match file of a peer.
+fn note_of_setting(peer: u8, what: Setting, there: u32, here: u32) -> NodeNote<'static>
+    ensures { note_text result ≡ setting_text peer what there here }
+{
+    match what {
+        Setting::Patience => NodeNote::OtherTime {
+            peer,
+            key: "patience",
+            there,
+            here,
+        },
+        Setting::Start => NodeNote::OtherTime {
+            peer,
+            key: "start",
+            there,
+            here,
+        },
+        Setting::Away => NodeNote::OtherAway {
+            peer,
+            waits_there: 0 < there,
+            waits_here: 0 < here,
+        },
+        Setting::Tokens => NodeNote::OtherTokens(peer),
+    }
+}
+
+/// What is told of a fault in what a seat sent to this node, while this was the newest hand.
+fn about_fault(node: u8, fault: SessionFault, hand: Option<u32>) -> About<'static>
+    ensures { about_text result ≡ fault_said node fault hand }
+{
+    match hand {
+        Some(hand) if is_of_newest(fault) => About::FaultyIn { node, hand, fault },
+        _ => About::Faulty { node, fault },
+    }
+}
+
+/// Whether it is a fault of an answer to the seat's newest line.
+fn is_of_newest(fault: SessionFault) -> bool
+    ensures { result ≡ is_of_newest fault }
+{
+    matches!(fault, SessionFault::NotYourTurn | SessionFault::Illegal(_))
 }
 
 /// That all wait for a seat, and where it is awaited here; nothing of a number that no seat has.
@@ -154,7 +208,7 @@ fn put_noted(out: &mut Vec<u8>, noted: &Noted<'_>) -> Result<(), AllocError>
     ensures { OnOk result (out.new.items ≡ out.old.items ++ noted_text noted.now) }
 {
     match noted {
-        Noted::OfNode(note) => put_note(out, note),
-        Noted::OfSeat(note) => match_runs::put_note(out, note),
+        Noted::OfNode(note) => put_node_note(out, note),
+        Noted::OfSeat(note) => put_note(out, note),
     }
 }

@@ -2,7 +2,7 @@
 
 ghost use Rattle.std.specs.Prelude.{◌≡◌, ◌-◌, ◌<◌, max, cond, [], OnErr, OnOk};
 ghost use Rattle.stations.specs.Looking.{look_of};
-ghost use Rattle.match_runs.specs.Notes.{AreNoted};
+ghost use Rattle.operator_notes.specs.Notes.{AreNoted};
 ghost use Rattle.node_runs.specs.NoteLimits.{waiting_at};
 ghost use Rattle.node_runs.specs.ServerNotes.{notice_lines, group_lines};
 ghost use Rattle.node_runs.specs.WaitingNotes.{Holds, newest_at};

@@ -22,7 +22,7 @@ use Rattle.match_log.specs.declared.fault_kind.LogFaultKind.TheVariants.{WrongVa
 use Rattle.streamed.specs.Verdict.{verdict_text, EndsVerdict}
 use Rattle.streamed.specs.declared.ending.Ending.TheVariants.{Done, SaidNo, Refused, StoreInUse, OtherMatch, Unreadable, StreamFailed}
 use Rattle.match_file.specs.declared.difference.Difference.TheVariants.{Node, Unread}
-use Rattle.streamed.specs.declared.stop.Stop.TheVariants as stop
+use Rattle.operator_notes.specs.declared.stop.Stop.TheVariants as stop
 use Rattle.streamed.specs.declared.wrong_words.WrongWords.TheVariants.{Incomplete}
 use Rattle.streamed.specs.declared.script_line.ScriptLine.TheVariants.{Names, Told, Bad}
 

@@ -6,8 +6,8 @@ use Rattle.match_file.specs.Kept.{difference_text}
 use Rattle.promise_store.specs.FaultText.{fault_text as store_fault_text}
 use Rattle.streamed.specs.declared.ending.Ending.{Ending}
 use Rattle.streamed.specs.declared.ending.Ending.TheVariants.{Done, SaidNo, Refused, Match, StoreExists, Store, StoreInUse, OtherMatch, Unreadable, OutOfMemory, StreamFailed, WrongWords}
-use Rattle.streamed.specs.declared.stop.Stop.{Stop}
-use Rattle.streamed.specs.declared.stop.Stop.TheVariants as stop
+use Rattle.operator_notes.specs.declared.stop.Stop.{Stop}
+use Rattle.operator_notes.specs.declared.stop.Stop.TheVariants as stop
 use Rattle.streamed.specs.declared.wrong_words.WrongWords.{WrongWords as Wrong}
 use Rattle.streamed.specs.declared.wrong_words.WrongWords.TheVariants.{NotText, GameWord, Incomplete, Told}
 

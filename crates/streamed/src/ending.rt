@@ -2,11 +2,11 @@ ghost use Rattle.std.specs.Prelude.{◌≡◌, ◌⊎◌, Some};
 ghost use Rattle.streamed.specs.Ending.{status_of, ending_text, stopped};
 ghost use Rattle.streamed.specs.declared.ending.Ending.TheVariants.{Match, OutOfMemory, Unreadable};
 
-use crate::stop::Stop;
 use crate::wrong_words::WrongWords;
 use game_def::GameFault;
 use match_file::{Difference, MatchFault};
 use match_log::LogFault;
+use operator_notes::Stop;
 use promise_store::StoreFault;
 use std::alloc::AllocError;
 use std::{fmt, io};

@@ -5,9 +5,9 @@ use crate::ending::Ending;
 use crate::game_word::GameWord;
 use crate::pieces::Pieces;
 use crate::running::Running;
-use crate::stop::Stop;
 use crate::stream::MOST_READS;
 use game_def::GameDef;
+use operator_notes::Stop;
 use std::alloc::Global;
 use std::io::{Read, Write};
 

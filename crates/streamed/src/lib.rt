@@ -4,7 +4,7 @@
 //! answered before the next one is awaited; a `GameWord` asks for the match's log too. `check_run` reads all of a log and
 //! writes what `match_log::check` says of it. Both answer an `Ending`, whose `status` is the program's exit status and
 //! whose text is what standard error gets. A program that runs a script of its own takes the same steps: it takes the
-//! `Pieces` of `MOST_READS` reads, and makes a `send` for each answer; a `Stop` tells why it went no further.
+//! `Pieces` of `MOST_READS` reads, and sends each answer by `operator_notes::send`; a `Stop` tells why it went no further.
 //!
 //! `laws` says that a script has one output. Its tests stand in a crate above, beside those of the other commands: there
 //! `answers_a_script` runs `hand_run`, and `says_yes_of_a_log` `check_run`. Faults: the variants of `Ending`, and in what
@@ -21,7 +21,6 @@ mod log_check;
 mod pieces;
 mod running;
 mod script_line;
-mod stop;
 mod stream;
 mod wrong_words;
 
@@ -30,6 +29,5 @@ pub use game_word::GameWord;
 pub use hand_script::{hand_run, run_script};
 pub use log_check::{check_run, read_all};
 pub use pieces::Pieces;
-pub use stop::Stop;
-pub use stream::{MOST_READS, PIECE, read_piece, send};
+pub use stream::{MOST_READS, PIECE, read_piece};
 pub use wrong_words::WrongWords;

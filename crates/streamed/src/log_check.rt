@@ -4,10 +4,10 @@ ghost use Rattle.streamed.specs.Verdict.{EndsCheck, EndsLog, EndsVerdict, verdic
 
 use crate::ending::Ending;
 use crate::pieces::Pieces;
-use crate::stop::Stop;
-use crate::stream::{MOST_READS, send};
+use crate::stream::MOST_READS;
 use game_def::GameDef;
 use match_log::LogFault;
+use operator_notes::{Stop, send};
 use std::alloc::{AllocError, Global};
 use std::io::{Read, Write};
 

@@ -1,8 +1,8 @@
 ghost use Rattle.std.specs.Prelude.{◌≡◌, ◌<◌, ◌≤◌, [], false, length, IfOk, OnOk, OnErr};
 ghost use Rattle.std.specs.Io.KnownBytes.{Consumes, IsAtEnd, Keeps};
 
-use crate::stop::Stop;
 use crate::stream::{PIECE, read_piece};
+use operator_notes::Stop;
 use std::io::Read;
 
 /// The pieces in which a reader gives its bytes, one after another, by so many reads at most.

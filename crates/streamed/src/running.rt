@@ -4,9 +4,8 @@ ghost use Rattle.streamed.specs.Running.{Shows, GoesOn, BreaksOff};
 use crate::dealing::Dealing;
 use crate::game_word::GameWord;
 use crate::line::{LineFront, keep};
-use crate::stop::Stop;
-use crate::stream::send;
 use game_def::GameDef;
+use operator_notes::{Stop, send};
 use std::alloc::Global;
 use std::io::Write;
 

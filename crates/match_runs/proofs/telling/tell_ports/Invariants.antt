@@ -1,6 +1,7 @@
 use Rattle.std.proofs.Common.{List, ℕ, length, map, drop}
 use Rattle.std.specs.Prelude.{Option}
-use Rattle.match_runs.specs.Notes.{AreNoted, note_line, ports_notes}
+use Rattle.operator_notes.specs.Notes.{AreNoted, note_line}
+use Rattle.match_runs.specs.Notes.{ports_notes}
 use Rattle.match_runs.proofs.telling.tell_ports.Given as goal
 
 abbrev pub invariant-loop-seat : goal.invariant-loop-seat

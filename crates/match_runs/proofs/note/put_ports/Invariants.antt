@@ -1,6 +1,0 @@
-use Rattle.std.proofs.Common.{◌≡◌, ◌++◌}
-use Rattle.match_runs.specs.Notes.{ports_text}
-use Rattle.match_runs.proofs.note.put_ports.Given as goal
-
-abbrev pub invariant-loop-node : goal.invariant-loop-node
-invariant-loop-node l = l.out.items ≡ l.fn.out.items ++ ports_text l.ports l.seat l.node

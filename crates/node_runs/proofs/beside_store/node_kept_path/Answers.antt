@@ -1,6 +1,0 @@
-use Rattle.std.proofs.Common.{arith}
-use Rattle.std.proofs.lemmas.Grind.{elements}
-use Rattle.node_runs.proofs.beside_store.node_kept_path.Goals as goal
-
-pub returns : goal.returns
-returns c = grind (arith, elements)

@@ -1,0 +1,6 @@
+use Rattle.std.proofs.Common.{arith}
+use Rattle.std.proofs.lemmas.Grind.{elements}
+use Rattle.operator_notes.proofs.beside_store.node_kept_path.Goals as goal
+
+pub returns : goal.returns
+returns c = grind (arith, elements)
