@@ -28,6 +28,7 @@ mod nodes;
 mod parts;
 mod peer;
 mod sevens;
+mod simulations;
 mod stores;
 mod task;
 mod telling;
@@ -100,6 +101,7 @@ fn run(rt: &(impl Input + Print + AllocGlobal + Files<File = File>), task: Task)
         Task::FailingCluster => clusters::print_driven(rt, Disks::FailingOnce),
         Task::NewFileCluster => clusters::print_driven(rt, Disks::NewFiles),
         Task::FileCluster => clusters::print_driven(rt, Disks::Files),
+        Task::Simulate => simulations::print_simulated(rt),
         Task::Append => stores::print_appended(rt, 1),
         Task::Appends => stores::print_many_appended(rt),
         Task::ShortJournal => stores::print_written(rt, 10_000),

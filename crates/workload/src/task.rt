@@ -47,6 +47,8 @@ pub enum Task {
     NewFileCluster,
     /// Drives a cluster by lines, over files that have stores.
     FileCluster,
+    /// Runs simulated processes of a match by a script.
+    Simulate,
     /// Appends one promise to a store on a file.
     Append,
     /// Appends many promises to a store on a file.
@@ -62,7 +64,7 @@ pub enum Task {
 }
 
 /// The names of all that can be run.
-static NAMES: [(&str, Task); 29] = [
+static NAMES: [(&str, Task); 30] = [
     ("five-card-hands", Task::FiveCardHands),
     ("best-of-seven", Task::BestOfSeven),
     ("sevens-by-counts", Task::SevensByCounts),
@@ -86,6 +88,7 @@ static NAMES: [(&str, Task); 29] = [
     ("failing-cluster", Task::FailingCluster),
     ("new-file-cluster", Task::NewFileCluster),
     ("file-cluster", Task::FileCluster),
+    ("simulate", Task::Simulate),
     ("store-append", Task::Append),
     ("store-appends", Task::Appends),
     ("store-short", Task::ShortJournal),

@@ -1,0 +1,516 @@
+//! The ends of all connections of a process, and who waits to be taken in.
+
+ghost use Rattle.std.specs.Prelude.{◌≡◌, ◌≤◌, length, IfOk};
+
+use crate::act::{Act, What};
+use crate::clock::Clock;
+use crate::pipe::Pipe;
+use node_wires::limits::{
+    ASKERS, CALLERS, GUESTS, KEPT, LINES, NODES, OTHERS, SEATS, STANDS, STRANGERS,
+};
+use node_wires::{Halt, Line};
+use std::alloc::{AllocError, Global};
+
+/// A connection has room for so many bytes that weren't read yet.
+pub const ROOM: usize = 65_536;
+
+/// The port to which somebody comes.
+#[derive(Clone, Copy, Debug, PartialEq, Eq)]
+pub enum Port {
+    Peers,
+    Seat(u8),
+    Status,
+}
+
+/// One who came and isn't taken in yet.
+#[derive(Drop)]
+struct Comer {
+    port: Port,
+    pipe: Pipe,
+}
+
+/// The ends of all connections of a process.
+#[derive(Drop)]
+pub struct Ends<'a> {
+    alloc: Global,
+    clock: &'a Clock,
+    /// Of each line, by its place.
+    pipes: Vec<Pipe>,
+    comers: Vec<Comer>,
+    acts: Vec<Act>,
+    /// The number of the next connection that the process begins.
+    next: u32,
+    /// How many came so far.
+    turn: u64,
+    drawn: u64,
+    seed: u64,
+    turned_away: u64,
+    /// Memory was refused for what is to be told.
+    has_lost: bool,
+}
+
+/// The place of a line among all; none of a number that there isn't.
+pub fn place_of(line: Line) -> Option<usize> {
+    let (number, count, first) = match line {
+        Line::Peer(number) => (number, NODES, 0),
+        Line::Caller(number) => (number, CALLERS, NODES),
+        Line::Seat(number) => (number, SEATS, NODES + CALLERS),
+        Line::Guest(number) => (number, GUESTS, NODES + CALLERS + SEATS),
+        Line::Asker(number) => (number, ASKERS, NODES + CALLERS + SEATS + GUESTS),
+    };
+    let number = number as usize;
+    if number < count {
+        Some(number.saturating_add(first))
+    } else {
+        None
+    }
+}
+
+/// The first of the places at which one from this address may stand, and how many there are, where he dialled.
+fn callers_of(address: u16) -> (usize, usize) {
+    let node = address as usize;
+    if node < NODES {
+        (NODES + OTHERS + KEPT * node, KEPT)
+    } else {
+        (NODES, OTHERS)
+    }
+}
+
+impl<'a> Ends<'a> {
+    /// No connection, and nobody waits.
+    pub fn new(alloc: Global, clock: &'a Clock, seed: u64) -> Result<Ends<'a>, AllocError> {
+        let mut pipes = Vec::with_capacity(alloc, LINES)?;
+        for _ in 0..LINES {
+            pipes.push(Pipe::none(alloc))?;
+        }
+        Ok(Ends {
+            alloc,
+            clock,
+            pipes,
+            comers: Vec::new(alloc),
+            acts: Vec::new(alloc),
+            next: 0,
+            turn: 0,
+            drawn: 0,
+            seed,
+            turned_away: 0,
+            has_lost: false,
+        })
+    }
+
+    /// The present moment.
+    pub fn now(&self) -> u64 {
+        self.clock.now()
+    }
+
+    /// The next connection that the process begins has this number.
+    pub fn set_next(&mut self, next: u32) {
+        self.next = next;
+    }
+
+    /// What was done since this was last asked; an error where memory was refused for some of it.
+    pub fn take_acts(&mut self) -> Result<Vec<Act>, AllocError> {
+        if self.has_lost {
+            return Err(AllocError);
+        }
+        let alloc = self.alloc;
+        let mut acts = Vec::new(alloc);
+        std::mem::swap(&mut acts, &mut self.acts);
+        Ok(acts)
+    }
+
+    /// How many who dialled were turned away.
+    pub fn turned_away(&self) -> u64 {
+        self.turned_away
+    }
+
+    /// Notes what was done.
+    fn note(&mut self, what: What) {
+        let moment = self.clock.now();
+        if self.acts.push(Act { moment, what }).is_err() {
+            self.has_lost = true;
+        }
+    }
+
+    /// A copy of bytes that are to be told.
+    fn copy(&mut self, bytes: &[u8]) -> Option<Vec<u8>> {
+        match Vec::from_slice(self.alloc, bytes) {
+            Ok(bytes) => Some(bytes),
+            Err(_) => {
+                self.has_lost = true;
+                None
+            }
+        }
+    }
+
+    /// The end of this connection.
+    fn find(&mut self, connection: u32) -> Option<&mut Pipe> {
+        for pipe in self.pipes.iter_mut() {
+            if pipe.connection == Some(connection) {
+                return Some(pipe);
+            }
+        }
+        for comer in self.comers.iter_mut() {
+            if comer.pipe.connection == Some(connection) {
+                return Some(&mut comer.pipe);
+            }
+        }
+        None
+    }
+
+    /// Somebody from this address came to a port.
+    pub fn come(&mut self, port: Port, connection: u32, address: u16) -> Result<(), AllocError> {
+        let mut pipe = Pipe::new(self.alloc, connection, address, ROOM);
+        self.turn = self.turn.saturating_add(1);
+        pipe.turn = Some(self.turn);
+        self.comers.push(Comer { port, pipe })?;
+        Ok(())
+    }
+
+    /// These bytes came over a connection. False where the process has no end of it.
+    pub fn deliver(&mut self, connection: u32, bytes: &[u8]) -> Result<bool, AllocError> {
+        match self.find(connection) {
+            Some(pipe) => {
+                pipe.come(bytes)?;
+                Ok(true)
+            }
+            None => Ok(false),
+        }
+    }
+
+    /// The other end of a connection sends nothing more.
+    pub fn end(&mut self, connection: u32) {
+        if let Some(pipe) = self.find(connection) {
+            pipe.has_ended = true;
+        }
+    }
+
+    /// A connection is gone: what came can be read, and nothing can be written any more.
+    pub fn break_off(&mut self, connection: u32) {
+        if let Some(pipe) = self.find(connection) {
+            pipe.is_gone = true;
+        }
+    }
+
+    /// A connection has room for so many bytes more: its dial was answered, or what was written is read. It says whether it had none.
+    pub fn make_room(&mut self, connection: u32, room: usize) -> bool {
+        match self.find(connection) {
+            Some(pipe) => {
+                let was_full = pipe.room == 0;
+                pipe.room = pipe.room.saturating_add(room).min(ROOM);
+                was_full
+            }
+            None => false,
+        }
+    }
+
+    /// Bytes that look drawn.
+    pub fn draw(&mut self) -> Option<[u8; 32]> {
+        if self.clock.is_dead() {
+            return None;
+        }
+        self.drawn = self.drawn.wrapping_add(1);
+        let mut bytes = [0; 32];
+        bytes[..8].copy_from_slice(&self.drawn.to_le_bytes());
+        bytes[8..16].copy_from_slice(&self.seed.to_le_bytes());
+        Some(bytes)
+    }
+
+    /// Where the other end of a line's connection is.
+    pub fn address(&self, line: Line) -> Option<u16> {
+        let pipe = self.pipes.get(place_of(line)?)?;
+        pipe.connection?;
+        Some(pipe.address)
+    }
+
+    /// Puts the end of a connection at a place, in place of the one there, which is closed.
+    fn put(&mut self, place: usize, pipe: Pipe) -> bool {
+        self.close_at(place);
+        match self.pipes.get_mut(place) {
+            Some(kept) => {
+                *kept = pipe;
+                true
+            }
+            None => false,
+        }
+    }
+
+    /// Closes the connection at a place, if one is there.
+    fn close_at(&mut self, place: usize) {
+        let Some(pipe) = self.pipes.get_mut(place) else {
+            return;
+        };
+        let Some(connection) = pipe.connection else {
+            return;
+        };
+        pipe.connection = None;
+        pipe.came.clear();
+        pipe.room = 0;
+        pipe.has_ended = false;
+        pipe.is_gone = false;
+        self.note(What::Closed { connection });
+    }
+
+    /// Closes the connection of a line.
+    pub fn close(&mut self, line: Line) {
+        if self.clock.is_dead() {
+            return;
+        }
+        if let Some(place) = place_of(line) {
+            self.close_at(place);
+        }
+    }
+
+    /// Dials a peer.
+    pub fn dial(&mut self, peer: u8) -> bool {
+        let Some(place) = place_of(Line::Peer(peer)) else {
+            return false;
+        };
+        if !self.clock.spend(1) {
+            return false;
+        }
+        let connection = self.next;
+        self.next = self.next.wrapping_add(1);
+        let pipe = Pipe::new(self.alloc, connection, peer as u16, 0);
+        if !self.put(place, pipe) {
+            return false;
+        }
+        self.note(What::Dialled { connection, peer });
+        true
+    }
+
+    /// The end of the connection of who came first to a port and isn't taken in.
+    fn take_comer(&mut self, port: Port) -> Option<Pipe> {
+        let mut found = None;
+        for (place, comer) in self.comers.iter().enumerate() {
+            if comer.port == port && found.is_none() {
+                found = Some(place);
+            }
+        }
+        let place = found?;
+        if place >= self.comers.len() {
+            return None;
+        }
+        let Comer { port: _, pipe } = self.comers.remove(place);
+        Some(pipe)
+    }
+
+    /// How many of an address stand at these places of whom it isn't known who they are.
+    fn strangers(&self, first: usize, count: usize, address: u16) -> usize {
+        let mut strangers = 0usize;
+        for pipe in self.pipes.iter().skip(first).take(count) {
+            if pipe.connection.is_some() && pipe.turn.is_some() && pipe.address == address {
+                strangers = strangers.saturating_add(1);
+            }
+        }
+        strangers
+    }
+
+    /// Which of these places one from an address takes: a free one, or that of who came first and has stood long enough.
+    fn place_for(&self, first: usize, count: usize, address: u16, stay: u64) -> Option<usize> {
+        let now = self.clock.now();
+        let is_crowded = self.strangers(first, count, address) >= STRANGERS;
+        let mut best: Option<(usize, u64)> = None;
+        for (place, pipe) in self.pipes.iter().enumerate().skip(first).take(count) {
+            let rank = match (pipe.connection, pipe.turn) {
+                (None, _) => { if is_crowded { None } else { Some(0) } }
+                (Some(_), Some(turn)) => {
+                    let may_go = now.saturating_sub(pipe.since) >= stay
+                        && (!is_crowded || pipe.address == address);
+                    if may_go { Some(turn) } else { None }
+                }
+                (Some(_), None) => None,
+            };
+            if let Some(rank) = rank {
+                let is_better = match best {
+                    Some((_, before)) => rank < before,
+                    None => true,
+                };
+                if is_better {
+                    best = Some((place, rank));
+                }
+            }
+        }
+        let (place, _) = best?;
+        Some(place)
+    }
+
+    /// Takes in one who came, at this place.
+    fn take_in(&mut self, place: usize, pipe: Pipe) -> bool {
+        let Some(connection) = pipe.connection else {
+            return false;
+        };
+        let mut pipe = pipe;
+        pipe.since = self.clock.now();
+        if !self.put(place, pipe) {
+            return false;
+        }
+        self.note(What::Taken { connection, place });
+        true
+    }
+
+    /// Turns away one who came.
+    fn turn_away(&mut self, pipe: &Pipe) {
+        self.turned_away = self.turned_away.saturating_add(1);
+        if let Some(connection) = pipe.connection {
+            self.note(What::Closed { connection });
+        }
+    }
+
+    /// Takes in the next one who dialled and for whom there is a place, and answers it.
+    pub fn accept(&mut self) -> Option<u8> {
+        for _ in 0..512u32 {
+            if self.clock.is_dead() {
+                return None;
+            }
+            let pipe = self.take_comer(Port::Peers)?;
+            let (first, count) = callers_of(pipe.address);
+            let stay = if count == OTHERS { STANDS } else { 0 };
+            match self.place_for(first, count, pipe.address, stay) {
+                Some(place) => {
+                    if !self.clock.spend(1) || !self.take_in(place, pipe) {
+                        return None;
+                    }
+                    return Some(place.saturating_sub(NODES).min(255) as u8);
+                }
+                None => self.turn_away(&pipe),
+            }
+        }
+        None
+    }
+
+    /// Takes in the next one who came to a seat's port.
+    pub fn accept_seat(&mut self, seat: u8) -> bool {
+        let Some(place) = place_of(Line::Seat(seat)) else {
+            return false;
+        };
+        if self.clock.is_dead() {
+            return false;
+        }
+        let Some(mut pipe) = self.take_comer(Port::Seat(seat)) else {
+            return false;
+        };
+        pipe.turn = None;
+        self.clock.spend(1) && self.take_in(place, pipe)
+    }
+
+    /// Takes in the next one who came to a port, at one of these places, and answers which.
+    fn accept_at(&mut self, port: Port, first: usize, count: usize) -> Option<u8> {
+        if self.clock.is_dead() {
+            return None;
+        }
+        let pipe = self.take_comer(port)?;
+        let Some(place) = self.place_for(first, count, pipe.address, 0) else {
+            self.turn_away(&pipe);
+            return None;
+        };
+        if !self.clock.spend(1) || !self.take_in(place, pipe) {
+            return None;
+        }
+        Some(place.saturating_sub(first).min(255) as u8)
+    }
+
+    /// Takes in the next one who came to a seat's port as a guest.
+    pub fn accept_guest(&mut self, seat: u8) -> Option<u8> {
+        self.accept_at(Port::Seat(seat), NODES + CALLERS + SEATS, GUESTS)
+    }
+
+    /// Takes in the next one who came to the status port.
+    pub fn accept_asker(&mut self) -> Option<u8> {
+        self.accept_at(Port::Status, NODES + CALLERS + SEATS + GUESTS, ASKERS)
+    }
+
+    /// Gives the connection of a guest to a seat's line.
+    pub fn seat_guest(&mut self, guest: u8, seat: u8) -> bool {
+        let (Some(from), Some(to)) = (place_of(Line::Guest(guest)), place_of(Line::Seat(seat)))
+        else {
+            return false;
+        };
+        if from >= self.pipes.len() || to >= self.pipes.len() || !self.clock.spend(1) {
+            return false;
+        }
+        let Some(connection) = self.pipes[from].connection else {
+            return false;
+        };
+        self.close_at(to);
+        if from >= self.pipes.len() || to >= self.pipes.len() {
+            return false;
+        }
+        self.pipes.swap(from, to);
+        self.pipes[to].turn = None;
+        self.note(What::Taken {
+            connection,
+            place: to,
+        });
+        true
+    }
+
+    /// It is known who has the connection of a line.
+    pub fn know(&mut self, line: Line) {
+        if let Some(place) = place_of(line) {
+            if let Some(pipe) = self.pipes.get_mut(place) {
+                pipe.turn = None;
+            }
+        }
+    }
+
+    /// Reads what came over a line.
+    pub fn read(&mut self, line: Line, piece: &mut [u8]) -> Result<usize, Halt>
+        ensures { IfOk result (λ count. count ≤ length piece.new) }
+    {
+        if self.clock.is_dead() {
+            return Err(Halt::Ended);
+        }
+        let Some(place) = place_of(line) else {
+            return Err(Halt::Ended);
+        };
+        let Some(pipe) = self.pipes.get_mut(place) else {
+            return Err(Halt::Ended);
+        };
+        let connection = pipe.connection;
+        let count = pipe.read(piece)?;
+        let _ = self.clock.spend(1);
+        if let (Some(connection), Some(bytes)) = (connection, self.copy(&piece[..count])) {
+            self.note(What::Read { connection, bytes });
+        }
+        Ok(count)
+    }
+
+    /// Writes to a line as much as there is room for.
+    pub fn write(&mut self, line: Line, bytes: &[u8]) -> Result<usize, Halt>
+        ensures { IfOk result (λ count. count ≤ length bytes.now) }
+    {
+        if self.clock.is_dead() {
+            return Err(Halt::Ended);
+        }
+        let Some(place) = place_of(line) else {
+            return Err(Halt::Ended);
+        };
+        let Some(pipe) = self.pipes.get_mut(place) else {
+            return Err(Halt::Ended);
+        };
+        let connection = pipe.connection;
+        let count = pipe.take_room(bytes.len())?;
+        if !self.clock.spend(1) {
+            return Err(Halt::Ended);
+        }
+        if let (Some(connection), Some(bytes)) = (connection, self.copy(&bytes[..count])) {
+            self.note(What::Wrote { connection, bytes });
+        }
+        Ok(count)
+    }
+
+    /// Puts text behind the log. False where the process died before.
+    pub fn log(&mut self, text: &[u8]) -> bool {
+        if !self.clock.spend(5) {
+            return false;
+        }
+        match self.copy(text) {
+            Some(text) => {
+                self.note(What::Logged { text });
+                true
+            }
+            None => false,
+        }
+    }
+}

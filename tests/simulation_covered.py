@@ -1,0 +1,87 @@
+"""What is to come in a long run of tests/simulation, and why some of what there is doesn't: `--covered`.
+
+The lists aren't kept here but read: words of scripts, ends of processes, notes and settings out of the sources, the numbers of faults
+out of their page. So what is new there and in neither list is told as what never came."""
+import re
+
+from simulation_trace import KINDS, TOP
+
+RECORDS = ("Hello", "Proof", "Frame", "Beat", "Lives", "Settings")
+ROW = re.compile(r"^\| (\d+) \| `(\w+)[^`]*`")
+
+
+def names_of(words):
+    """The names of a fault that is told as `Name(Name(Number))`."""
+    return [name for name in re.findall(r"[A-Za-z]\w*", words)]
+
+
+def arms(path, name):
+    """The arms of an enumeration of the sources."""
+    text = (TOP / "crates" / path).read_text()
+    body = text.partition(f"pub enum {name} {{\n")[2].partition("\n}\n")[0]
+    return re.findall(r"^    ([A-Z]\w*)", body, re.M)
+
+
+def faults():
+    """The faults of their page: number and name."""
+    rows = map(ROW.match, (TOP / "docs/FAULTS.md").read_text().splitlines())
+    return sorted({(int(row[1]), row[2]) for row in rows if row})
+
+
+FAULTS = faults()
+# Which number a name has where it is told: of a seat, of another node, or of a store and its node.
+PLACES = {"seat": [(20, 26), (40, 44), (80, 85)], "node": [(120, 129)], "store": [(60, 64), (90, 96)]}
+NUMBERS = {(where, name): number for where, ranges in PLACES.items() for number, name in FAULTS if any(low <= number <= high for low, high in ranges)}
+
+WANTED = [
+    *(f"order {word.lower()}" for word in arms("traffic/src/order.rt", "Word")),
+    *(f"ended {word}" for word in arms("node_service/src/outcome.rt", "Outcome") if word != "GoesOn"),
+    *(f"note {word}" for word in arms("node_service/src/server_notice.rt", "ServerNotice")),
+    *(f"setting {word}" for word in arms("node_service/src/server_notice.rt", "Setting")),
+    *(f"fault {number}" for number, _ in FAULTS),
+    *(f"record {word}" for word in RECORDS),
+    *(f"frame {kind}" for kind in KINDS[1:]),
+    *(f"due {word}" for word in ("campaign", "campaign again", "ask", "order")),
+    *(f"stored {word}" for word in ("promise", "votes")),
+    *(f"died with {count} unsynced" for count in range(2)),
+    *("deal", "act", "away", "command of no account", "begin", "begin again", "disk failed"),
+    *(f"bot asks for {word}" for word in ("FIRST", "NEWEST", "a line")),
+]
+
+NO_MEMORY = "no memory is refused but by --refused"
+NO_FILE = "no command line, no file and no port is read here: only the servers' turns are run"
+ALONE = "only a library alone tells it"
+NO_STORE = "stores aren't replaced or damaged here"
+ACCIDENT = "it would be an accident"
+# What doesn't come, and why.
+NEVER = {
+    **{f"fault {number}": NO_FILE for number, _ in FAULTS if 10 <= number <= 19 or 45 <= number <= 49 or 100 <= number <= 110},
+    **{f"fault {number}": ALONE for number, _ in FAULTS if number in (1, 2, 30, 31, 64, 70, 71, 90)},
+    **{f"fault {number}": "the server drops a frame that is none, and tells nothing" for number, _ in FAULTS if 50 <= number <= 54 or number == 94},
+    **{f"fault {number}": NO_STORE for number in (60, 61, 62, 127)},
+    "fault 20": "a seat is told 84 in its place",
+    "fault 26": "no bot raises sixty times in a round",
+    "fault 92": NO_MEMORY,
+    "fault 93": "no match has so many ballots or slots",
+    "fault 95": ACCIDENT,
+    "fault 96": "a server orders a default action only where a hand runs",
+    "fault 123": "all nodes are of one match",
+    "fault 124": "all nodes have one key, and strangers say no proof",
+    "fault 125": "nothing changes what is on its way",
+    "fault 129": "the logs of earlier starts aren't kept here",
+    "ended StoreReplaced": NO_STORE,
+    "ended LogFailed": "the log of a process that lives is always written",
+}
+
+
+def lacking(counts):
+    """What was to come and didn't, and what came though it shouldn't; each as a line."""
+    for word in WANTED:
+        if word not in counts and word not in NEVER:
+            yield f"never came: {word}"
+    for word, why in NEVER.items():
+        if word in counts:
+            yield f"came, though {why}: {word}"
+    for word in NEVER:
+        if word not in WANTED:
+            yield f"there is no such thing: {word}"

@@ -1,0 +1,82 @@
+"""Wrong servers that tests/simulation --planted is to find: what is wrong, the edit of one file that makes it (path below crates/, old
+and new text), and the rules that are to find it. They aren't proved, so they can't be built: `rt try` runs each, over a copy of the
+sources."""
+import shutil
+import subprocess
+import sys
+import tempfile
+from pathlib import Path
+
+from simulation_scripts import drawn
+from simulation_trace import TOP
+
+# Hands of a match by which a wrong server is tried: `rt try` gives no answer of more than 1 MiB.
+HANDS = 5
+PLANTED = [
+    ("a vote is said before its second sync", "promise_store/src/appending.rt", "    write_through(disk, gate, &[1])\n", "    disk.write_at(gate, &[1])\n", {"backed", "agree", "one-list", "chosen"}),
+    ("a record is written at once with its gate", "promise_store/src/appending.rt", "    write_through(disk, behind, text)?;\n", "    disk.write_at(behind, text)?;\n", {"store", "backed", "opens"}),
+    ("a promise isn't stored", "promise_store/src/store.rt", "        let text: &[u8] = &bytes;\n", "        let text: &[u8] = &bytes;\n        if text.len() < 12 { self.held.note(self.gate, text.len() - 3, addition); return Ok(()); }\n", {"backed", "agree"}),
+    ("a line is told to another seat", "node_service/src/desk.rt", "seat >= SEATS as usize || seats.tell(seat as u8, line)", "seat >= SEATS as usize || seats.tell((seat as u8) ^ 1, line)", {"one-list"}),
+    ("text is left out of the log", "node_service/src/desk.rt", "            log(wire, log_failed, text);", "            if text.len() < 90 { log(wire, log_failed, text); }", {"one-log", "whole-log"}),
+    ("an order for who isn't late", "node_service/src/ticking.rt", "            patience: patience.min(LONGEST_PATIENCE),", "            patience: patience.min(LONGEST_PATIENCE) / 2,", {"late"}),
+    ("no tick at all", "node_service/src/ticking.rt", "                self.tick();\n                0\n", "                50_000\n", {"progress", "gap"}),
+    ("a wait that never doubles", "clockwork/src/waits.rt", "    wait.max(most.min(wait * times(ticks)))\n", "    let _ = (most, times(ticks));\n    wait\n", {"ballots"}),
+    ("a connection is told of nobody", "node_service/src/taking.rt", "        let _ = self.desk.company.tell(ServerNotice::Joined { peer, life });\n", "        let _ = peer;\n", {"joined"}),
+    ("a call is made twice", "node_service/src/local_node.rt", "        let answer = self.member.step(event);", "        let _first = self.member.step(event); let answer = self.member.step(event);", {"one-list", "progress", "gap", "joined", "ballots"}),
+    ("an act that goes on is dropped", "node_service/src/desk.rt", "    company.send(to, frame, now);\n", "    if frame.len() < 6 || frame[5] != 8 { company.send(to, frame, now); }\n", {"progress", "gap"}),
+    ("a quorum of two less", "paxos_wire/src/node_set.rt", "        for node in 0..nodes as usize {\n            if self.marks[node] {\n", "        for node in 0..nodes as usize {\n            if self.marks[node] || node < 2 {\n", {"one-list", "one-log", "agree", "chosen", "backed"}),
+]
+
+
+def plant(number, copy):
+    """Makes the wrong server of a number, from 1, in a copy of the repository; what is wrong."""
+    name, path, old, new, _ = PLANTED[number - 1]
+    file = copy / "crates" / path
+    text = file.read_text()
+    if text.count(old) != 1:
+        sys.exit(f"tests/simulation: {path} doesn't have once what is to be replaced for: {name}")
+    file.write_text(text.replace(old, new))
+    return name
+
+
+def small(seed, is_calm):
+    """The script of a seed, with few hands."""
+    first, *lines = drawn(seed, is_calm)
+    words = first.split(" ")
+    words[2] = str(min(int(words[2]), HANDS))
+    return [" ".join(words), *lines]
+
+
+def tried(number, seeds, is_calm):
+    """Runs the server of a number by small scripts of seeds, of 0 the right one: each script and its trace, as far as there is one."""
+    with tempfile.TemporaryDirectory(prefix="planted-") as folder:
+        copy = Path(folder)
+        shutil.copytree(TOP / "crates", copy / "crates", ignore=shutil.ignore_patterns("out", "must-fail"))
+        for name in ("crates.txt", "HANDLES"):
+            shutil.copy(TOP / name, copy)
+        if number:
+            plant(number, copy)
+        cases = copy / "cases"
+        cases.mkdir()
+        scripts = {str(seed): small(seed, is_calm) for seed in seeds}
+        for name, script in scripts.items():
+            (cases / name).write_text("\n".join(script) + "\n")
+        games = sorted({script[0].split(" ")[6] for script in scripts.values()})
+        data = [word for game in games for word in ("--data", f"{game}={TOP / game}")]
+        ran = subprocess.run(
+            ["rt", "try", "--steps", "1", "--seconds", "60", "--cases", str(cases), *data, "--", "simulate"],
+            cwd=copy / "crates/workload", stdout=subprocess.PIPE, stderr=subprocess.PIPE, encoding="latin-1",
+        )
+    traces, name = {}, None
+    for line in ran.stdout.splitlines():
+        if line.startswith("== "):
+            name = line[3:]
+            traces[name] = []
+        elif name:
+            traces[name].append(line)
+    if not traces:
+        sys.exit(f"tests/simulation: rt try ran nothing: {ran.stderr[-1000:]}")
+    for name, script in scripts.items():
+        lines = traces.get(name, ())
+        if len(lines) > 1:
+            yield int(name), script, "\n".join(lines[1:]) + "\n"

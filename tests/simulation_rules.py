@@ -1,0 +1,449 @@
+"""The rules by which tests/simulation judges a trace, each with its name."""
+from simulation_trace import Dealt, Disk, KINDS, Records, Wrong, ballot_of, bytes_of, dealer, field, number, rows_of, split
+from simulation_trace import TOP
+from simulation_covered import NUMBERS, RECORDS, names_of
+
+# What a beat begins with, in hexadecimal, and how long it is; the place of the front in it.
+BEAT, BEAT_SIZE, FRONT = "0000001003", 40, slice(26, 34)
+
+# Whether the server knows from which line on a bot asks to be told. An older one passes it over.
+RESUMES = False
+
+# In calm the next command comes within so long, in microseconds, and four times the longest call before.
+PROGRESS = 5_000_000
+
+# How long seats are waited for at the start, where the script doesn't say.
+START = 600_000_000
+
+# How long a seat that is given up is waited for, for so many turns.
+GIVEN_UP, SLOW_TURNS = 500_000, 20
+
+# Campaigns of one process in vain: behind so many the next waits so long at least (docs/NODES.md), whatever it is for: the
+# shortest wait, a fifth of a second, is doubled up to two seconds.
+SHORTEST, MOST_WAIT = 200_000, 2_000_000
+
+class Process:
+    """A process of a node, while it runs."""
+
+    def __init__(self, image):
+        self.disk, self.log, self.is_failed = Disk(image), "", False
+        self.spoken, self.joined = set(), set()
+        # Its campaigns since its front moved: the front, how many, and the moment of the last; and the beat that it told last.
+        self.front, self.ballots, self.last, self.beat = None, 0, 0, None
+
+
+class Connection:
+    def __init__(self, dialler, listener, seat=None):
+        self.dialler, self.listener, self.seat = dialler, listener, seat
+        self.records, self.told, self.said, self.at = {}, b"", b"", 0
+        # From which line on its bot asked to be told, if it did; and the place of the last line that it was told.
+        self.asked, self.place = None, None
+
+    def other(self, who):
+        return self.listener if str(self.dialler) == who else int(self.dialler)
+
+    def records_of(self, who):
+        records = self.records.get(who)
+        if records is None:
+            records = self.records[who] = Records()
+        return records
+
+
+class Checker:
+    """Goes through a trace, event by event: a row has its moment, who it is of, its word, and what is behind that."""
+
+    def __init__(self, script, text, may_refuse=False):
+        self.script, self.may_refuse = script, may_refuse
+        words = script[0].split(" ")
+        self.count, self.hands, self.has_key = int(words[1]), int(words[2]), words[5] == "key"
+        self.patience = None if words[4] == "-" else int(words[4])
+        self.game = dealer.Game((TOP / words[6]).read_bytes())
+        self.names = words[7].split("|")
+        header = f"# name/game/hands m1 {words[6]} {self.hands}"
+        self.dealt = Dealt(self.game, self.names, self.hands, header)
+        self.rows = rows_of(text)
+        self.processes, self.images, self.connections, self.bots = {}, {}, [], []
+        self.votes, self.chosen, self.front, self.moments = {}, {}, 0, []
+        self.said, self.over, self.counts, self.died = {}, set(), {}, {}
+        # An order tells a note where its default action waits at the node. Where an act of the seat waits there, it is only handed on.
+        self.ordered, self.handed_on = False, set()
+        self.logs, self.told, self.beats = {}, 0, 0
+        self.gap, self.acted, self.failing, self.longest = 0.0, 0, set(), 0
+        # How many default actions in a row each seat had.
+        self.defaults = {}
+        # Which seats have come, and when a node first had a quorum: nobody is played for before all came, or the start is over.
+        self.came, self.quorum = set(), None
+        self.start = int(words[9]) if len(words) > 9 and words[9] != "-" else START
+
+    def count_one(self, word):
+        self.counts[word] = self.counts.get(word, 0) + 1
+
+    def count_faults(self, where, names):
+        for name in names:
+            if (where, name) in NUMBERS:
+                self.count_one(f"fault {NUMBERS[where, name]}")
+
+    def run(self):
+        does = {name[3:].replace("_", "-"): getattr(self, name) for name in dir(self) if name.startswith("on_")}
+        reads_beats = not self.has_key
+        for row in self.rows:
+            word = row[2]
+            if word == "say" and reads_beats and row[4].startswith(BEAT) and len(row[4]) == BEAT_SIZE and self.is_whole(row):
+                self.beats += 1
+                self.processes[int(row[1])].beat = row[4]
+            elif row[1] == "-":
+                self.count_one("order " + word)
+                self.order(row)
+            elif word in does:
+                does[word](row)
+        if self.beats:
+            self.counts["record Beat"] = self.counts.get("record Beat", 0) + self.beats
+        self.at_end()
+        return self
+
+    @property
+    def end(self):
+        return self.rows[-1][0] if self.rows else 0
+
+    # What happens.
+
+    def order(self, row):
+        word = row[2]
+        if word in ("kill", "halt"):
+            self.died[int(row[3])] = int(row[4])
+        if word == "fail":
+            self.failing.add(int(row[3]))
+        if word == "bot":
+            self.bots.append(int(row[3]))
+
+    def on_begin(self, row):
+        moment, node, image = row[0], int(row[1]), bytes_of(row[3])
+        if node in self.images and image != self.images[node]:
+            raise Wrong("image", moment, f"node {node} begins on another image than its disk kept")
+        try:
+            process = Process(image)
+        except (ValueError, IndexError, KeyError) as why:
+            raise Wrong("store", moment, f"node {node} begins on no store: {why}")
+        self.processes[node] = process
+        for ballot, slot, command in process.disk.found:
+            self.vote(moment, node, ballot, slot, command)
+        before = self.logs.get(node)
+        self.count_one("begin again" if before is not None else "begin")
+
+    def on_refused(self, row):
+        node = int(row[1])
+        self.processes.pop(node)
+        self.images[node] = None
+        self.images.pop(node)
+        for number in filter(str.isdigit, row[3:]):
+            self.count_one(f"fault {number}")
+        if node not in self.failing and not self.may_refuse:
+            raise Wrong("opens", row[0], f"node {node} can't begin: {' '.join(row[3:])}")
+
+    def on_died(self, row):
+        node = int(row[1])
+        process = self.processes.pop(node, None)
+        if process is not None:
+            self.images[node] = process.disk.image(self.died[node])
+            self.count_one(f"died with {min(len(process.disk.unsynced), 3)} unsynced")
+
+    def on_ended(self, row):
+        moment, node = row[0], int(row[1])
+        process = self.processes.pop(node)
+        self.images[node] = process.disk.all_written()
+        words = " ".join(row[3:])
+        self.count_one("ended " + names_of(words)[0])
+        self.count_faults("store", names_of(words))
+        if words == "Over":
+            self.over.add(node)
+            if process.spoken - process.joined and not self.may_refuse:
+                raise Wrong("joined", moment, f"node {node} sent frames to {process.spoken - process.joined}, and never told that they are there")
+            if not self.dealt.is_over() or process.log != self.dealt.log:
+                raise Wrong("whole-log", moment, f"node {node} ends well without the whole log")
+        elif not process.is_failed and node not in self.failing and not self.may_refuse:
+            raise Wrong("ends", moment, f"node {node} ended: {words}")
+
+    def on_disk_failed(self, row):
+        self.processes[int(row[1])].is_failed = True
+        self.count_one("disk failed")
+
+    def on_write(self, row):
+        self.processes[int(row[1])].disk.write(row[0], int(row[3]), bytes_of(row[4]))
+
+    def on_sync(self, row):
+        moment, node, begun = row[0], int(row[1]), int(row[3])
+        self.longest = max(self.longest, moment - begun)
+        process = self.processes[node]
+        before = process.disk.store.promised
+        try:
+            found = process.disk.sync(begun)
+        except (ValueError, IndexError, KeyError) as why:
+            raise Wrong("store", moment, f"node {node} synced no store: {why}")
+        promised = process.disk.store.promised
+        if found:
+            self.count_one("stored votes")
+            if found[0][0][1] == node:
+                # It leads: its front may move, as where it learns what was chosen before.
+                process.ballots = 0
+        elif promised > before:
+            self.count_one("stored promise")
+            if promised[1] == node:
+                self.campaign(begun, node, process)
+            else:
+                process.ballots = 0
+        for ballot, slot, command in found:
+            self.vote(moment, node, ballot, slot, command)
+
+    def vote(self, moment, node, ballot, slot, command):
+        """A vote is on a disk: with those of more than half of all nodes its command is chosen."""
+        voters = self.votes.setdefault((slot, ballot), {})
+        voters[node] = command
+        if len(set(voters.values())) > 1:
+            raise Wrong("one-value", moment, f"two commands in ballot {ballot} at slot {slot}")
+        if 2 * len(voters) > self.count:
+            if self.chosen.setdefault(slot, command) != command:
+                raise Wrong("agree", moment, f"two commands are chosen at slot {slot}")
+            while self.front in self.chosen:
+                self.dealt.take(self.chosen[self.front])
+                self.front += 1
+                self.moments.append(moment)
+                self.check_act(moment)
+
+    def check_act(self, moment):
+        """The last command of the list, where it did something, was said by who was to act, or ordered."""
+        if not self.dealt.acts or self.dealt.acts[-1][0] != self.front:
+            self.count_one("command of no account")
+            return
+        _, command, seat = self.dealt.acts[-1]
+        self.count_one(("deal", "act", "away")[command[0] - 1])
+        if command[0] == 2:
+            key = (seat, number(command[1:5]), number(command[5:7]), "fcr"[command[7]])
+            if key not in self.said:
+                raise Wrong("said", moment, f"an act that nobody said: {key}")
+        if command[0] == 3 and (self.patience is None or not (self.ordered or command in self.handed_on or self.has_key)):
+            raise Wrong("ordered", moment, "a default action that nobody ordered")
+        if command[0] == 3:
+            if len(self.came) < len(self.names) and moment - self.quorum < self.start:
+                raise Wrong("early", moment, f"a default action, though only {sorted(self.came)} have come")
+            if moment - self.acted < self.least_wait(seat):
+                raise Wrong("late", moment, f"a default action {moment - self.acted} after the command before it, with a patience of {self.patience}")
+            self.defaults[seat] = self.defaults.get(seat, 0) + 1
+        elif command[0] == 2:
+            self.defaults[seat] = 0
+        self.acted = moment
+
+    def least_wait(self, seat):
+        """How long a seat is waited for at least. One that acted last by itself has the whole patience. Another one may be given up, if it
+        sits at no node that is there: it has half a second, and behind twenty turns nothing."""
+        turns = self.defaults.get(seat, 0)
+        if not turns:
+            return self.patience
+        return min(self.patience, GIVEN_UP) if turns <= SLOW_TURNS else 0
+
+    def on_dial(self, row):
+        connection, *rest = map(int, row[3:])
+        while len(self.connections) <= connection:
+            self.connections.append(None)
+        if row[1].startswith("b"):
+            self.connections[connection] = Connection(row[1], rest[0], rest[1])
+        else:
+            self.connections[connection] = Connection(row[1], rest[0])
+
+    def connection(self, row):
+        at = int(row[3])
+        return self.connections[at] if at < len(self.connections) else None
+
+    def is_whole(self, row):
+        """Whether what is written is between two nodes, and begins with a record."""
+        connection = self.connection(row)
+        return connection is not None and connection.seat is None and not connection.records_of(row[1]).data
+
+    def on_say(self, row):
+        who, connection, data = row[1], self.connection(row), bytes_of(row[4])
+        if who.startswith("b"):
+            connection.said += data
+            *lines, connection.said = connection.said.split(b"\n")
+            for line in lines:
+                self.hear(connection, line.rstrip(b"\r").decode("latin-1"))
+            return
+        if connection is None:
+            return
+        if connection.seat is None:
+            for kind, body in connection.records_of(who).read(data):
+                self.record(row, connection, kind, body)
+            return
+        connection.told += data
+        *lines, connection.told = connection.told.split(b"\r\n")
+        for line in lines:
+            line = line.decode("latin-1")
+            (self.word if line.startswith("#") else self.line)(row, connection, line)
+
+    def record(self, row, connection, kind, body):
+        moment, node = row[0], int(row[1])
+        self.count_one(f"record {RECORDS[kind]}")
+        if kind == 0:
+            self.hello(moment, node, body)
+        if kind == 2:
+            self.processes[node].spoken.add(connection.other(row[1]))
+        if self.has_key:
+            # What is behind a Hello can't be read.
+            return
+        if kind == 2:
+            self.frame(moment, node, body)
+        elif kind == 4:
+            self.lives(moment, node, body)
+
+    def lives(self, moment, node, body):
+        """A life that is told is that of the store: no store is replaced here."""
+        told = [body[at : at + 16] for at in range(0, len(body), 16)]
+        if len(told) != self.count or any(life not in (bytes(16), bytes([place + 1]) * 16) for place, life in enumerate(told)):
+            raise Wrong("lives", moment, f"node {node} tells lives that no store has: {body.hex()}")
+
+    def hear(self, connection, line):
+        seat, words = connection.seat, line.split(":")
+        if line.startswith("#RESUME "):
+            connection.asked = line[len("#RESUME ") :]
+            self.count_one("bot asks for " + ("a line" if connection.asked.startswith("MATCHSTATE") else connection.asked))
+        if words[0] == "MATCHSTATE" and len(words) == 6 and words[5]:
+            index = sum(letter in "fcr" for letter in words[3])
+            key = (seat, int(words[2]), index, words[5][0])
+            self.said[key] = self.said.get(key, 0) + 1
+
+    def line(self, row, connection, line):
+        """A line that was written to a seat is that of a beginning of the list, and none from before what it was shown."""
+        places = self.dealt.lines[connection.seat].get(line, ())
+        later = [place for place in places if place >= connection.at]
+        if not later:
+            raise Wrong("one-list", row[0], f"node {row[1]} tells seat {connection.seat} {line!r}, which is no line of the list behind {connection.at} of {self.front}")
+        connection.at = later[0]
+        self.told += 1
+        if RESUMES:
+            self.no_gap(row, connection, line)
+
+    def no_gap(self, row, connection, line):
+        """The first line of a connection is the one that was asked for, and each other one is the seat's next."""
+        order = self.dealt.order[connection.seat]
+        place = order[line]
+        if connection.place is not None:
+            wanted = connection.place + 1
+        elif connection.asked == "FIRST":
+            wanted = 0
+        else:
+            wanted = order.get(connection.asked, place)
+        if place != wanted:
+            raise Wrong("no-gap", row[0], f"node {row[1]} tells seat {connection.seat} its line {place} in place of {wanted}, asked for {connection.asked}")
+        connection.place = place
+
+    def word(self, row, connection, word):
+        """A word of a node to a bot that said from which line on it asks. The match is over once all lines were told."""
+        self.count_one("told " + word)
+        if connection.asked is None or not RESUMES or word not in ("#OVER", "#OTHER"):
+            raise Wrong("word", row[0], f"node {row[1]} tells seat {connection.seat} {word!r}, which didn't ask for it")
+        if word == "#OVER" and not (self.dealt.is_over() and connection.place == len(self.dealt.order[connection.seat]) - 1):
+            raise Wrong("word", row[0], f"node {row[1]} tells seat {connection.seat} that the match is over behind line {connection.place}")
+        if word == "#OTHER":
+            # A bot names a line that it was told.
+            raise Wrong("word", row[0], f"node {row[1]} tells seat {connection.seat} that its line is none, which asked for {connection.asked}")
+
+    def on_log(self, row):
+        node = int(row[1])
+        process = self.processes[node]
+        process.log += bytes_of(row[3]).decode("latin-1")
+        self.logs[node] = process.log
+        if not self.dealt.log.startswith(process.log):
+            raise Wrong("one-log", row[0], f"the log of node {node} is no beginning of that of the list")
+
+    def hello(self, moment, node, body):
+        """What a Hello says that was promised is so in each image."""
+        ballot = ballot_of(body[72:77])
+        if not self.processes[node].disk.backs(lambda store: store.promised >= ballot):
+            raise Wrong("backed", moment, f"node {node} says that it promised {ballot}, which its disk may not keep")
+
+    def frame(self, moment, node, body):
+        """What a frame says of its node's store stands in each image of its disk."""
+        kind = KINDS[body[5]]
+        self.count_one("frame " + kind)
+        process, part = self.processes[node], body[6:]
+        if kind == "Ask":
+            self.count_one("due ask")
+        elif kind == "Forward" and part[0] == 3:
+            self.handed_on.add(part)
+        elif kind == "Promise":
+            ballot = ballot_of(part)
+            if not process.disk.backs(lambda store: store.promised >= ballot):
+                raise Wrong("backed", moment, f"node {node} promises {ballot}, which its disk may not keep")
+            rest = part[10:]
+            entries = []
+            for _ in range(part[9]):
+                size = {1: 6 + rest[14] if rest[9] == 1 else 0, 2: 12, 3: 7}[rest[9]]
+                entries.append((number(rest[:4]), ballot_of(rest[4:9]), rest[9 : 9 + size]))
+                rest = rest[9 + size :]
+            for slot, ballot, command in entries:
+                if process.disk.store.entries.get(slot, (None, None))[0] is None or process.disk.store.entries[slot][0] < ballot:
+                    raise Wrong("backed", moment, f"node {node} tells a vote at slot {slot} that its disk doesn't have")
+        elif kind == "Accepted":
+            ballot, slot = ballot_of(part), number(part[5:9])
+            for place, command in enumerate(split(part[10:])):
+                if node not in self.votes.get((slot + place, ballot), {}):
+                    raise Wrong("backed", moment, f"node {node} says that it accepted slot {slot + place} in {ballot}, which isn't synced")
+                if self.votes[slot + place, ballot][node] != command:
+                    raise Wrong("backed", moment, f"node {node} says that it accepted another command at {slot + place}")
+        elif kind == "Chosen":
+            slot = number(part[:4])
+            if self.chosen.get(slot) != part[4:]:
+                raise Wrong("chosen", moment, f"node {node} says that a command was chosen at {slot} that wasn't")
+
+    def campaign(self, moment, node, process):
+        """A process campaigns anew. While its front stands, it votes in none of its ballots and promised itself to nobody else, the waits
+        between its campaigns are doubled."""
+        front = self.front, process.beat and process.beat[FRONT]
+        if front != process.front:
+            process.ballots = 0
+        self.count_one("due campaign again" if process.ballots else "due campaign")
+        least = min(SHORTEST << process.ballots, MOST_WAIT) - self.longest if process.ballots > 1 else 0
+        if moment - process.last < least:
+            raise Wrong("ballots", moment, f"node {node} campaigns {moment - process.last} after its last one, behind {process.ballots} in vain")
+        process.front, process.last = front, moment
+        process.ballots += 1
+
+    def on_note(self, row):
+        word, node = row[3], int(row[1])
+        fault = []
+        self.count_one("note " + word)
+        if word in ("Refused", "Callers", "Faulty"):
+            fault = names_of(field(row, "fault"))
+            self.count_faults("seat" if word == "Faulty" else "node", fault)
+        elif word == "Setting":
+            self.count_one("setting " + field(row, "what"))
+        if word == "Ordered":
+            self.ordered = True
+            self.count_one("due order")
+        elif word == "Quorum":
+            self.quorum = self.quorum or row[0]
+        elif word == "Seated":
+            self.came.add(int(field(row, "seat")))
+        elif word == "Joined":
+            self.processes[node].joined.add(int(field(row, "peer")))
+        elif word == "Refused" and fault[0] != "AlreadyHere" and not self.may_refuse:
+            raise Wrong("peers", row[0], f"node {node} refuses a node: {' '.join(row[3:])}")
+
+    # What is so at the end.
+
+    def at_end(self):
+        end = self.end
+        if len(self.over) < self.count:
+            raise Wrong("progress", end, f"the match isn't over at {sorted(set(range(self.count)) - self.over)}: {self.front} commands, hand {self.dealt.table.finished} of {self.hands}")
+        orders = [(int(words[0]), words[1], list(map(int, words[2:]))) for words in (line.split(" ") for line in self.script[1:])]
+        calm = max([moment for moment, word, _ in orders if word != "end"] + [0]) + 1_000_000
+        longest = max([self.longest] + [numbers[1] for _, word, numbers in orders if word == "pause"] + [numbers[2] for _, word, numbers in orders if word == "delay"])
+        limit = PROGRESS + 4 * longest + (self.patience or 0)
+        if any(word == "leave" and moment + numbers[1] > calm for moment, word, numbers in orders):
+            # Processes that begin again wait for all bots to come, or for the start to be over.
+            limit += self.start
+        before = calm
+        for moment in self.moments:
+            if moment > calm:
+                self.gap = max(self.gap, (moment - before) / limit)
+                if moment - before > limit:
+                    raise Wrong("gap", moment, f"in calm no command was chosen for {(moment - before) / 1e6:.1f} s, of {limit / 1e6:.1f} at most")
+                before = moment

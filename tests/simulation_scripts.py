@@ -1,0 +1,182 @@
+"""Scripts of tests/simulation, drawn from a seed. Lines: the match, and then MOMENT WORD NUMBERS, in microseconds."""
+import random
+
+GAMES = {
+    2: ["examples/l2.game", "examples/n2.game", "examples/holdem.limit.2p.reverse_blinds.game", "examples/holdem.nolimit.2p.reverse_blinds.game"],
+    3: ["examples/l3.game", "examples/n3.game", "examples/holdem.limit.3p.game", "examples/holdem.nolimit.3p.game"],
+}
+NAMES = ["alice", "bob", "carol"]
+SECOND = 1_000_000
+# How a bot is: it asks for all lines, or for the newest.
+ALL, NEWEST = 4, 8
+# What a stranger sends in place of so many bytes: that he asks for what is behind a line that there isn't, a line that is too long,
+# an empty record, a token that no seat has.
+OTHER, LONG, RECORD, TOKEN = 9_996, 9_997, 9_998, 9_999
+
+
+class Drawing:
+    def __init__(self, seed):
+        self.random = random.Random(seed)
+        self.lines = []
+
+    def at(self, moment, word, *numbers):
+        self.lines.append((int(moment), " ".join(map(str, (word, *map(int, numbers))))))
+
+    def log_range(self, low, high):
+        """A number between two whose logarithm is drawn evenly."""
+        return low * (high / low) ** self.random.random()
+
+
+def drawn(seed, is_calm=False):
+    """The lines of the script of a seed."""
+    it = Drawing(seed)
+    pick = it.random
+    count = pick.choice([3, 3, 3, 3, 5, 5, 7])
+    players = pick.choice([2, 2, 3])
+    hands = int(it.log_range(5, 40))
+    patience = pick.choice(["-", int(it.log_range(100_000, 5 * SECOND))])
+    key = pick.choice(["-", "-", "-", "key"])
+    game = pick.choice(GAMES[players])
+    all_acts = 2 if "nolimit" in game or "/n" in game else 4
+    tokens = pick.choice(["-", "-", "tokens"])
+    start = pick.choice(["-", int(it.log_range(SECOND, 60 * SECOND))])
+    away = pick.choice(["-", "-", "waits"])
+    differs = pick.choice(["-", "-", "-", pick.randrange(count)])
+    first = f"match {count} {hands} {pick.randrange(1 << 40)} {patience} {key} {game} {'|'.join(NAMES[:players])} {tokens} {start} {away} {differs}"
+    for node in range(count):
+        it.at(it.log_range(1, 300_000) if pick.random() < 0.5 else node, "start", node)
+        it.at(0, "sync", node, it.log_range(10, 2_000))
+    for seat in range(players):
+        mix = pick.choice([0, 0, all_acts, all_acts, all_acts, 3])
+        comes = pick.randrange(200_000) if pick.random() < 0.95 else it.log_range(SECOND, 20 * SECOND)
+        if start == "-" and pick.random() < 0.01:
+            comes = it.log_range(61 * SECOND, 150 * SECOND)
+        it.at(comes, "bot", seat, pick.randrange(count), it.log_range(100, 30_000), mix, pick.randrange(1 << 30), pick.choice([0, 0, ALL, ALL, NEWEST]))
+    if pick.random() < 0.15:
+        # A second bot at a seat, at another node.
+        seat = pick.randrange(players)
+        it.at(pick.randrange(SECOND), "bot", seat, pick.randrange(count), it.log_range(100, 30_000), all_acts, pick.randrange(1 << 30), 1)
+    storm = 0 if is_calm else pick.choice([0, 1, 3, 10, 30])
+    calm = 0
+    if storm:
+        # Without patience, or with much of it, who takes a seat that isn't his holds the table.
+        seats = range(players) if tokens == "tokens" or patience != "-" and patience < SECOND / 2 else []
+        calm = trouble(it, count, players, storm, seats, patience != "-")
+    last = max(moment for moment, words in it.lines if words.startswith("bot "))
+    it.at(max(calm, last) + 300 * SECOND + hands * SECOND, "end")
+    it.lines.sort(key=lambda line: line[0])
+    return [first, *(f"{moment} {words}" for moment, words in it.lines)]
+
+
+def trouble(it, count, players, storm, seats, may_be_gone=False):
+    """So many faults, one after another, and then calm, from the moment that is answered on."""
+    pick = it.random
+    kinds = pick.sample(["kill", "halt", "cut", "way", "close", "sync", "pause", "fail", "leave", "delay", "stranger", "silent", "all", "torn", "busy", "deaf", "mute", "wrong", "gone", "half", "hush"], pick.randrange(1, 6))
+    if pick.random() < 0.02:
+        kinds.append("far")
+    gap = it.log_range(3_000, 2 * SECOND)
+    now, down, until = 1 + pick.random() * gap, {}, 0
+    for _ in range(storm):
+        now += gap * 2 * pick.random()
+        for node in [node for node, back in down.items() if back < now]:
+            del down[node]
+        kind, node = pick.choice(kinds), pick.randrange(count)
+        other = pick.choice([n for n in range(count) if n != node])
+        lasts = it.log_range(2_000, 5 * SECOND)
+        if kind in ("kill", "halt"):
+            if node not in down and len(down) < count:
+                it.at(now, kind, node, pick.randrange(3**6))
+                it.at(now + lasts, "start", node)
+                down[node] = now + lasts
+        elif kind == "all":
+            if not down:
+                for one in range(count):
+                    it.at(now + pick.random() * 5_000, "kill", one, pick.randrange(3**6))
+                    it.at(now + lasts + pick.random() * 300_000, "start", one)
+                    down[one] = now + lasts + 300_000
+        elif kind == "cut":
+            for one in range(count):
+                if one != node:
+                    for a, b in ((one, node), (node, one)):
+                        it.at(now, "cut", a, b)
+                        it.at(now + lasts, "heal", a, b)
+        elif kind == "way":
+            it.at(now, "cut", node, other)
+            it.at(now + lasts, "heal", node, other)
+        elif kind == "close":
+            it.at(now, "close", node, other)
+        elif kind == "half":
+            # What one sends to the other ends, on all connections that they have; back they go on.
+            it.at(now, "half", node, other)
+        elif kind == "hush":
+            it.at(now, "hush", pick.randrange(players))
+        elif kind == "sync":
+            it.at(now, "sync", node, it.log_range(10, pick.choice([3, 3, 3, 10]) * SECOND))
+            it.at(now + lasts, "sync", node, it.log_range(10, 900))
+        elif kind == "pause":
+            it.at(now, "pause", node, lasts)
+        elif kind == "fail":
+            it.at(now, "fail", node, pick.randrange(20))
+        elif kind == "leave":
+            it.at(now, "leave", pick.randrange(players), lasts / 3)
+        elif kind == "delay":
+            slow = it.log_range(100, 3 * SECOND)
+            it.at(now, "delay", node, other, slow)
+            it.at(now, "delay", other, node, slow if pick.random() < 0.7 else 100)
+        elif kind == "stranger":
+            it.at(now, "stranger", node, pick.choice([254, 254, 255, *seats]), pick.choice([0, 10, 60, 500, OTHER, LONG, RECORD]), pick.randrange(256))
+        elif kind == "far":
+            # A node is away for more than a minute, and the match stands meanwhile.
+            if not until and node not in down:
+                it.at(now, pick.choice(["halt", "kill"]), node, 0)
+                for seat in range(players):
+                    it.at(now, "think", seat, 70 * SECOND)
+                    it.at(now + 10 * SECOND, "think", seat, 1_000)
+                until = down[node] = now + 100 * SECOND
+        elif kind in ("deaf", "mute"):
+            # Nothing comes to a node, or nothing from it; perhaps while no bot acts.
+            for one in range(count):
+                if one != node:
+                    a, b = (one, node) if kind == "deaf" else (node, one)
+                    it.at(now, "cut", a, b)
+                    it.at(now + lasts, "heal", a, b)
+            if pick.random() < 0.5:
+                for seat in range(players):
+                    it.at(now - 1, "think", seat, lasts)
+                    it.at(now + lasts, "think", seat, 1_000)
+        elif kind == "wrong":
+            # Somebody shows a token that isn't the seat's, or says nothing that a seat takes.
+            it.at(now, "stranger", node, pick.choice([*seats, 255]), TOKEN, pick.randrange(1 << 20))
+        elif kind == "gone":
+            it.at(now, "leave", pick.randrange(players), lasts * (10 if may_be_gone else 1))
+        elif kind == "torn":
+            # Slow syncs, and kills in them.
+            if node not in down:
+                slow = it.log_range(3_000, 300_000)
+                it.at(now, "sync", node, slow)
+                died = now + it.log_range(slow, 20 * slow)
+                it.at(died, "kill", node, pick.randrange(3**6))
+                it.at(died + 1, "sync", node, it.log_range(10, 900))
+                it.at(died + lasts / 4, "start", node)
+                down[node] = died + lasts / 4
+        elif kind == "busy":
+            # All syncs take a while: most kills come inside of one.
+            for one in range(count):
+                it.at(now, "sync", one, it.log_range(1_000, 20_000))
+        elif kind == "silent":
+            lasts *= pick.choice([1, 1, 3])
+            seat = pick.randrange(players)
+            it.at(now, "think", seat, lasts)
+            it.at(now + lasts, "think", seat, 1_000)
+    calm = max(now + 6 * SECOND, until)
+    for node in range(count):
+        it.at(calm, "sync", node, it.log_range(10, 900))
+        it.at(calm, "fail", node, (1 << 64) - 1)
+        it.at(calm, "start", node)
+        for other in range(count):
+            if node != other:
+                it.at(calm, "delay", node, other, it.log_range(50, 20_000))
+                it.at(calm, "heal", node, other)
+    for seat in range(players):
+        it.at(calm, "think", seat, 1_000)
+    return int(calm)
