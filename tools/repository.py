@@ -1,4 +1,6 @@
 """What the scripts know of the crates: what they use, where their mutants are and what came of them, and the minutes that they take."""
+import contextlib
+import fcntl
 import functools
 import hashlib
 import os
@@ -76,18 +78,26 @@ def stale(edit):
     return None if pairs else "it has no pair of lines 'old:' and 'new:'"
 
 
-def applied(edit, crate):
-    """Applies an edit that isn't stale to a copy of its crate. The texts of the files that it changed, as they were."""
-    before, path, old = {}, None, None
+def edited(edit, crate):
+    """The texts of the files that an edit that isn't stale changes, by their paths: as they stand in a crate, and as it makes them."""
+    before, after, path, old = {}, {}, None, None
     for line in text_of(edit).split("\n"):
         if line.startswith("file: "):
             path = line[len("file: ") :].strip()
             before.setdefault(path, (crate / path).read_text(encoding="utf-8"))
+            after.setdefault(path, before[path])
         elif line.startswith("old: "):
             old = line[len("old: ") :]
         elif line.startswith("new:"):
-            text = (crate / path).read_text(encoding="utf-8")
-            (crate / path).write_text(text.replace(old, re.sub("^ ", "", line[len("new:") :])), encoding="utf-8")
+            after[path] = after[path].replace(old, re.sub("^ ", "", line[len("new:") :]))
+    return before, after
+
+
+def applied(edit, crate):
+    """Applies an edit that isn't stale to a copy of its crate. The texts of the files that it changed, as they were."""
+    before, after = edited(edit, crate)
+    for path, text in after.items():
+        (crate / path).write_text(text, encoding="utf-8")
     return before
 
 
@@ -135,22 +145,36 @@ def tries():
     return {name: (sum_then, verdict) for name, sum_then, verdict in rows}
 
 
+@contextlib.contextmanager
+def alone_in(folder):
+    """Waits until no other process is in this part over the same folder."""
+    held = os.open(folder, os.O_RDONLY)
+    try:
+        fcntl.flock(held, fcntl.LOCK_EX)
+        yield
+    finally:
+        os.close(held)
+
+
 def note_tries(verdicts):
-    """Writes what edits came to into wrong-bodies/TRIED, each with the sum of what it was tried on; lines of edits that are gone go."""
-    rows = {name: row for name, row in tries().items() if (BESIDE / f"{name}.edit").is_file()}
-    rows.update({f"{edit.parent.name}/{edit.stem}": (tried_on, verdict) for edit, tried_on, verdict in verdicts})
-    made = TRIED.with_suffix(".new")
-    head = "# Written by tools/wrong_bodies: the crate and the edit, a sum of what it was tried on, and what the try came to.\n"
-    made.write_text(head + "".join(f"{name} {then} {verdict}\n" for name, (then, verdict) in sorted(rows.items())), encoding="utf-8")
-    made.replace(TRIED)
+    """Writes what edits came to into wrong-bodies/TRIED, each with the sum of what it was tried on; lines of edits that are
+    gone go. Runs side by side, each over other crates, lose no line of each other."""
+    with alone_in(BESIDE):
+        rows = {name: row for name, row in tries().items() if (BESIDE / f"{name}.edit").is_file()}
+        rows.update({f"{edit.parent.name}/{edit.stem}": (tried_on, verdict) for edit, tried_on, verdict in verdicts})
+        made = TRIED.with_suffix(".new")
+        head = "# Written by tools/wrong_bodies: the crate and the edit, a sum of what it was tried on, and what the try came to.\n"
+        made.write_text(head + "".join(f"{name} {then} {verdict}\n" for name, (then, verdict) in sorted(rows.items())), encoding="utf-8")
+        made.replace(TRIED)
 
 
-def untried(edit):
-    """Why nothing is known of an edit over today's files, none if it was tried over just these."""
-    then, _ = tries().get(f"{edit.parent.name}/{edit.stem}", (None, None))
-    if then is None:
-        return "never tried"
-    return None if then == sum_of(edit) else "tried before it or its crate changed"
+def untried(edits):
+    """Those of these edits of which nothing is known over today's files, each with why."""
+    found = tries()
+    for edit in edits:
+        then, _ = found.get(f"{edit.parent.name}/{edit.stem}", (None, None))
+        if then != sum_of(edit):
+            yield edit, "tried before it or its crate changed" if then else "never tried"
 
 
 def figures(text):

@@ -1,0 +1,267 @@
+"""Which mutants of a crate can be tried in one check, and what that check says of each.
+
+A function's proof rests on its own body and on the contracts of the functions that it calls. So a wrong body shows in
+its own function: the check names its open goals. But where a function isn't proved, the check says of those that call it
+only so. Hence no two mutants of a group are in one function or in functions of which one calls the other.
+"""
+import collections
+import re
+from pathlib import PurePosixPath
+
+import repository
+
+# How many mutants are tried in one check at most. If the check dies, nothing is known of any.
+MOST = 12
+FUNCTION = re.compile(r"^( *)(?:pub(?:\([\w ]+\))? )?(?:const |unsafe )*fn (\w+)")
+IMPL = re.compile(r"^( *)(?:impl(?:<.*?>)? (?:(?:\w+::)*(\w+)(?:<.*>)? for )?|(?:pub )?trait )&?(?:\w+::)*(\w+)")
+# A line of a check: what it says of a function, what it says of a place in a file, and what isn't proved of a function's code.
+OF_FUNCTION = re.compile(r"^fn (\S+): (no proof|not proved)(.*)")
+OF_PLACE = re.compile(r"^(?:\./)?((?:src|specs|proofs)/\S+?):(\d+):\d+: error(.*)")
+OF_CODE = re.compile(r"^note: (?:\./)?(src/\S+?):(\d+):\d+: it is not proved that (.*)")
+GOAL = re.compile(r"`([^`\s]+)`")
+# A name in a proof that the edit took away, which says little of the contract.
+GONE = re.compile(r"has no field|is not in scope|has no `|was not admitted")
+ITS_PROOF = "its proof names what is gone"
+# What antt says of a text that it can't read, where one that only makes a statement false reads well.
+UNREAD = re.compile(r"is not in scope|has no field|is no name|operand is missing|expected the end|cannot continue")
+
+
+class Function:
+    """A function with a body: its file, its name, the type and the trait of its impl, and its lines, counted from 0."""
+
+    def __init__(self, path, name, owner, lines):
+        self.path, self.name, self.owner, self.lines = path, name, owner, lines
+
+    def key(self):
+        return self.path, self.owner, self.name
+
+    def has(self, at):
+        """Whether a line is of its body."""
+        return self.lines[1] <= at <= self.lines[2]
+
+    def is_at(self, path, at):
+        """Whether a line of a file is one of its signature, its contract or its body, or of its proof."""
+        if path == self.path:
+            return self.lines[0] <= at <= self.lines[2]
+        parts = [part.lstrip("+") for part in PurePosixPath(path).parts]
+        return parts[0] == "proofs" and self.is_named(["", *parts[1:-1]])
+
+    def is_named(self, parts):
+        """Whether a name is that of this function, or of a closure in it: the crate, the modules, the type, the function.
+
+        The modules before a type are those that declare it, which need not be those of its impl.
+        """
+        parts, (trait, type_name) = [part for part in parts if part != "fn"], self.owner
+        if type_name is None:
+            modules = [part for part in PurePosixPath(self.path).with_suffix("").parts[1:] if part not in ("lib", "main")]
+            return parts[1 : 2 + len(modules)] == [*modules, self.name]
+        owners = [at for at, part in enumerate(parts) if part == type_name or (trait and part.startswith(type_name + trait))]
+        return any((trait is None or parts[at] != type_name) and parts[at + 1 : at + 2] == [self.name] for at in owners)
+
+
+def functions(path, text):
+    """Finds the functions with a body in a source file as `rt fmt` leaves it."""
+    lines, found, closing, owner = text.split("\n"), [], None, (None, None)
+    for at, line in enumerate(lines):
+        impl, function = IMPL.match(line), FUNCTION.match(line)
+        if impl:
+            closing, owner = impl[1] + "}", (impl[2], impl[3])
+        elif line == closing:
+            closing, owner = None, (None, None)
+        elif function:
+            begin, end = body(lines, at, function[1])
+            if end is not None:
+                found.append(Function(path, function[2], owner, (at, begin, end)))
+    return found
+
+
+def body(lines, at, indent):
+    """The first and the last line of a function's body. Its brace ends a line with the indentation of the function's first
+    line, and its last one stands alone behind that indentation. The last line is None where there is no body."""
+    for begin in range(at, len(lines)):
+        line = lines[begin]
+        if begin > at and (FUNCTION.match(line) or not (line.startswith(indent) or not line)):
+            break
+        if line.startswith(indent + " ") or not line:
+            continue
+        if line.endswith("{"):
+            return begin + 1, next((end for end in range(begin + 1, len(lines)) if lines[end] == indent + "}"), None)
+        if line.endswith(("}", ";")):
+            return begin, begin if line.endswith("}") else None
+    return at, None
+
+
+class Calls:
+    """Which functions of a crate call which, as far as the text tells: rather too many than too few."""
+
+    NAMED = re.compile(r"(?:(\w+)(?:::<[^>]*>)?(::)|(\.))?\b(\w+)\b(\s*\()?")
+
+    def __init__(self, crate):
+        self.known, texts = collections.defaultdict(list), {}
+        for file in sorted((crate / "src").rglob("*.rt")):
+            path, text = str(file.relative_to(crate)), file.read_text(encoding="utf-8")
+            lines = text.split("\n")
+            for function in functions(path, text):
+                self.known[function.name].append(function)
+                texts[function] = "\n".join(lines[function.lines[1] : function.lines[2] + 1])
+        self.modules = {PurePosixPath(it.path).stem for it in texts} | {"crate", "super", "self"}
+        called = {}
+        for function, text in texts.items():
+            called.setdefault(function.key(), set()).update(self.in_text(function, text))
+        self.below = {key: self.all_below(key, called) for key in called}
+
+    def in_text(self, function, text):
+        """The functions that a body names."""
+        for path, colons, dot, name, brackets in self.NAMED.findall(text):
+            for other in self.known.get(name, []):
+                owner = other.owner[1]
+                if colons:
+                    is_called = path in self.modules if owner is None else path in (owner, "Self")
+                else:
+                    is_called = owner is not None and bool(brackets) if dot else owner is None
+                if is_called and other.key() != function.key():
+                    yield other.key()
+
+    @staticmethod
+    def all_below(key, called):
+        found, left = set(), [key]
+        while left:
+            new = called.get(left.pop(), set()) - found
+            found |= new
+            left += new
+        return found
+
+
+class Mutant:
+    """An edit: the lines that it changes, by file and number, and the functions whose bodies have these lines. It has no
+    functions if it changes anything else, and then is tried alone."""
+
+    def __init__(self, edit, crate, calls):
+        self.edit, self.lines, self.functions, self.why = edit, {}, [], None
+        before, after = repository.edited(edit, crate)
+        for path, text in before.items():
+            old, new = text.split("\n"), after[path].split("\n")
+            changed = {at: line for at, line in enumerate(new) if at >= len(old) or line != old[at]}
+            self.lines.update({(path, at): line for at, line in changed.items()})
+            own = functions(path, text) if path.startswith("src/") else []
+            inside = [[it for it in own if it.has(at)] for at in changed]
+            if len(old) != len(new) or "#[cycle(" in text or not all(len(it) == 1 for it in inside):
+                self.why = f"it changes more of {path} than bodies of functions"
+            self.functions += [it[0] for it in inside if len(it) == 1]
+        if self.why:
+            self.functions = []
+        self.names = {it.key() for it in self.functions}
+        self.below = {key for name in self.names for key in calls.below.get(name, ())}
+
+    def is_apart(self, other):
+        """Whether neither changes a function of the other, or one that functions of the other call."""
+        return bool(self.names and other.names) and not (self.names & (other.names | other.below) or self.below & other.names)
+
+
+def groups(mutants, most=MOST):
+    """Puts mutants into groups, each to be tried in one check."""
+    found = []
+    for mutant in mutants:
+        fits = [it for it in found if len(it) < most and all(mutant.is_apart(other) for other in it)]
+        if fits:
+            fits[0].append(mutant)
+        else:
+            found.append([mutant])
+    return found
+
+
+def apply(group, crate):
+    """Applies the mutants of a group to a copy of their crate; the texts of the files that they change, as they were."""
+    before = {path: (crate / path).read_text(encoding="utf-8") for mutant in group for path, _ in mutant.lines}
+    if len(group) == 1:
+        return repository.applied(group[0].edit, crate)
+    for path, text in before.items():
+        lines = text.split("\n")
+        for mutant in group:
+            for (_, at), line in [it for it in mutant.lines.items() if it[0][0] == path]:
+                lines[at] = line
+        (crate / path).write_text("\n".join(lines), encoding="utf-8")
+    return before
+
+
+def goals(line):
+    """The goals that a line of a check names as open: one of a place, or those of a function. Those of a return have the name
+    of the clause that is open there, or else of the place."""
+    named, placed, coded = OF_FUNCTION.match(line), OF_PLACE.match(line), OF_CODE.match(line)
+    if named:
+        found = GOAL.findall(named[3].partition("did not prove ")[2].partition("it calls")[0])
+    else:
+        found = GOAL.findall(placed[3] if placed and placed[3].startswith(": `") else coded[3] if coded else "")[:1]
+    for goal in found:
+        _, at_return, rest = goal.partition("returns-") if goal.startswith("returns-") else ("", "", "")
+        yield rest.rpartition("clause-")[2] if at_return else goal
+
+
+def refusals(said, of_group):
+    """The functions that a check doesn't prove for what is in them, each with its open goals as far as they are named.
+
+    One that isn't proved only since another isn't that it calls is not among them.
+    """
+    found, gone = {}, set()
+    for line in said.splitlines():
+        named, placed, coded = OF_FUNCTION.match(line), OF_PLACE.match(line), OF_CODE.match(line)
+        for function in of_group:
+            if named and function.is_named(named[1].split("::")):
+                what = [*goals(line)]
+                if what or "it calls" not in named[3]:
+                    found.setdefault(function, []).extend(what)
+            elif placed and placed[1].startswith("proofs/") and function.is_at(placed[1], -1):
+                if GONE.search(placed[3]):
+                    gone.add(function)
+                else:
+                    found.setdefault(function, []).extend(goals(line))
+            elif coded and function.is_at(coded[1], int(coded[2]) - 1):
+                found.setdefault(function, []).extend(goals(line))
+    return {it: list(dict.fromkeys(what or ([ITS_PROOF] if it in gone else []))) for it, what in found.items()}
+
+
+def unread(said):
+    """The lines that say that a text can't be read or compiled, so that no contract was tried."""
+    lines = said.splitlines()
+    read = [line for line in lines if OF_FUNCTION.match(line) or re.match(r"fn \S+: proved|logic=", line)]
+    placed = [line for line in lines if re.search(r"\berror\[[\w-]+\]", line)] if not read else []
+    return placed + [line for line in lines if (found := OF_PLACE.match(line)) and found[1].startswith(("src/", "specs/")) and UNREAD.search(re.sub(r"`[^`]*`", "", found[3]))]
+
+
+def come_to(group, said, status):
+    """What the check of a group says of each of its mutants: 'refused: ' and the open goals, or 'let through', or 'stale';
+    of those that it doesn't name nothing, and of none where it came to no verdict."""
+    lines = said.splitlines()
+    if status not in (0, 1) or (status == 1 and not any(OF_FUNCTION.match(line) or OF_PLACE.match(line) or "error" in line for line in lines)):
+        return {}
+    if len(group) == 1:
+        return {group[0]: alone(group[0], said, status)}
+    if unread(said):
+        return {}
+    found = refusals(said, [function for mutant in group for function in mutant.functions])
+    of_each = {mutant: [goal for it in mutant.functions for goal in found.get(it, [])] for mutant in group if any(it in found for it in mutant.functions)}
+    return {mutant: worded(what) for mutant, what in of_each.items()}
+
+
+def alone(mutant, said, status):
+    """What the check of one mutant says of it."""
+    if status == 0:
+        return "let through"
+    if unread(said):
+        return "stale"
+    found = refusals(said, mutant.functions)
+    named = [goal for what in found.values() for goal in what]
+    return worded(named or [goal for line in said.splitlines() if OF_FUNCTION.match(line) or OF_PLACE.match(line) for goal in goals(line)])
+
+
+def worded(named):
+    """A verdict with the first three of the open goals."""
+    named = list(dict.fromkeys(named))
+    more = f" and {len(named) - 3} more" if len(named) > 3 else ""
+    return f"refused: {', '.join(named[:3])}{more}" if named else "refused"
+
+
+def unread_of(group, said):
+    """Those of a group whose texts a check says it can't read."""
+    places = [(match[1], int(match[2]) - 1) for match in (re.match(r"(?:\./)?(src/\S+?):(\d+):\d+", line.strip().removeprefix("--> ")) for line in said.splitlines()) if match]
+    return [mutant for mutant in group if any(it.is_at(*place) for it in mutant.functions for place in places)]
