@@ -82,12 +82,12 @@ def two_slow_disks(seed, is_long):
     match, goal = SlowMatch(hands=60).begin(), 20 if is_long else 6
     begun = time.monotonic()
     match.comes_to(1, FIRST)
-    first, joined = time.monotonic() - begun, told(match, "joined")
+    first, joined = time.monotonic() - begun, told(match, ": connected")
     match.comes_to(goal, LONGEST * ROUND * goal)
     times = match.times[:goal]
     rounds = sorted((after - before) / ROUND for before, after in zip(times, times[1:]))
     median, longest = rounds[len(rounds) // 2], rounds[-1]
-    ballots, joined = told(match, "campaigns"), told(match, "joined") - joined
+    ballots, joined = told(match, "campaigns"), told(match, ": connected") - joined
     want(median <= MEDIAN and longest <= LONGEST, f"{median:.2f} rounds to the next command in the median, {longest:.2f} at most")
     want(ballots <= BALLOTS, f"{ballots} ballots")
     want(joined <= JOINED, f"connections opened {joined} times behind the first command")

@@ -19,9 +19,9 @@ status = loaded("tools/status")
 class League(Match):
     """A match whose machines have a key, and its seats tokens; each node can be asked."""
 
-    def __init__(self, *words, wait=None, **more):
-        # For so many seconds an act is waited for, if that has an end.
-        self.wait, self.tokens = wait, [f"{seat:x}" * 64 for seat in range(len(NAMES))]
+    def __init__(self, *words, wait=None, start=None, **more):
+        # For so many seconds an act is waited for, and seats that haven't come yet, if that has an end.
+        self.wait, self.begins, self.tokens = wait, start, [f"{seat:x}" * 64 for seat in range(len(NAMES))]
         super().__init__(*words, **more)
 
     def token(self, seat):
@@ -30,7 +30,8 @@ class League(Match):
     def entries(self):
         digests = [hashlib.sha256(token.encode()).hexdigest() for token in self.tokens[: self.players]]
         rows = ['key = "match.key"', "tokens = [" + ", ".join(f'"{digest}"' for digest in digests) + "]"]
-        return rows + ([] if self.wait is None else [f"patience = {self.wait}"])
+        times = {"patience": self.wait, "start": self.begins}
+        return rows + [f"{key} = {seconds}" for key, seconds in times.items() if seconds is not None]
 
     def node_entries(self, node):
         return [f'status = "{self.address(node)}:{self.statuses[node]}"']
@@ -100,7 +101,7 @@ def another_key(seed, is_long):
     match.kill(2)
     key.write_text(right)
     match.start(2)
-    match.await_note(2, "peer 0: joined")
+    match.await_note(2, "peer 0: connected")
     match.goes_on(10)
     match.ends()
 
@@ -126,7 +127,7 @@ def came(port, words, seconds):
 
 def told_times(notes, text):
     """How often this is told: a note of it stands for one, or for as many as it says."""
-    found = [re.fullmatch(re.escape(text) + r"(?: \((\d+) times\))?", note) for note in notes]
+    found = [re.fullmatch(re.escape(text) + r"(?: \(from [^)]*\))?(?: \((\d+) times\))?", note) for note in notes]
     return sum(int(it[1] or 1) for it in found if it)
 
 
@@ -169,10 +170,10 @@ def hung_bot(seed, is_long):
         return "c"
 
     match.begin(choice=choice)
-    waited(lambda: any("(bob)" in note and "played for" in note for node in range(3) for note in match.notes(node)), "an order", match.last_notes)
+    waited(lambda: any("(bob)" in note and "default action ordered" in note for node in range(3) for note in match.notes(node)), "an order", match.last_notes)
     match.goes_on(5)
     match.ends()
-    orders = [note for node in range(3) for note in match.notes(node) if "played for" in note]
+    orders = [note for node in range(3) for note in match.notes(node) if "default action ordered" in note]
     want(not [note for note in orders if "(alice)" in note], f"who only takes his time is played for: {orders}")
     log = match.log(0).splitlines()[-1]
     time.sleep(2.5)
@@ -181,8 +182,8 @@ def hung_bot(seed, is_long):
 
 @test()
 def absent_bot(seed, is_long):
-    """Nobody ever comes to seat 1: the match comes to its end all the same."""
-    match = League(hands=2, wait=1)
+    """Nobody ever comes to seat 1: the match waits for it, and comes to its end all the same."""
+    match = League(hands=2, wait=1, start=3)
     match.set_up()
     game = Game(match.game)
     match.bots.append(Bot(match, 0, lambda line: "c" if turn_of(game, line) else None))

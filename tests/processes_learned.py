@@ -14,7 +14,7 @@ LEARNT, LONG_LEARNT = 2, 20
 
 def orders(match):
     """How many notes tell that a seat was played for."""
-    return sum("played for" in note for node in range(match.count) for note in match.notes(node))
+    return sum("default action ordered" in note for node in range(match.count) for note in match.notes(node))
 
 
 def killed_after(commands):

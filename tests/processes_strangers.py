@@ -33,7 +33,7 @@ def hello(match, speaker, listener, mark=b"HDN1", digest=None, life=b"a stranger
 SAID = {
     "120 BadLength": lambda match, node: (4134).to_bytes(4, "big") + bytes(4134),
     "121 BadKind": lambda match, node: record(9, bytes(20)),
-    "122 BadHello": lambda match, node: hello(match, 2, node, mark=b"HDN2"),
+    "122 BadHello": lambda match, node: hello(match, 2, node, mark=b"HDN3"),
     "123 OtherMatch digest": lambda match, node: hello(match, 2 if node < 2 else 1, node, digest=bytes(32)),
     "123 OtherMatch number": lambda match, node: hello(match, 2, 1 - node) if node < 2 else hello(match, 1, node),
     "126 UnexpectedRecord": lambda match, node: record(2, bytes(20)),
@@ -46,7 +46,7 @@ def strangers(seed, is_long):
     match = Match(pace=PACE / 2, hands=400).begin()
     match.goes_on(20)
     for node in range(3):
-        match.await_note(node, f"peer {(node + 1) % 3}: joined")
+        match.await_note(node, f"peer {(node + 1) % 3}: connected")
     noise = random_bytes(seed, 10_000_000)
     for port in match.ports + [port + seat for port in match.seats for seat in range(2)]:
         said(port, noise)
@@ -58,7 +58,7 @@ def strangers(seed, is_long):
         for node, port in enumerate(match.ports):
             said(port, words(match, node))
         for node in range(3):
-            match.await_note(node, f"caller: {note}")
+            match.await_note(node, f"inbound connection refused: {note}")
     for node in (0, 1):
         said(match.ports[node], hello(match, 2, node))
         match.await_note(node, "128 AlreadyHere")
@@ -81,7 +81,7 @@ def half_records(seed, is_long):
             want(got[5:9] == b"HDN1", f"node {node} doesn't greet node 2, but says {got[:20]!r}: {match.last_notes()}")
             match.goes_on(2)
     match.start(2)
-    match.await_note(2, "peer 0: joined")
+    match.await_note(2, "peer 0: connected")
     match.goes_on(20)
     match.ends()
 
@@ -128,7 +128,7 @@ def crowd(match, node, count):
 
 def joined(match, node, peer):
     """How often a node told that a peer joined."""
-    return match.notes(node).count(f"peer {peer}: joined")
+    return match.notes(node).count(f"peer {peer}: connected")
 
 
 @test()

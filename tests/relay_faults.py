@@ -180,7 +180,7 @@ def refused_answer(folder, seed, is_long):
     want(line.split(b":")[3] == b"c", "the call is told to alice")
     bots[0].say(line.rstrip() + b":f\r\n")
     time.sleep(6)
-    refusals = [[note for note in match.notes(node) if note.endswith(f"at node {node}: 85 Illegal 21 FoldNotFacing")] for node in range(3)]
+    refusals = [[note for note in match.notes(node) if note.endswith(f"at node {node}, hand 0: 85 Illegal 21 FoldNotFacing")] for node in range(3)]
     want([len(notes) for notes in refusals] == [1, 1, 1], f"notes of refusals: {refusals}")
     want(not any("lost" in note for note in relays[0].notes()), f"a connection ended: {relays[0].notes()}")
     bots[0].say(line.rstrip() + b":c\r\n")

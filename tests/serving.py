@@ -160,7 +160,7 @@ class Match:
         want(text in self.notes(), f"no note {text!r}; {self.last_notes()}")
 
     def await_seat(self, seat, node):
-        self.await_note(f"awaiting seat {seat} ({NAMES[seat]}) at node {node}, port {self.seat(seat)[node]}")
+        self.await_note(f"seat {seat} ({NAMES[seat]}) not connected: expected at node {node}, port {self.seat(seat)[node]}")
 
     def fault(self, seat, node, text):
         """The note of a fault of a seat's session."""
