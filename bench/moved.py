@@ -208,8 +208,8 @@ class Counted(Processes):
         return (self.folder / f"notes{node}").read_text().splitlines()
 
     def are_together(self):
-        """Each process is joined by each other one, and one of them leads."""
-        others = [{f"peer {other}: joined" for other in range(self.nodes) if other != node} for node in range(self.nodes)]
+        """Each process is connected to each other one, and one of them leads."""
+        others = [{f"peer {other}: connected" for other in range(self.nodes) if other != node} for node in range(self.nodes)]
         return all(row <= set(self.notes(node)) for node, row in enumerate(others)) and self.leaders()
 
     def leaders(self):
@@ -228,7 +228,7 @@ def of_node(tools, words, progress):
     try:
         for node in range(NODES):
             match.begin(node)
-        waited(match.are_together, "the processes joined each other")
+        waited(match.are_together, "the processes are connected to each other")
         first = match.leaders()[0]
         players = Players(tools, [ports[first:] + ports[:first] for ports in match.ports])
         watched = [Watched(match.running[node], match.counts(node), match.folder / f"logs/node{node}.log") for node in range(NODES)]
@@ -247,7 +247,7 @@ def of_serve(tools, words, progress):
     try:
         match.starter = preloaded(tools["library"], match.folder / "counts")
         match.start()
-        waited(lambda: any(note.startswith("awaiting") for note in match.notes()), "serve awaits a seat", match.last_notes)
+        waited(lambda: any("not connected: expected" in note for note in match.notes()), "serve awaits a seat", match.last_notes)
         players = Players(tools, [match.seat(seat) for seat in (0, 1)])
         watched = Watched(match.process, match.folder / "counts", match.folder / "logs/node0.log")
         found = watch([watched], tools, words, players.begin, progress)
