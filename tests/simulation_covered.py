@@ -55,6 +55,7 @@ NO_STORE = "stores aren't replaced or damaged here"
 ACCIDENT = "it would be an accident"
 # What doesn't come, and why.
 NEVER = {
+    "order end": "all matches are over before",
     **{f"fault {number}": NO_FILE for number, _ in FAULTS if 10 <= number <= 19 or 45 <= number <= 49 or 100 <= number <= 110},
     **{f"fault {number}": ALONE for number, _ in FAULTS if number in (1, 2, 30, 31, 64, 70, 71, 90)},
     **{f"fault {number}": "the server drops a frame that is none, and tells nothing" for number, _ in FAULTS if 50 <= number <= 54 or number == 94},
