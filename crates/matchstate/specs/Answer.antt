@@ -26,6 +26,10 @@ pub record IsAnswer (game : Game) (bytes : List ℕ) (view : View) (action : Act
   pub line_is : IsLine game line view
   pub action_is : SaysAction game view field action
 
+-- it is the answer of some view and action
+abbrev pub IsSomeAnswer : Game → List ℕ → Type 0
+IsSomeAnswer game bytes = (view : View) × (action : Action) × IsAnswer game bytes view action
+
 -- the text is a line of this fault, a : and a last field
 abbrev pub HasFault : Game → List ℕ → LineFault → Type 0
 HasFault game bytes fault = (line : List ℕ) × (field : List ℕ) × IsCut bytes line field × ReadsAs game line (Err fault)

@@ -1,7 +1,8 @@
-ghost use Rattle.matchstate.specs.Answer.{AnswerReadsAs};
+ghost use Rattle.std.specs.Prelude.{MatchOption, Err};
+ghost use Rattle.matchstate.specs.Answer.{AnswerReadsAs, IsSomeAnswer};
 
 use crate::action_text::read_action;
-use crate::line::read_played;
+use crate::line::{has_fields, read_played};
 use crate::line_fault::LineFault;
 use crate::line_fields::cut_last_field;
 use crate::view::View;
@@ -26,4 +27,28 @@ pub fn read_answer(bytes: &[u8], game: &GameDef) -> Result<(View, Action), LineF
         },
         Err(fault) => Err(fault),
     }
+}
+
+/// The fault of a text of which the word and the fields are there, if it has one.
+fn read_fault(bytes: &[u8], game: &GameDef) -> Option<LineFault>
+    ensures { MatchOption result (IsSomeAnswer game.now bytes.now) (λ fault. AnswerReadsAs game.now bytes.now (Err fault)) }
+{
+    match read_answer(bytes, game) {
+        Ok(_) => None,
+        Err(fault) => Some(fault),
+    }
+}
+
+/// Why a text is no answer in this game: the fault that `read_answer` tells, 40 to 44; none where it is an answer. What has
+/// no word and fields is told so before any room is made for what an answer says, so that an empty line costs little.
+pub fn answer_fault(bytes: &[u8], game: &GameDef) -> Option<LineFault>
+    ensures { MatchOption result (IsSomeAnswer game.now bytes.now) (λ fault. AnswerReadsAs game.now bytes.now (Err fault)) }
+{
+    let Some((line, _)) = cut_last_field(bytes) else {
+        return Some(LineFault::NotMatchstate);
+    };
+    if !has_fields(line) {
+        return Some(LineFault::NotMatchstate);
+    }
+    read_fault(bytes, game)
 }

@@ -6,9 +6,10 @@
 //! line that a seat has now, against the table, where both lie. So no command makes a copy of a hand's actions or betting.
 //!
 //! What a seat sees is a `View`, by `seat_view`; `write` appends its line, `read` reads a line back, and `read_answer`
-//! a player's answer, both against the game alone: they make a view. `read_betting`, `read_action`, `read_deal` and
-//! `read_shown` read parts of lines, `cut` parts a text at a byte, `are_digits` says whether it has digits alone, and
-//! `put`, `put_number`, `put_cards` and `betting_text` append parts.
+//! a player's answer, both against the game alone: they make a view. `answer_fault` says why a text is no answer, and makes
+//! none where the word and the fields aren't there. `read_betting`, `read_action`, `read_deal` and `read_shown` read parts of
+//! lines, `cut` parts a text at a byte, `are_digits` says whether it has digits alone, and `put`, `put_number`, `put_cards` and
+//! `betting_text` append parts.
 //!
 //! Calls with `reserved` in their name take no memory where there is room for the most that they append, a constant
 //! beside each; no other call but those that answer a `Result` of `AllocError` takes any.
@@ -40,7 +41,7 @@ mod unused_cards;
 mod view;
 
 pub use action_text::read_action;
-pub use answer::read_answer;
+pub use answer::{answer_fault, read_answer};
 pub use betting_field::{
     BettingText, MOST_BETTING, betting_text, betting_text_reserved, read_betting,
 };

@@ -1,4 +1,4 @@
-ghost use Rattle.std.specs.Prelude.{◌≡◌, ℕ, ◌+◌, ◌<◌, ◌≤◌, ◌++◌, decimal, OnOk, OnErr, vec_len, vec_capacity, List, Some, IfSome, IsSomeAnd, IsNone, MatchResult, codes};
+ghost use Rattle.std.specs.Prelude.{◌≡◌, ℕ, ◌+◌, ◌<◌, ◌≤◌, ◌++◌, decimal, OnOk, OnErr, vec_len, vec_capacity, List, Some, IfSome, IsSomeAnd, IsNone, MatchResult, codes, IsTrue, ◌↔◌};
 ghost use Rattle.matchstate.specs.Cards.{cards_field};
 ghost use Rattle.matchstate.specs.SeenCards.{holes_in, boards_in};
 ghost use Rattle.matchstate.specs.Line.{joined, line_text, newest_text, seat_text, Fields, HasFields, AreNumbers, IsLine, ReadsAs};
@@ -226,5 +226,15 @@ fn numbers_of(fields: &LineFields, game: &GameDef) -> Option<(usize, u32)>
         Some((position, hand))
     } else {
         None
+    }
+}
+
+/// Whether the word and the fields of a line are there.
+pub(crate) fn has_fields(bytes: &[u8]) -> bool
+    ensures { IsTrue result ↔ ((fields : Fields) × HasFields bytes.now fields) }
+{
+    match fields_of(bytes) {
+        Some(_) => true,
+        None => false,
     }
 }

@@ -13,7 +13,7 @@ use crate::said::Said;
 use crate::session_fault::SessionFault;
 use crate::version::is_version;
 use betting::laws;
-use matchstate::{read_answer, read_current_answer};
+use matchstate::{answer_fault, read_current_answer};
 use slot_log::{Command, Table};
 
 /// What the line in front says; none while no whole line stands there.
@@ -89,8 +89,8 @@ fn why_not_current(text: &[u8], seat: usize, table: &Table) -> SessionFault
     requires { (view : View) (action : Action) → seat_view table.now.game table.now.hands seat ≡ Some view → ¬ (IsAnswer table.now.game text.now view action) }
     ensures { Plays table.now.game table.now.hands seat text.now (Err result) }
 {
-    match read_answer(text, table.game()) {
-        Ok(_) => SessionFault::NotCurrent,
-        Err(fault) => SessionFault::Malformed(fault),
+    match answer_fault(text, table.game()) {
+        None => SessionFault::NotCurrent,
+        Some(fault) => SessionFault::Malformed(fault),
     }
 }
