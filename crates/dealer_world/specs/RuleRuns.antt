@@ -1,7 +1,8 @@
 -- Runs of a cluster whose nodes keep the rules, over all its eras.
-use Rattle.std.specs.Prelude.{◌≡◌, ◌≢◌, ℕ, ◌+◌, ◌<◌, true, List, [], ◌∷◌, ◌++◌, map, length, Result, Err}
+use Rattle.std.specs.Prelude.{◌≡◌, ◌≢◌, ℕ, ◌+◌, ◌<◌, ◌≤◌, true, List, [], ◌∷◌, ◌++◌, map, length, Result, Err}
 use Rattle.std.proofs.Common.{get_or, set}
-use Rattle.protocol_model.specs.Sets.{In}
+use Rattle.slot_log.specs.declared.command.Command.{Command}
+use Rattle.protocol_model.specs.Sets.{In, IsBeginning}
 use Rattle.protocol_model.specs.Messages.{Message}
 use Rattle.protocol_model.specs.Quorums.{AreChosen}
 use Rattle.protocol_model.specs.Stores.{Store, empty_store}
@@ -115,6 +116,13 @@ RunsApplyTheChosen = (setting : Setting) (n : ℕ) (before : List Era) (sources 
     → RunsTo setting n before sources state → node < length state.standings → get_or state.standings node s ≡ s → s.up ≡ true
     → IsUnforged state.now.sent state.now.delivered
     → AreChosen n (said_in before ++ said state.now.sent) (applied s)
+
+-- and of two lists of commands that are chosen so the shorter one is a beginning of the longer
+abbrev pub RunsChooseOneList : Type 0
+RunsChooseOneList = (setting : Setting) (n : ℕ) (before : List Era) (sources : List Source) (state : State) (shorter longer : List Command)
+    → RunsTo setting n before sources state → IsUnforged state.now.sent state.now.delivered
+    → AreChosen n (said_in before ++ said state.now.sent) shorter → AreChosen n (said_in before ++ said state.now.sent) longer
+    → length shorter ≤ length longer → IsBeginning shorter longer
 
 -- in every run of the rules in which no frame was forged there is one list behind all that was shown, in all eras
 abbrev pub RunsShowOneList : Type 0

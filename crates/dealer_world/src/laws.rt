@@ -15,7 +15,7 @@ ghost use Rattle.dealer_world.specs.Given.{Given};
 ghost use Rattle.dealer_world.specs.RecordLaws.{OldFramesSayTheSame, LinesOfRecordsAgree, AlikeListsShowTheSame, CompleteLogsAreMatchLogs};
 ghost use Rattle.dealer_world.specs.CalmRun.{RoundsMoveOn, FreshClustersAreCalm};
 ghost use Rattle.dealer_world.specs.Calling.{EventsAreCalls, VainEventsAreNone, FrontsAreSeen, ConflictsAreRefusals, BrokenEventsAreCalls};
-ghost use Rattle.dealer_world.specs.RuleRuns.{RunsShowOneList, RunsAreBacked, RunsSendToNodes, RunsNeverConflict, RunsApplyTheChosen};
+ghost use Rattle.dealer_world.specs.RuleRuns.{RunsShowOneList, RunsAreBacked, RunsSendToNodes, RunsNeverConflict, RunsApplyTheChosen, RunsChooseOneList};
 
 use dealer_kind::laws::{deals_are_owned_acts_are_said_and_aways_are_ordered, owners_may_widen};
 use dealer_node::laws::seen_as_one;
@@ -151,6 +151,14 @@ pub fn runs_apply_the_chosen()
     ensures { RunsApplyTheChosen }
 {
     layers_below();
+}
+
+/// And of two lists of commands that are chosen so the shorter one is a beginning of the longer.
+pub fn runs_choose_one_list()
+    ensures { RunsChooseOneList }
+{
+    layers_below();
+    one_choice();
 }
 
 /// A cluster at rest whose nodes keep the rules moves: in every run in which no frame was forged, where the members of a

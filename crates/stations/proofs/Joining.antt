@@ -10,9 +10,9 @@ use Rattle.dealer_kind.specs.Plans.{Plan, IsPlan}
 use Rattle.dealer_kind.specs.declared.source.Source.{Source}
 use Rattle.node_rules.specs.Standings.{Standing, place_of, stopped}
 use Rattle.dealer_world.specs.Behind.{EachNode}
-use Rattle.dealer_world.specs.RuleRuns.{State, IsCreated, plan_of, RunsTo, fresh, step, IsBacked, RunsShowOneList, RunsAreBacked, RunsSendToNodes, RunsNeverConflict, RunsApplyTheChosen}
+use Rattle.dealer_world.specs.RuleRuns.{State, IsCreated, plan_of, RunsTo, fresh, step, IsBacked, RunsShowOneList, RunsAreBacked, RunsSendToNodes, RunsNeverConflict, RunsApplyTheChosen, RunsChooseOneList}
 use Rattle.stations.specs.Deeds.{Deed, Doing, deeds_of, record_of}
-use Rattle.stations.specs.Joining.{DidAt, AreProcesses, ProcessesShowOneList, ProcessesAreBacked, ProcessesSendToNodes, ProcessesNeverConflict, ProcessesApplyTheChosen}
+use Rattle.stations.specs.Joining.{DidAt, AreProcesses, ProcessesShowOneList, ProcessesAreBacked, ProcessesSendToNodes, ProcessesNeverConflict, ProcessesApplyTheChosen, ProcessesChooseOneList}
 
 -- ---- the standings of the nodes from k on, so many
 
@@ -247,3 +247,8 @@ processes_apply_the_chosen law setting sources histories all processes i s less 
     law setting (length sources) [] sources _ i s (run_with setting sources histories all processes i s less is each)
     (subst (λ (n : ℕ). i < n) (sym (length_from (back (chosen_at setting sources histories all processes each) i s) 0 (length sources))) less)
     (at_this setting sources histories all processes i s less is each) up processes.order.unforged)
+
+pub processes_choose_one_list : RunsChooseOneList → ProcessesChooseOneList
+processes_choose_one_list law setting sources histories all processes shorter longer short long less =
+    ∥∥₁_map (merely setting sources histories all processes)
+    (λ each. law setting (length sources) [] sources _ shorter longer (run_chosen setting sources histories all processes each) processes.order.unforged short long less)

@@ -3,6 +3,7 @@ mod Acting
 mod Dying
 mod Incarnations
 mod Together
+mod Tables
 mod Walks
 mod Examples
 mod FrameExamples

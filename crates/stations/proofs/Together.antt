@@ -47,7 +47,7 @@ seen_one see (first ∷ list) (suc i) = seen_one see list i
 
 module _ {D : Type 0} (g : Ghosts D) where
   -- a node that is down applied nothing
-  runs_or_knows_nothing : (member : Membership) (up : Option (Up D)) (disk : Option D) (s : Standing) → IsSeenBy g member up disk s → (s.up ≡ true) ⊎ (applied s ≡ [])
+  pub runs_or_knows_nothing : (member : Membership) (up : Option (Up D)) (disk : Option D) (s : Standing) → IsSeenBy g member up disk s → (s.up ≡ true) ⊎ (applied s ≡ [])
   runs_or_knows_nothing member (Some up) disk s seen = inl seen.running.up
   runs_or_knows_nothing member None (Some disk) s down = inr (ap applied down.stopped)
   runs_or_knows_nothing member None None s none = absurd none

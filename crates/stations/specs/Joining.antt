@@ -1,6 +1,7 @@
 -- What holds of nodes in processes of their own, by what each of them did alone.
-use Rattle.std.specs.Prelude.{◌≡◌, ℕ, ◌<◌, true, List, [], ◌∷◌, ◌++◌, length, map, Err}
-use Rattle.protocol_model.specs.Sets.{In}
+use Rattle.std.specs.Prelude.{◌≡◌, ℕ, ◌<◌, ◌≤◌, true, List, [], ◌∷◌, ◌++◌, length, map, Err}
+use Rattle.slot_log.specs.declared.command.Command.{Command}
+use Rattle.protocol_model.specs.Sets.{In, IsBeginning}
 use Rattle.protocol_model.specs.Stores.{Store}
 use Rattle.protocol_model.specs.Quorums.{AreChosen}
 use Rattle.dealer_kind.specs.Kind.{Setting}
@@ -70,3 +71,9 @@ abbrev pub ProcessesApplyTheChosen : Type 0
 ProcessesApplyTheChosen = (setting : Setting) (sources : List Source) (histories : ℕ → List Deed) (all : List Doing) → AreProcesses setting sources histories all
     → (i : ℕ) (s : Standing) → i < length sources → DidAt (plan_of setting sources) i (histories i) s → s.up ≡ true
     → ∥ AreChosen (length sources) (said (record_of all).sent) (applied s) ∥₁
+
+-- and of two lists of commands that are chosen so the shorter one is a beginning of the longer
+abbrev pub ProcessesChooseOneList : Type 0
+ProcessesChooseOneList = (setting : Setting) (sources : List Source) (histories : ℕ → List Deed) (all : List Doing) → AreProcesses setting sources histories all
+    → (shorter longer : List Command) → AreChosen (length sources) (said (record_of all).sent) shorter → AreChosen (length sources) (said (record_of all).sent) longer
+    → length shorter ≤ length longer → ∥ IsBeginning shorter longer ∥₁

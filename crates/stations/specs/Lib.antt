@@ -6,3 +6,4 @@ pub mod Giving
 pub mod Looking
 pub mod Incarnations
 pub mod Together
+pub mod Tables

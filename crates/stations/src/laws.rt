@@ -1,17 +1,18 @@
 //! What holds of nodes in processes of their own: each law is the contract of a function that does nothing.
 
 ghost use Rattle.std.specs.Prelude.{map, option_map};
-ghost use Rattle.stations.specs.Joining.{ProcessesShowOneList, ProcessesAreBacked, ProcessesSendToNodes, ProcessesNeverConflict, ProcessesApplyTheChosen};
+ghost use Rattle.stations.specs.Joining.{ProcessesShowOneList, ProcessesAreBacked, ProcessesSendToNodes, ProcessesNeverConflict, ProcessesApplyTheChosen, ProcessesChooseOneList};
 ghost use Rattle.stations.specs.Stations.{DeathsAtRestAreDeeds, DeathsInsideAreDeeds};
 ghost use Rattle.stations.specs.Incarnations.{IncarnationsAreDeeds};
 ghost use Rattle.stations.specs.Together.{StationsArePromised, ListsOfStationsArePromised};
+ghost use Rattle.stations.specs.Tables.{TablesAreOfOneMatch};
 ghost use Rattle.stations.specs.Looking.{look_of};
 
 use crate::station::Station;
 use dealer_node::laws::{images_are_seen, moments_pass, seen_as_one};
 use dealer_world::laws::{
-    events_are_calls, runs_apply_the_chosen, runs_are_backed, runs_never_conflict,
-    runs_send_to_nodes, runs_show_one_list,
+    events_are_calls, runs_apply_the_chosen, runs_are_backed, runs_choose_one_list,
+    runs_never_conflict, runs_send_to_nodes, runs_show_one_list,
 };
 use promise_store::Disk;
 
@@ -52,6 +53,22 @@ pub fn processes_apply_the_chosen()
     ensures { ProcessesApplyTheChosen }
 {
     runs_apply_the_chosen();
+}
+
+/// And of two lists of commands that are chosen so the shorter one is a beginning of the longer.
+pub fn processes_choose_one_list()
+    ensures { ProcessesChooseOneList }
+{
+    runs_choose_one_list();
+}
+
+/// So the tables that nodes had, of whatever processes of theirs and at whatever moments, are tables of one match: there is one
+/// list of chosen commands of which each of them shows a beginning.
+pub fn tables_are_of_one_match<D: Disk + Drop>()
+    ensures { TablesAreOfOneMatch D.Disk }
+{
+    processes_apply_the_chosen();
+    processes_choose_one_list();
 }
 
 /// What a process leaves that dies, at whatever moment, is what the next process of its node goes on from: as after a
