@@ -1,5 +1,6 @@
 -- The line of a view names its place, and what a text is by the place that it names.
 use Rattle.std.proofs.Common.{◌≡◌, ◌≢◌, ℕ, ◌-◌, ◌<◌, ◌≤◌, List, ◌∷◌, length, drop, Option, Some, None, decimal, refl, sym, ap, ◌∙◌, subst, arith}
+use Rattle.std.specs.Prelude.{IsSome}
 use Rattle.std.specs.Option.{option_map}
 use Rattle.std.proofs.lemmas.List.{length-drop}
 use Rattle.game_def.specs.Game.{Game, IsGame}
@@ -92,20 +93,18 @@ NamesOnly line cursor = (other : Cursor) → NamesPlace line other → other ≡
 abbrev IsOther : Game → ℕ → List Hand → ℕ → List ℕ → Cursor → Type 0
 IsOther game count hands seat line cursor = (seat_line_at game hands seat cursor.hand cursor.actions ≢ Some line) × ¬ (MayCome game count hands seat cursor)
 
-another_line : (x y : List ℕ) → Some x ≡ Some y → x ≡ y
-another_line x y e = cc
-
-told_none : (o : Option (List ℕ)) (line : List ℕ) → Some line ≡ o → o ≡ None → ⊥
-told_none o line e f = cc
+some_none : (o : Option (List ℕ)) → IsSome o → o ≡ None → ⊥
+some_none None has none = cc
+some_none (Some line) has none = cc
 
 none_told : (o : Option (List ℕ)) (line : List ℕ) → None ≡ o → o ≡ Some line → ⊥
 none_told o line e f = cc
 
-pub other_by_text : (game : Game) (count : ℕ) (hands : List Hand) (seat : ℕ) (line told : List ℕ) (cursor : Cursor) → NamesOnly line cursor
-    → Some told ≡ seat_line_at game hands seat cursor.hand cursor.actions → (told ≡ line → ⊥) → IsNamed game count hands seat line Other
-other_by_text game count hands seat line told cursor only is differs = λ other names.
+pub other_by_text : (game : Game) (count : ℕ) (hands : List Hand) (seat : ℕ) (line : List ℕ) (cursor : Cursor) → NamesOnly line cursor
+    → IsSome (seat_line_at game hands seat cursor.hand cursor.actions) → seat_line_at game hands seat cursor.hand cursor.actions ≢ Some line → IsNamed game count hands seat line Other
+other_by_text game count hands seat line cursor only has differs = λ other names.
     subst (IsOther game count hands seat line) (sym (only other names))
-    ((λ e. differs (another_line told line (is ∙ e))), λ may. told_none (seat_line_at game hands seat cursor.hand cursor.actions) told is may.not_yet)
+    (differs, λ may. some_none (seat_line_at game hands seat cursor.hand cursor.actions) has may.not_yet)
 
 pub other_by_place : (game : Game) (count : ℕ) (hands : List Hand) (seat : ℕ) (line : List ℕ) (cursor : Cursor) → NamesOnly line cursor
     → None ≡ seat_line_at game hands seat cursor.hand cursor.actions → (finished_count game hands ≤ cursor.hand → cursor.hand < count → ⊥) → IsNamed game count hands seat line Other

@@ -1,10 +1,9 @@
-ghost use Rattle.std.specs.Prelude.{◌≡◌, ◌<◌, ◌+◌, IsNone, IsSome, if◌then◌else◌};
-ghost use Rattle.line_cursor.specs.Past.{seat_view_at, seat_line_at};
+ghost use Rattle.std.specs.Prelude.{◌≡◌, ◌<◌, ◌+◌, ℕ, true, false, Some, None, IsSome, if◌then◌else◌};
+ghost use Rattle.line_cursor.specs.Past.{seat_line_at};
 ghost use Rattle.line_cursor.specs.Cursors.{newest_cursor, next_cursor, is_over_after};
 
-use crate::past::{seat_line_at, seat_view_at};
+use crate::past::{has_lines_at, write_line_at};
 use crate::seat_line::SeatLine;
-use matchstate::View;
 use slot_log::Table;
 
 /// The place of a line of a match: a hand, counted from 0 in the order of dealing, and how many of its actions the line
@@ -28,30 +27,31 @@ impl Cursor {
         })
     }
 
-    /// What a seat, counted from 0 and below the number of players, saw here; then the cursor is at the next line.
-    ///
-    /// None where the match hasn't come to that; then the cursor stays.
-    pub fn next(&mut self, table: &Table, seat: usize) -> Option<View>
-        requires { seat < table.now.game.players }
-        ensures view { result ≡ seat_view_at table.now.game table.now.hands seat self.old.hand self.old.actions }
-        ensures moved { IsSome result → self.new ≡ next_cursor table.now.game table.now.hands self.old }
-        ensures stays { IsNone result → self.new ≡ self.old }
+    /// Whether the match has come to this place: then each seat has its line here.
+    pub fn has_lines(&self, table: &Table) -> bool
+        ensures come { result ≡ true → (seat : ℕ) → IsSome (seat_line_at table.now.game table.now.hands seat self.now.hand self.now.actions) }
+        ensures none { result ≡ false → (seat : ℕ) → seat_line_at table.now.game table.now.hands seat self.now.hand self.now.actions ≡ None }
     {
-        let view = seat_view_at(table, seat, self.hand, self.actions)?;
-        self.move_on(table);
-        Some(view)
+        has_lines_at(table, self.hand, self.actions)
     }
 
-    /// As `next`, but the line of what the seat saw.
-    pub fn next_line(&mut self, table: &Table, seat: usize) -> Option<SeatLine>
+    /// Writes the line that a seat, counted from 0 and below the number of players, was told here; then the cursor is at the
+    /// next line.
+    ///
+    /// False where the match hasn't come to that; then the cursor stays, and the buffer is as it was.
+    pub fn write_next(&mut self, line: &mut SeatLine, table: &Table, seat: usize) -> bool
         requires { seat < table.now.game.players }
-        ensures line { result ≡ seat_line_at table.now.game table.now.hands seat self.old.hand self.old.actions }
-        ensures moved { IsSome result → self.new ≡ next_cursor table.now.game table.now.hands self.old }
-        ensures stays { IsNone result → self.new ≡ self.old }
+        ensures told { result ≡ true → seat_line_at table.now.game table.now.hands seat self.old.hand self.old.actions ≡ Some line.new }
+        ensures moved { result ≡ true → self.new ≡ next_cursor table.now.game table.now.hands self.old }
+        ensures none { result ≡ false → seat_line_at table.now.game table.now.hands seat self.old.hand self.old.actions ≡ None }
+        ensures stays { result ≡ false → self.new ≡ self.old }
+        ensures kept { result ≡ false → line.new ≡ line.old }
     {
-        let line = seat_line_at(table, seat, self.hand, self.actions)?;
+        if !write_line_at(line, table, seat, self.hand, self.actions) {
+            return false;
+        }
         self.move_on(table);
-        Some(line)
+        true
     }
 
     /// Moves to the next line's place.

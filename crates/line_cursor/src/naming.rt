@@ -1,13 +1,14 @@
 //! Where a line stands that a seat names.
 
-ghost use Rattle.std.specs.Prelude.{◌≡◌, ℕ, ◌<◌, ◌++◌, List, Some, IfSome, IsSomeAnd, codes, count_by};
+ghost use Rattle.std.specs.Prelude.{◌≡◌, ◌≢◌, true, false, ℕ, ◌<◌, ◌++◌, List, Some, IfSome, IsSomeAnd, codes, count_by};
 ghost use Rattle.line_cursor.specs.Past.{seat_line_at};
 ghost use Rattle.line_cursor.specs.Naming.{HasPlaceFields, NamesPlace, IsNamed, is_action_letter};
 ghost use Rattle.line_cursor.specs.declared.cursor.Cursor.{Cursor as Place};
 
 use crate::cursor::Cursor;
 use crate::named_line::NamedLine;
-use crate::past::seat_line_at;
+use crate::past::write_line_at;
+use crate::seat_line::SeatLine;
 use matchstate::{cut, read_number};
 use slot_log::Table;
 
@@ -33,22 +34,31 @@ fn find_line_at(table: &Table, seat: usize, line: &[u8], cursor: Cursor) -> Name
     ensures is { IsNamed table.now.game table.now.count table.now.hands seat line.now result }
     ensures told { seat_line_at table.now.game table.now.hands seat cursor.hand cursor.actions ≡ Some line.now → result ≡ NamedLine.Told cursor }
 {
-    match seat_line_at(table, seat, cursor.hand, cursor.actions) {
-        Some(told) => {
-            if told.as_bytes() == line {
-                NamedLine::Told(cursor)
-            } else {
-                NamedLine::Other
-            }
-        }
-        None => {
-            if table.finished() <= cursor.hand && cursor.hand < table.hands() {
-                NamedLine::Ahead(cursor)
-            } else {
-                NamedLine::Other
-            }
-        }
+    if !cursor.has_lines(table) {
+        return if table.finished() <= cursor.hand && cursor.hand < table.hands() {
+            NamedLine::Ahead(cursor)
+        } else {
+            NamedLine::Other
+        };
     }
+    if is_line_at(table, seat, line, cursor) {
+        NamedLine::Told(cursor)
+    } else {
+        NamedLine::Other
+    }
+}
+
+/// Whether a seat was told this line at a place.
+fn is_line_at(table: &Table, seat: usize, line: &[u8], cursor: Cursor) -> bool
+    requires { seat < table.now.game.players }
+    ensures told { result ≡ true → seat_line_at table.now.game table.now.hands seat cursor.hand cursor.actions ≡ Some line.now }
+    ensures other { result ≡ false → seat_line_at table.now.game table.now.hands seat cursor.hand cursor.actions ≢ Some line.now }
+{
+    let mut told = SeatLine::new();
+    if !write_line_at(&mut told, table, seat, cursor.hand, cursor.actions) {
+        return false;
+    }
+    told.as_bytes() == line
 }
 
 /// The place that a line names; none where it names none.

@@ -14,7 +14,8 @@ use itoa::Buffer;
 use matchstate::MOST_LINE;
 use std::marker::Model;
 
-/// A line of the dealer to a seat, without a line end, as the ACPC protocol 2.0.0 writes it. It takes no memory.
+/// A buffer for a line of the dealer to a seat, without a line end, as the ACPC protocol 2.0.0 writes it. It takes no memory.
+/// Whoever is told many lines keeps one and lends it, so that none is made anew for each line.
 ///
 /// Contracts see its bytes.
 #[derive(Debug, Drop)]
@@ -34,6 +35,16 @@ impl Model for SeatLine {
 }
 
 impl SeatLine {
+    /// No bytes yet.
+    pub fn new() -> SeatLine
+        ensures { result ≡ [] }
+    {
+        SeatLine {
+            bytes: [0; MOST_LINE],
+            len: 0,
+        }
+    }
+
     /// The bytes, at most 4096.
     pub fn as_bytes(&self) -> &[u8]
         ensures value { result.now ≡ self.now }
@@ -42,34 +53,30 @@ impl SeatLine {
         &self.bytes[..self.len]
     }
 
-    /// The line of what the player at a position sees of a hand after the actions of a play.
-    pub(crate) fn of(position: usize, hand: u32, deal: &Deal, play: &Play) -> SeatLine
+    /// Makes it the line of what the player at a position sees of a hand after the actions of a play.
+    pub(crate) fn write(&mut self, position: usize, hand: u32, deal: &Deal, play: &Play)
         requires few { play.now.game.players ≤ 10 }
         requires below { position < play.now.game.players }
         requires dealt { IsDeal play.now.game.players deal.now }
-        ensures { result ≡ line_text (view_of play.now.game position hand (record { deal = deal.now; past = play.now.past })) }
+        ensures { self.new ≡ line_text (view_of play.now.game position hand (record { deal = deal.now; past = play.now.past })) }
     {
-        let mut line = SeatLine::new();
-        line.put(b"MATCHSTATE:");
-        line.put_number(position as u32);
-        line.put(b":");
-        line.put_number(hand);
-        line.put(b":");
-        line.put_betting(play);
-        line.put(b":");
-        line.put_holes(deal, play, position);
-        line.put_board(deal, play.round());
-        line
+        self.clear();
+        self.put(b"MATCHSTATE:");
+        self.put_number(position as u32);
+        self.put(b":");
+        self.put_number(hand);
+        self.put(b":");
+        self.put_betting(play);
+        self.put(b":");
+        self.put_holes(deal, play, position);
+        self.put_board(deal, play.round());
     }
 
-    /// No bytes yet.
-    fn new() -> SeatLine
-        ensures { result ≡ [] }
+    /// Takes its bytes away.
+    fn clear(&mut self)
+        ensures { self.new ≡ [] }
     {
-        SeatLine {
-            bytes: [0; MOST_LINE],
-            len: 0,
-        }
+        self.len = 0;
     }
 
     /// Appends the betting text of a play.
