@@ -12,7 +12,8 @@ use Rattle.node_seats.specs.Passing.{passed_by, Passed, TakesNobody, AreOfGuests
 use Rattle.node_seats.specs.Guesting.{ShowsToken, IsGuested, IsToldOf, behind_by, Passes}
 use Rattle.node_seats.specs.Pieces.{IsPieceOf}
 use Rattle.node_seats.specs.declared.seat.Seat.{Seat as SeatOf}
-use Rattle.node_seats.specs.Seating.{sits_at, Changes}
+use Rattle.node_seats.specs.declared.bot.Bot.{Bot}
+use Rattle.node_seats.specs.Seating.{bot_at, gone, heard, Changes}
 use Rattle.node_seats.specs.Coming.{passed_in, tokens_in, Comes}
 use Rattle.node_seats.proofs.Passing.{both_of_guests}
 
@@ -203,12 +204,12 @@ plain_passed notice old new wired_old wired_new comes without = passed_without (
 
 -- ---- one seat behind another
 
-pub changes_on : (notice : Option SeatNotice) (a b c : List SeatOf) → ((seat : ℕ) → sits_at b seat ≡ sits_at a seat) → Changes notice b c → Changes notice a c
+pub changes_on : (notice : Option SeatNotice) (a b c : List SeatOf) → ((seat : ℕ) → bot_at b seat ≡ bot_at a seat) → Changes notice b c → Changes notice a c
 changes_on None a b c one two = λ seat. two seat ∙ one seat
-changes_on (Some (notices.Piece number bytes)) a b c one two = λ seat. two seat ∙ one seat
+changes_on (Some (notices.Piece number bytes)) a b c one two = (two.0 ∙ ap (heard bytes.items) (one number), λ seat differs. two.1 seat differs ∙ one seat)
 changes_on (Some (notices.Refused number source)) a b c one two = λ seat. two seat ∙ one seat
-changes_on (Some (notices.Came number)) a b c one two = (sym (one number) ∙ two.0, two.1, λ seat differs. two.2 seat differs ∙ one seat)
-changes_on (Some (notices.Gone number)) a b c one two = (two.0, λ seat differs. two.1 seat differs ∙ one seat)
+changes_on (Some (notices.Came number)) a b c one two = (sym (ap (λ (b : Bot). b.sits) (one number)) ∙ two.0, (two.1.0, λ seat differs. two.1.1 seat differs ∙ one seat))
+changes_on (Some (notices.Gone number)) a b c one two = (two.0 ∙ ap gone (one number), λ seat differs. two.1 seat differs ∙ one seat)
 
 -- ---- pieces
 

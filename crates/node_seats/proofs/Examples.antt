@@ -13,7 +13,11 @@ use Rattle.node_seats.specs.Writing.{AreToSeats, WritesToSeats}
 use Rattle.node_seats.specs.Tokens.{is_token_digit, IsTokenLine}
 use Rattle.node_seats.specs.Guesting.{ShowsToken, IsToldOf, IsGuested, Passes}
 use Rattle.node_seats.specs.declared.seat.Seat.{Seat as SeatOf}
+use Rattle.node_seats.specs.Seating.{newcomer}
 use Rattle.node_seats.specs.Hurrying.{HasTime, Hurries}
+use Rattle.node_seats.specs.declared.words.Asked.{Asked}
+use Rattle.node_seats.specs.declared.words.Asked.TheVariants as asks
+use Rattle.node_seats.specs.Words.{read_of}
 use Rattle.node_seats.proofs.Tokens.{token_length}
 
 end_of_a_line : line_of (65 ∷ []) ≡ 65 ∷ 13 ∷ 10 ∷ []
@@ -115,11 +119,11 @@ needs_none = refl
 
 -- a bot whose time was over
 abbrev pub silent_bot : SeatOf
-silent_bot = record { sits = true; since = None; waiting = record { waiting = []; room = 0 } }
+silent_bot = record { bot = newcomer; since = None; waiting = record { waiting = []; room = 0 } }
 
 -- one that was taken in at the first moment
 abbrev pub newest_bot : SeatOf
-newest_bot = record { sits = true; since = Some 0; waiting = record { waiting = []; room = 0 } }
+newest_bot = record { bot = newcomer; since = Some 0; waiting = record { waiting = []; room = 0 } }
 
 silent_bot_stays : Hurries false 20000000 1 None silent_bot silent_bot → ⊥
 silent_bot_stays hurries = let e = hurries.over refl refl refl in absurd (cc e)
@@ -129,3 +133,24 @@ time_begins_anew hurries = let e = hurries.ends 0 refl refl refl (omega arith) i
 
 let_go_too_early : Hurries false 9999999 1 None newest_bot silent_bot → ⊥
 let_go_too_early hurries = let e = hurries.lasts has_time in absurd (cc e)
+
+-- ---- what a bot asks before it names the version
+
+abbrev asked_by_all : List ℕ → Asked
+asked_by_all came = (read_of came).asked
+
+asks_nothing : asked_by_all (codes "VERSION:2.0.0\r\n#RESUME FIRST\r\n") ≡ asks.Nothing
+asks_nothing = refl
+
+asks_for_all : asked_by_all (codes "#TOKEN 7\r\n#RESUME FIRST\r\nVERSION:2.0.0\r\n") ≡ asks.First
+asks_for_all = refl
+
+-- without a carriage return, and behind another line that is skipped
+asks_for_the_newest : asked_by_all (codes "; a\n#RESUME NEWEST\n") ≡ asks.Newest
+asks_for_the_newest = refl
+
+asks_by_a_line : read_of (codes "#RESUME MATCHSTATE:0:7::TdAs|\r\nV") ≡ record { line = codes "V"; named = codes "MATCHSTATE:0:7::TdAs|"; asked = asks.Line; is_over = false }
+asks_by_a_line = refl
+
+asks_twice : asked_by_all (codes "#RESUME FIRST\r\n#RESUME NEWEST\r\n") ≡ asks.Other
+asks_twice = refl

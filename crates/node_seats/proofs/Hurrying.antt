@@ -33,5 +33,5 @@ asked_elsewhere now number count notice seats new within is seat apart =
     elsewhere_by now notice seats (set seats number new) number seat is differs (since_elsewhere seats number seat new differs)
 
 -- nothing is told, and no seat is another
-pub nothing_asked : (greeted : Bool) (now number : ℕ) (seat : Seat) → seat.sits ≡ false → Hurries greeted now number None seat seat
+pub nothing_asked : (greeted : Bool) (now number : ℕ) (seat : Seat) → seat.bot.sits ≡ false → Hurries greeted now number None seat seat
 nothing_asked greeted now number seat nobody_sits = record { over = λ sits. absurd (cc (sits, nobody_sits)); ends = λ came sits. absurd (cc (sits, nobody_sits)); lasts = λ _. refl }

@@ -1,11 +1,17 @@
 -- What was told to seats is what is written to them, call by call.
-use Rattle.std.proofs.Common.{◌≡◌, ◌≢◌, inl, inr, ℕ, ◌<◌, ◌==◌, ◌&&◌, Bool, true, false, if◌then◌else◌, List, [], ◌∷◌, ◌++◌, append_assoc, append-nil, length, set, get_or, refl, ap, sym, subst, ◌∙◌}
+use Rattle.std.proofs.Common.{◌≡◌, ◌≢◌, inl, inr, ℕ, ◌<◌, ◌≤◌, ◌+◌, ◌==◌, Bool, true, false, if◌then◌else◌, List, [], ◌∷◌, ◌++◌, append_assoc, append-nil, length, set, get_or, refl, ap, sym, subst, ◌∙◌, arith}
 use Rattle.std.proofs.lemmas.Bool.{cond-true, cond-false, eq-eqb, ne_eqb}
 use Rattle.std.proofs.lemmas.Bool.Decides.{eqb_tells}
-use Rattle.std.proofs.lemmas.List.{get_or_default}
+use Rattle.std.proofs.lemmas.List.{length-append, get_or_default, get_or-set_same, get_or-set_other}
 use Rattle.std.specs.Prelude.{Option, Some, None}
+use Rattle.slot_log.specs.Hand.{Match}
+use Rattle.line_cursor.specs.declared.cursor.Cursor.{Cursor}
+use Rattle.line_cursor.specs.Cursors.{next_cursor}
 use Rattle.node_wires.specs.declared.line.Line.TheVariants.{Peer, Caller, Seat as SeatOf, Guest, Asker}
 use Rattle.node_wires.specs.Passages.{Passage, Began, Came, Wrote, Gave, Logged, wrote_behind, wrote_over}
+use Rattle.node_seats.specs.declared.bot.Bot.{Bot}
+use Rattle.node_seats.specs.declared.bot.Parting.{Parting}
+use Rattle.node_seats.specs.declared.bot.Telling.{Telling}
 use Rattle.node_seats.specs.declared.seat.Seat.{Seat}
 use Rattle.node_seats.specs.declared.seats.Seats.{Seats}
 use Rattle.node_seats.specs.declared.seat_notice.SeatNotice.{SeatNotice}
@@ -16,63 +22,157 @@ use Rattle.node_seats.specs.Passing.{AreOfGuests, TakesNobody, passed_by}
 use Rattle.node_seats.specs.Guesting.{IsGuested, behind_by}
 use Rattle.node_seats.specs.Writing.{Writes}
 use Rattle.node_seats.specs.Coming.{Comes, tokens_of, passed_of}
-use Rattle.node_seats.specs.Seating.{nobody, waits_at, sits_at, Follows, Changes, Tells, Flushes}
-use Rattle.node_seats.specs.Telling.{line_to, lines_to, IsMadeOf, IsSaid, AreSaid, Loses}
+use Rattle.node_seats.specs.Seating.{nobody, no_bot, gone, heard, waits_at, sits_at, bot_at, Follows, Changes, Flushes}
+use Rattle.node_seats.specs.Telling.{texts_in, lines_of, text_of, text_told, parting_line, parting_text, text_for, IsSaid, AreSaid, TellsFrom, telling_from, Told, TellsOn, TellsMore, TellsBot, SaysMore, SaysAt, Loses}
 use Rattle.node_seats.proofs.Seating.{waits_here}
 use Rattle.node_seats.proofs.Others.{wrote_both}
 
--- ---- texts made of lines
+-- ---- lines off a table
 
-made_none : (lines : List (List ℕ)) → IsMadeOf lines []
-made_none [] = refl
-made_none (line ∷ lines) = inl (made_none lines)
+-- a line of the dealer, with its end, is so long at most
+pub line_bound : (old line new : List ℕ) → new ≡ old ++ line_of line → length line ≤ 4096 → length new ≤ length old + 4098
+line_bound old line new e most = omega (arith, ap length e ∙ length-append old (line_of line), length-append line (13 ∷ 10 ∷ []), most)
 
--- one line more, which is left out, or stands behind the text
-made_more : (lines : List (List ℕ)) (line text : List ℕ) → IsMadeOf lines text → IsMadeOf (lines ++ line ∷ []) text
-made_more [] line text made = inl made
-made_more (one ∷ lines) line text (inl made) = inl (made_more lines line text made)
-made_more (one ∷ lines) line text (inr (rest, (is, made))) = inr (rest, (is, made_more lines line rest made))
+pub line_grows : (old line new : List ℕ) → new ≡ old ++ line_of line → length old < length new
+line_grows old line new e = omega (arith, ap length e ∙ length-append old (line_of line), length-append line (13 ∷ 10 ∷ []))
 
-made_and : (lines : List (List ℕ)) (line text : List ℕ) → IsMadeOf lines text → IsMadeOf (lines ++ line ∷ []) (text ++ line_of line)
-made_and [] line text made = inr ([], (ap (λ (t : List ℕ). t ++ line_of line) made ∙ sym (append-nil (line_of line)), refl))
-made_and (one ∷ lines) line text (inl made) = inl (made_and lines line text made)
-made_and (one ∷ lines) line text (inr (rest, (is, made))) =
-    inr (rest ++ line_of line, (ap (λ (t : List ℕ). t ++ line_of line) is ∙ append_assoc (line_of one) rest (line_of line), made_and lines line rest made))
+text_both : (xs ys : List (List ℕ)) → text_of (xs ++ ys) ≡ text_of xs ++ text_of ys
+text_both [] ys = refl
+text_both (x ∷ xs) ys = ap (λ (t : List ℕ). line_of x ++ t) (text_both xs ys) ∙ sym (append_assoc (line_of x) (text_of xs) (text_of ys))
+
+texts_and : (told : List Passage) (seat : ℕ) (line : List ℕ) → texts_in (told ++ Wrote (SeatOf seat) line ∷ []) ≡ texts_in told ++ line ∷ []
+texts_and [] seat line = refl
+texts_and (Wrote at bytes ∷ told) seat line = ap (λ (ls : List (List ℕ)). bytes ∷ ls) (texts_and told seat line)
+texts_and (Began at ∷ told) seat line = texts_and told seat line
+texts_and (Came at bytes ∷ told) seat line = texts_and told seat line
+texts_and (Gave place number ∷ told) seat line = texts_and told seat line
+texts_and (Logged text ∷ told) seat line = texts_and told seat line
+
+pub tells_both : (such : Match → Type 0) (seat : ℕ) (at mid next : Cursor) (xs ys : List (List ℕ)) → TellsFrom such seat at xs mid → TellsFrom such seat mid ys next → TellsFrom such seat at (xs ++ ys) next
+tells_both such seat at mid next [] ys one two = subst (λ (c : Cursor). TellsFrom such seat c ys next) one two
+tells_both such seat at mid next (x ∷ xs) ys one two =
+    (one.0, (one.1.0, (one.1.1.0, tells_both such seat (next_cursor one.0.game one.0.hands at) mid next xs ys one.1.1.1 two)))
+
+pub tells_nothing : (table : Match) (seat : ℕ) (old new : Telling) (waits_old waits_new : List ℕ) → new ≡ old → waits_new ≡ waits_old → TellsOn table seat old new waits_old waits_new
+tells_nothing table seat old new waits_old waits_new e f = record {
+  lines = [];
+  start = ap (λ (t : Telling). t.start) e;
+  told = ap lines_of e ∙ sym (append-nil (lines_of old));
+  tells = ap (λ (t : Telling). t.next) e;
+  waits = f ∙ sym (append-nil waits_old);
+}
+
+tells_one : (table : Match) (seat : ℕ) (old new : Telling) (waits_old waits_new : List ℕ) → Told table seat old new waits_old waits_new → TellsOn table seat old new waits_old waits_new
+tells_one table seat old new waits_old waits_new (inl none) = tells_nothing table seat old new waits_old waits_new none.0 none.1
+tells_one table seat old new waits_old waits_new (inr (line, (found, (is, waits)))) = record {
+  lines = line ∷ [];
+  start = ap (λ (t : Telling). t.start) is;
+  told = ap lines_of is ∙ texts_and old.told.items seat line;
+  tells = (table, (refl, (found, ap (λ (t : Telling). t.next) is)));
+  waits = waits ∙ ap (λ (t : List ℕ). waits_old ++ t) (sym (append-nil (line_of line)));
+}
+
+pub tells_more : (table : Match) (seat : ℕ) (a b c : Telling) (x y z : List ℕ) → TellsOn table seat a b x y → Told table seat b c y z → TellsOn table seat a c x z
+tells_more table seat a b c x y z one told =
+    let two = tells_one table seat b c y z told in
+    record {
+      lines = one.lines ++ two.lines;
+      start = two.start ∙ one.start;
+      told = two.told ∙ (ap (λ (ls : List (List ℕ)). ls ++ two.lines) one.told ∙ append_assoc (lines_of a) one.lines two.lines);
+      tells = tells_both (λ other. other ≡ table) seat a.next b.next c.next one.lines two.lines one.tells two.tells;
+      waits = two.waits ∙ (ap (λ (t : List ℕ). t ++ text_of two.lines) one.waits ∙ (append_assoc x (text_of one.lines) (text_of two.lines) ∙ ap (λ (t : List ℕ). x ++ t) (sym (text_both one.lines two.lines))));
+    }
+
+-- ---- one bot
+
+pub says_nothing : (old new : Bot) (waits_old waits_new : List ℕ) → new ≡ old → waits_new ≡ waits_old → SaysMore old new waits_old waits_new
+says_nothing old new waits_old waits_new e f = record {
+  more = [];
+  none = λ gone_is. refl;
+  text = ap text_for e ∙ sym (append-nil (text_for old));
+  waits = f ∙ sym (append-nil waits_old);
+  sits = ap (λ (b : Bot). b.sits) e;
+}
+
+-- it is told lines from here on
+pub says_begun : (old new : Bot) (at : Cursor) (waits_old waits_new : List ℕ) → old.telling ≡ None → new ≡ record old { telling = Some (telling_from at) } → waits_new ≡ waits_old → SaysMore old new waits_old waits_new
+says_begun old new at waits_old waits_new none e f = record {
+  more = [];
+  none = λ gone_is. refl;
+  text = ap text_for e ∙ (ap (λ (t : Option Telling). text_told t ++ parting_text old.parting) (sym none) ∙ sym (append-nil (text_for old)));
+  waits = f ∙ sym (append-nil waits_old);
+  sits = ap (λ (b : Bot). b.sits) e;
+}
+
+-- it is told lines
+pub says_told : (table : Match) (seat : ℕ) (old new : Bot) (before after : Telling) (waits_old waits_new : List ℕ) → old.sits ≡ true → old.telling ≡ Some before → old.parting ≡ None → new ≡ record old { telling = Some after }
+    → TellsOn table seat before after waits_old waits_new → SaysMore old new waits_old waits_new
+says_told table seat old new before after waits_old waits_new sits is none e tells = record {
+  more = text_of tells.lines;
+  none = λ gone_is. absurd (cc (gone_is, sits));
+  text =
+      ap text_for e
+      ∙ (ap (λ (p : Option Parting). text_of (lines_of after) ++ parting_text p) none
+      ∙ (append-nil (text_of (lines_of after))
+      ∙ (ap text_of tells.told
+      ∙ (text_both (lines_of before) tells.lines
+      ∙ ap (λ (t : List ℕ). t ++ text_of tells.lines)
+      (sym (append-nil (text_of (lines_of before))) ∙ (ap (λ (p : Option Parting). text_of (lines_of before) ++ parting_text p) (sym none) ∙ ap (λ (t : Option Telling). text_told t ++ parting_text old.parting) (sym is)))))));
+  waits = tells.waits;
+  sits = ap (λ (b : Bot). b.sits) e;
+}
+
+pub says_parted : (parting : Parting) (old new : Bot) (waits_old waits_new : List ℕ) → old.sits ≡ true → old.parting ≡ None → new ≡ record old { parting = Some parting } → waits_new ≡ waits_old ++ line_of (parting_line parting)
+    → SaysMore old new waits_old waits_new
+says_parted parting old new waits_old waits_new sits none e waits = record {
+  more = line_of (parting_line parting);
+  none = λ gone_is. absurd (cc (gone_is, sits));
+  text = ap text_for e ∙ ap (λ (t : List ℕ). t ++ line_of (parting_line parting)) (sym (append-nil (text_told old.telling)) ∙ ap (λ (p : Option Parting). text_told old.telling ++ parting_text p) (sym none));
+  waits = waits;
+  sits = ap (λ (b : Bot). b.sits) e;
+}
+
+more_none : (table : Match) (seat : ℕ) (telling : Option Telling) → TellsMore table seat telling telling
+more_none table seat None = refl
+more_none table seat (Some telling) = (telling, (refl, (refl, ([], (sym (append-nil (lines_of telling)), refl)))))
+
+pub bot_same : (table : Match) (seat : ℕ) (old new : Bot) → new ≡ old → TellsBot table seat old new
+bot_same table seat old new e = record {
+  sits = ap (λ (b : Bot). b.sits) e;
+  words = ap (λ (b : Bot). b.words) e;
+  parting = ap (λ (b : Bot). b.parting) e;
+  told = subst (λ (b : Bot). TellsMore table seat old.telling b.telling) (sym e) (more_none table seat old.telling);
+  parted = λ parting is. e;
+}
+
+pub bot_told : (table : Match) (seat : ℕ) (old new : Bot) (before after : Telling) (waits_old waits_new : List ℕ) → old.telling ≡ Some before → old.parting ≡ None → new ≡ record old { telling = Some after }
+    → TellsOn table seat before after waits_old waits_new → TellsBot table seat old new
+bot_told table seat old new before after waits_old waits_new is none e tells = record {
+  sits = ap (λ (b : Bot). b.sits) e;
+  words = ap (λ (b : Bot). b.words) e;
+  parting = ap (λ (b : Bot). b.parting) e;
+  told = subst (λ (t : Option Telling). TellsMore table seat t new.telling) (sym is)
+      (after, (ap (λ (b : Bot). b.telling) e, (tells.start, (tells.lines, (tells.told, tells.tells)))));
+  parted = λ parting has. absurd (cc (has, none));
+}
 
 -- ---- at one seat
 
-said_as : (sits now : Bool) (wrote written waits waiting : List ℕ) (lines all : List (List ℕ)) → now ≡ sits → written ≡ wrote → waiting ≡ waits → all ≡ lines → IsSaid sits wrote waits lines → IsSaid now written waiting all
-said_as sits now wrote written waits waiting lines all e f g h is =
+said_as : (sits now : Bool) (wrote written waits waiting : List ℕ) (text all : List ℕ) → now ≡ sits → written ≡ wrote → waiting ≡ waits → all ≡ text → IsSaid sits wrote waits text → IsSaid now written waiting all
+said_as sits now wrote written waits waiting text all e f g h is =
     subst (λ (b : Bool). IsSaid b written waiting all) (sym e)
-    (subst (λ (w : List ℕ). IsSaid sits w waiting all) (sym f) (subst (λ (w : List ℕ). IsSaid sits wrote w all) (sym g) (subst (λ (l : List (List ℕ)). IsSaid sits wrote waits l) (sym h) is)))
-
-said_anew : (sits : Bool) (lines : List (List ℕ)) → IsSaid sits [] [] lines
-said_anew sits lines = ([], (made_none lines, λ e. refl))
+    (subst (λ (w : List ℕ). IsSaid sits w waiting all) (sym f) (subst (λ (w : List ℕ). IsSaid sits wrote w all) (sym g) (subst (λ (t : List ℕ). IsSaid sits wrote waits t) (sym h) is)))
 
 -- whoever sat there is let go of, and so much is lost
-said_lost : (sits : Bool) (wrote waits written waiting lost : List ℕ) (lines : List (List ℕ)) → wrote ++ waits ≡ (written ++ waiting) ++ lost → IsSaid sits wrote waits lines → IsSaid false written waiting lines
-said_lost sits wrote waits written waiting lost lines e is = (
-  lost ++ is.0,
-  (
-    subst (λ (t : List ℕ). IsMadeOf lines t) (ap (λ (t : List ℕ). t ++ is.0) e ∙ append_assoc (written ++ waiting) lost is.0) is.1.0,
-    λ never. absurd cc,
-  ),
-)
+said_lost : (sits : Bool) (wrote waits written waiting lost : List ℕ) (text : List ℕ) → wrote ++ waits ≡ (written ++ waiting) ++ lost → IsSaid sits wrote waits text → IsSaid false written waiting text
+said_lost sits wrote waits written waiting lost text e is =
+    (lost ++ is.0, (is.1.0 ∙ (ap (λ (t : List ℕ). t ++ is.0) e ∙ append_assoc (written ++ waiting) lost is.0), λ never. absurd cc))
 
-said_gone : (sits : Bool) (wrote waits : List ℕ) (lines : List (List ℕ)) → IsSaid sits wrote waits lines → IsSaid false wrote [] lines
-said_gone sits wrote waits lines is = said_lost sits wrote waits wrote [] waits lines (ap (λ (t : List ℕ). t ++ waits) (sym (append-nil wrote))) is
+said_gone : (sits : Bool) (wrote waits : List ℕ) (text : List ℕ) → IsSaid sits wrote waits text → IsSaid false wrote [] text
+said_gone sits wrote waits text is = said_lost sits wrote waits wrote [] waits text (ap (λ (t : List ℕ). t ++ waits) (sym (append-nil wrote))) is
 
-said_moved : (sits : Bool) (wrote waits written waiting : List ℕ) (lines : List (List ℕ)) → written ++ waiting ≡ wrote ++ waits → IsSaid sits wrote waits lines → IsSaid sits written waiting lines
-said_moved sits wrote waits written waiting lines e is = (is.0, (subst (λ (t : List ℕ). IsMadeOf lines (t ++ is.0)) (sym e) is.1.0, is.1.1))
-
-said_told : (sits kept : Bool) (wrote waits line : List ℕ) (lines : List (List ℕ)) → IsSaid sits wrote waits lines → IsSaid sits wrote (waits ++ (if sits && kept then line_of line else [])) (lines ++ line ∷ [])
-said_told true true wrote waits line lines is =
-    let e : ((wrote ++ waits) ++ is.0) ++ line_of line ≡ (wrote ++ (waits ++ line_of line)) ++ [] =
-    ap (λ (t : List ℕ). ((wrote ++ waits) ++ t) ++ line_of line) (is.1.1 refl)
-    ∙ (ap (λ (t : List ℕ). t ++ line_of line) (append-nil (wrote ++ waits)) ∙ (append_assoc wrote waits (line_of line) ∙ sym (append-nil (wrote ++ (waits ++ line_of line))))) in
-    ([], (subst (λ (t : List ℕ). IsMadeOf (lines ++ line ∷ []) t) e (made_and lines line ((wrote ++ waits) ++ is.0) is.1.0), λ e. refl))
-said_told true false wrote waits line lines is = said_moved true wrote waits wrote (waits ++ []) (lines ++ line ∷ []) (ap (λ (t : List ℕ). wrote ++ t) (append-nil waits)) (is.0, (made_more lines line ((wrote ++ waits) ++ is.0) is.1.0, is.1.1))
-said_told false kept wrote waits line lines is = said_moved false wrote waits wrote (waits ++ []) (lines ++ line ∷ []) (ap (λ (t : List ℕ). wrote ++ t) (append-nil waits)) (is.0, (made_more lines line ((wrote ++ waits) ++ is.0) is.1.0, is.1.1))
+said_moved : (sits : Bool) (wrote waits written waiting : List ℕ) (text : List ℕ) → written ++ waiting ≡ wrote ++ waits → IsSaid sits wrote waits text → IsSaid sits written waiting text
+said_moved sits wrote waits written waiting text e is = (is.0, (is.1.0 ∙ ap (λ (t : List ℕ). t ++ is.0) (sym e), is.1.1))
 
 -- ---- what something that comes writes
 
@@ -126,103 +226,123 @@ by_more (Some tokens) (Some (notices.Refused number source)) old more seat befor
 
 -- ---- at all seats
 
-abbrev SaidAt : ℕ → List Passage → List Passage → List Seat → Type 0
-SaidAt seat passed told seats = IsSaid (sits_at seats seat) (wrote_over passed (SeatOf seat)) (waits_at seats seat) (lines_to seat told)
+abbrev SaidAt : ℕ → List Passage → List Seat → Type 0
+SaidAt seat passed seats = IsSaid (sits_at seats seat) (wrote_over passed (SeatOf seat)) (waits_at seats seat) (text_for (bot_at seats seat))
 
-stays_at : (seat : ℕ) (passed_old passed_new told : List Passage) (old new : List Seat) → sits_at new seat ≡ sits_at old seat → wrote_over passed_new (SeatOf seat) ≡ wrote_over passed_old (SeatOf seat) → waits_at new seat ≡ waits_at old seat
-    → SaidAt seat passed_old told old → SaidAt seat passed_new told new
-stays_at seat passed_old passed_new told old new sits wrote waits is =
-    said_as (sits_at old seat) (sits_at new seat) (wrote_over passed_old (SeatOf seat)) (wrote_over passed_new (SeatOf seat)) (waits_at old seat) (waits_at new seat) (lines_to seat told) (lines_to seat told) sits wrote waits refl is
+stays_at : (seat : ℕ) (passed_old passed_new : List Passage) (old new : List Seat) → bot_at new seat ≡ bot_at old seat → wrote_over passed_new (SeatOf seat) ≡ wrote_over passed_old (SeatOf seat) → waits_at new seat ≡ waits_at old seat
+    → SaidAt seat passed_old old → SaidAt seat passed_new new
+stays_at seat passed_old passed_new old new bot wrote waits is =
+    said_as (sits_at old seat) (sits_at new seat) (wrote_over passed_old (SeatOf seat)) (wrote_over passed_new (SeatOf seat)) (waits_at old seat) (waits_at new seat) (text_for (bot_at old seat)) (text_for (bot_at new seat))
+    (ap (λ (b : Bot). b.sits) bot) wrote waits (ap text_for bot) is
 
-anew_at : (seat : ℕ) (passed told : List Passage) (seats : List Seat) → wrote_over passed (SeatOf seat) ≡ [] → waits_at seats seat ≡ [] → SaidAt seat passed told seats
-anew_at seat passed told seats wrote waits =
-    said_as (sits_at seats seat) (sits_at seats seat) [] (wrote_over passed (SeatOf seat)) [] (waits_at seats seat) (lines_to seat told) (lines_to seat told) refl wrote waits refl (said_anew (sits_at seats seat) (lines_to seat told))
+-- of a bot something was read
+heard_at : (seat : ℕ) (bytes : List ℕ) (passed_old passed_new : List Passage) (old new : List Seat) → bot_at new seat ≡ heard bytes (bot_at old seat) → wrote_over passed_new (SeatOf seat) ≡ wrote_over passed_old (SeatOf seat)
+    → waits_at new seat ≡ waits_at old seat → SaidAt seat passed_old old → SaidAt seat passed_new new
+heard_at seat bytes passed_old passed_new old new bot wrote waits is =
+    said_as (sits_at old seat) (sits_at new seat) (wrote_over passed_old (SeatOf seat)) (wrote_over passed_new (SeatOf seat)) (waits_at old seat) (waits_at new seat) (text_for (bot_at old seat)) (text_for (bot_at new seat))
+    (ap (λ (b : Bot). b.sits) bot) wrote waits (ap text_for bot) is
 
-gone_at : (seat : ℕ) (passed_old passed_new told : List Passage) (old new : List Seat) → sits_at new seat ≡ false → wrote_over passed_new (SeatOf seat) ≡ wrote_over passed_old (SeatOf seat) → waits_at new seat ≡ []
-    → SaidAt seat passed_old told old → SaidAt seat passed_new told new
-gone_at seat passed_old passed_new told old new sits wrote waits is =
-    said_as false (sits_at new seat) (wrote_over passed_old (SeatOf seat)) (wrote_over passed_new (SeatOf seat)) [] (waits_at new seat) (lines_to seat told) (lines_to seat told) sits wrote waits refl
-    (said_gone (sits_at old seat) (wrote_over passed_old (SeatOf seat)) (waits_at old seat) (lines_to seat told) is)
+anew_at : (seat : ℕ) (passed : List Passage) (seats : List Seat) → text_for (bot_at seats seat) ≡ [] → wrote_over passed (SeatOf seat) ≡ [] → waits_at seats seat ≡ [] → SaidAt seat passed seats
+anew_at seat passed seats text wrote waits =
+    said_as (sits_at seats seat) (sits_at seats seat) [] (wrote_over passed (SeatOf seat)) [] (waits_at seats seat) [] (text_for (bot_at seats seat)) refl wrote waits text ([], (refl, λ e. refl))
 
-comes_at : (notice : Option SeatNotice) (seat : ℕ) (passed_old passed_new told : List Passage) (old new : List Seat) → WroteBy notice seat (wrote_over passed_old (SeatOf seat)) (wrote_over passed_new (SeatOf seat))
-    → Follows notice old new → Changes notice old new → SaidAt seat passed_old told old → SaidAt seat passed_new told new
-comes_at None seat passed_old passed_new told old new wrote waits sits is = stays_at seat passed_old passed_new told old new (sits seat) wrote (waits seat) is
-comes_at (Some (notices.Piece number bytes)) seat passed_old passed_new told old new wrote waits sits is = stays_at seat passed_old passed_new told old new (sits seat) wrote (waits seat) is
-comes_at (Some (notices.Refused number source)) seat passed_old passed_new told old new wrote waits sits is = stays_at seat passed_old passed_new told old new (sits seat) wrote (waits seat) is
-comes_at (Some (notices.Came number)) seat passed_old passed_new told old new wrote waits sits is = elim (eqb_tells seat number) as (λ _. SaidAt seat passed_new told new) [
-  | inl here ↦ anew_at seat passed_new told new (wrote.0 here.1) (ap (λ (n : ℕ). waits_at new n) here.1 ∙ waits.0)
-  | inr there ↦ stays_at seat passed_old passed_new told old new (sits.2 seat there.1) (wrote.1 there.1) (waits.1 seat there.1) is
+gone_at : (seat : ℕ) (passed_old passed_new : List Passage) (old new : List Seat) → bot_at new seat ≡ gone (bot_at old seat) → wrote_over passed_new (SeatOf seat) ≡ wrote_over passed_old (SeatOf seat) → waits_at new seat ≡ []
+    → SaidAt seat passed_old old → SaidAt seat passed_new new
+gone_at seat passed_old passed_new old new bot wrote waits is =
+    said_as false (sits_at new seat) (wrote_over passed_old (SeatOf seat)) (wrote_over passed_new (SeatOf seat)) [] (waits_at new seat) (text_for (bot_at old seat)) (text_for (bot_at new seat))
+    (ap (λ (b : Bot). b.sits) bot) wrote waits (ap text_for bot)
+    (said_gone (sits_at old seat) (wrote_over passed_old (SeatOf seat)) (waits_at old seat) (text_for (bot_at old seat)) is)
+
+comes_at : (notice : Option SeatNotice) (seat : ℕ) (passed_old passed_new : List Passage) (old new : List Seat) → WroteBy notice seat (wrote_over passed_old (SeatOf seat)) (wrote_over passed_new (SeatOf seat))
+    → Follows notice old new → Changes notice old new → SaidAt seat passed_old old → SaidAt seat passed_new new
+comes_at None seat passed_old passed_new old new wrote waits sits is = stays_at seat passed_old passed_new old new (sits seat) wrote (waits seat) is
+comes_at (Some (notices.Piece number bytes)) seat passed_old passed_new old new wrote waits sits is = elim (eqb_tells seat number) as (λ _. SaidAt seat passed_new new) [
+  | inl here ↦ heard_at seat bytes.items passed_old passed_new old new (subst (λ (n : ℕ). bot_at new n ≡ heard bytes.items (bot_at old n)) (sym here.1) sits.0) wrote (waits seat) is
+  | inr there ↦ stays_at seat passed_old passed_new old new (sits.1 seat there.1) wrote (waits seat) is
 ]
-comes_at (Some (notices.Gone number)) seat passed_old passed_new told old new wrote waits sits is = elim (eqb_tells seat number) as (λ _. SaidAt seat passed_new told new) [
-  | inl here ↦ gone_at seat passed_old passed_new told old new (ap (λ (n : ℕ). sits_at new n) here.1 ∙ sits.0) wrote (ap (λ (n : ℕ). waits_at new n) here.1 ∙ waits.0) is
-  | inr there ↦ stays_at seat passed_old passed_new told old new (sits.1 seat there.1) wrote (waits.1 seat there.1) is
+comes_at (Some (notices.Refused number source)) seat passed_old passed_new old new wrote waits sits is = stays_at seat passed_old passed_new old new (sits seat) wrote (waits seat) is
+comes_at (Some (notices.Came number)) seat passed_old passed_new old new wrote waits sits is = elim (eqb_tells seat number) as (λ _. SaidAt seat passed_new new) [
+  | inl here ↦ anew_at seat passed_new new (ap text_for (ap (λ (n : ℕ). bot_at new n) here.1 ∙ sits.1.0)) (wrote.0 here.1) (ap (λ (n : ℕ). waits_at new n) here.1 ∙ waits.0)
+  | inr there ↦ stays_at seat passed_old passed_new old new (sits.1.1 seat there.1) (wrote.1 there.1) (waits.1 seat there.1) is
+]
+comes_at (Some (notices.Gone number)) seat passed_old passed_new old new wrote waits sits is = elim (eqb_tells seat number) as (λ _. SaidAt seat passed_new new) [
+  | inl here ↦ gone_at seat passed_old passed_new old new (subst (λ (n : ℕ). bot_at new n ≡ gone (bot_at old n)) (sym here.1) sits.0) wrote (ap (λ (n : ℕ). waits_at new n) here.1 ∙ waits.0) is
+  | inr there ↦ stays_at seat passed_old passed_new old new (sits.1 seat there.1) wrote (waits.1 seat there.1) is
 ]
 
 -- ---- calls
 
-pub said_coming : (notice : Option SeatNotice) (old new : Seats) (wired_old wired_new : List Passage) → Comes notice old new wired_old wired_new → AreSaid wired_old old.told.items old.seats.items
-    → AreSaid wired_new old.told.items new.seats.items
+pub said_coming : (notice : Option SeatNotice) (old new : Seats) (wired_old wired_new : List Passage) → Comes notice old new wired_old wired_new → AreSaid wired_old old.seats.items → AreSaid wired_new new.seats.items
 said_coming notice old new wired_old wired_new comes are seat =
     let wrote : wrote_over wired_new (SeatOf seat) ≡ wrote_behind (SeatOf seat) (wrote_over wired_old (SeatOf seat)) (comes.passes.more ++ behind_by (tokens_of old) notice) =
     ap (λ (ps : List Passage). wrote_over ps (SeatOf seat)) comes.passes.wired ∙ wrote_both (SeatOf seat) [] wired_old (comes.passes.more ++ behind_by (tokens_of old) notice) in
-    comes_at notice seat wired_old wired_new old.told.items old.seats.items new.seats.items
+    comes_at notice seat wired_old wired_new old.seats.items new.seats.items
     (subst (λ (w : List ℕ). WroteBy notice seat (wrote_over wired_old (SeatOf seat)) w) (sym wrote)
     (by_more (tokens_of old) notice (passed_of old) comes.passes.more seat (wrote_over wired_old (SeatOf seat)) comes.passes.guested))
     comes.waits comes.sits (are seat)
 
-pub said_leaving : (notice : Option SeatNotice) (told wired_old wired_new : List Passage) (old new : List Seat) → TakesNobody notice → wired_new ≡ wired_old → Follows notice old new → Changes notice old new → AreSaid wired_old told old
-    → AreSaid wired_new told new
-said_leaving notice told wired_old wired_new old new takes same waits sits are seat =
-    comes_at notice seat wired_old wired_new told old new (nobody_writes notice seat (wrote_over wired_old (SeatOf seat)) (wrote_over wired_new (SeatOf seat)) takes (ap (λ (ps : List Passage). wrote_over ps (SeatOf seat)) same)) waits sits
+pub said_leaving : (notice : Option SeatNotice) (wired_old wired_new : List Passage) (old new : List Seat) → TakesNobody notice → wired_new ≡ wired_old → Follows notice old new → Changes notice old new → AreSaid wired_old old
+    → AreSaid wired_new new
+said_leaving notice wired_old wired_new old new takes same waits sits are seat =
+    comes_at notice seat wired_old wired_new old new (nobody_writes notice seat (wrote_over wired_old (SeatOf seat)) (wrote_over wired_new (SeatOf seat)) takes (ap (λ (ps : List Passage). wrote_over ps (SeatOf seat)) same)) waits sits
     (are seat)
 
-moved_at : (seat : ℕ) (passed_old passed_new told : List Passage) (old new : List Seat) → sits_at new seat ≡ sits_at old seat
-    → wrote_over passed_new (SeatOf seat) ++ waits_at new seat ≡ wrote_over passed_old (SeatOf seat) ++ waits_at old seat → SaidAt seat passed_old told old → SaidAt seat passed_new told new
-moved_at seat passed_old passed_new told old new sits said is =
-    subst (λ (b : Bool). IsSaid b (wrote_over passed_new (SeatOf seat)) (waits_at new seat) (lines_to seat told)) (sym sits)
-    (said_moved (sits_at old seat) (wrote_over passed_old (SeatOf seat)) (waits_at old seat) (wrote_over passed_new (SeatOf seat)) (waits_at new seat) (lines_to seat told) said is)
+moved_at : (seat : ℕ) (passed_old passed_new : List Passage) (old new : List Seat) (bot : Bot) → bot_at new seat ≡ bot → bot.sits ≡ sits_at old seat → text_for bot ≡ text_for (bot_at old seat)
+    → wrote_over passed_new (SeatOf seat) ++ waits_at new seat ≡ wrote_over passed_old (SeatOf seat) ++ waits_at old seat → SaidAt seat passed_old old → SaidAt seat passed_new new
+moved_at seat passed_old passed_new old new bot e sits text said is =
+    said_as (sits_at old seat) (sits_at new seat) (wrote_over passed_new (SeatOf seat)) (wrote_over passed_new (SeatOf seat)) (waits_at new seat) (waits_at new seat) (text_for (bot_at old seat)) (text_for (bot_at new seat))
+    (ap (λ (b : Bot). b.sits) e ∙ sits) refl refl (ap text_for e ∙ text)
+    (said_moved (sits_at old seat) (wrote_over passed_old (SeatOf seat)) (waits_at old seat) (wrote_over passed_new (SeatOf seat)) (waits_at new seat) (text_for (bot_at old seat)) said is)
 
-flushed_at : (notice : Option SeatNotice) (seat : ℕ) (passed_old passed_new told : List Passage) (old new : List Seat) → TakesNobody notice → Flushes notice old new passed_old passed_new → Changes notice old new
-    → Loses notice old new passed_old passed_new → SaidAt seat passed_old told old → SaidAt seat passed_new told new
-flushed_at None seat passed_old passed_new told old new takes said sits loses is = moved_at seat passed_old passed_new told old new (sits seat) (said seat (λ never. never)) is
-flushed_at (Some (notices.Piece number bytes)) seat passed_old passed_new told old new takes said sits loses is = moved_at seat passed_old passed_new told old new (sits seat) (said seat (λ never. never)) is
-flushed_at (Some (notices.Refused number source)) seat passed_old passed_new told old new takes said sits loses is = absurd takes
-flushed_at (Some (notices.Came number)) seat passed_old passed_new told old new takes said sits loses is = absurd takes
-flushed_at (Some (notices.Gone number)) seat passed_old passed_new told old new takes said sits loses is = elim (eqb_tells seat number) as (λ _. SaidAt seat passed_new told new) [
+lost_at : (seat : ℕ) (passed_old passed_new : List Passage) (old new : List Seat) (lost : List ℕ) → bot_at new seat ≡ gone (bot_at old seat)
+    → wrote_over passed_old (SeatOf seat) ++ waits_at old seat ≡ (wrote_over passed_new (SeatOf seat) ++ waits_at new seat) ++ lost → SaidAt seat passed_old old → SaidAt seat passed_new new
+lost_at seat passed_old passed_new old new lost e loses is =
+    said_as false (sits_at new seat) (wrote_over passed_new (SeatOf seat)) (wrote_over passed_new (SeatOf seat)) (waits_at new seat) (waits_at new seat) (text_for (bot_at old seat)) (text_for (bot_at new seat))
+    (ap (λ (b : Bot). b.sits) e) refl refl (ap text_for e)
+    (said_lost (sits_at old seat) (wrote_over passed_old (SeatOf seat)) (waits_at old seat) (wrote_over passed_new (SeatOf seat)) (waits_at new seat) lost (text_for (bot_at old seat)) loses is)
+
+flushed_at : (notice : Option SeatNotice) (seat : ℕ) (passed_old passed_new : List Passage) (old new : List Seat) → TakesNobody notice → Flushes notice old new passed_old passed_new → Changes notice old new
+    → Loses notice old new passed_old passed_new → SaidAt seat passed_old old → SaidAt seat passed_new new
+flushed_at None seat passed_old passed_new old new takes said sits loses is = moved_at seat passed_old passed_new old new (bot_at old seat) (sits seat) refl refl (said seat (λ never. never)) is
+flushed_at (Some (notices.Piece number bytes)) seat passed_old passed_new old new takes said sits loses is = elim (eqb_tells seat number) as (λ _. SaidAt seat passed_new new) [
+  | inl here ↦ moved_at seat passed_old passed_new old new (heard bytes.items (bot_at old seat)) (subst (λ (n : ℕ). bot_at new n ≡ heard bytes.items (bot_at old n)) (sym here.1) sits.0) refl refl (said seat (λ never. never)) is
+  | inr there ↦ moved_at seat passed_old passed_new old new (bot_at old seat) (sits.1 seat there.1) refl refl (said seat (λ never. never)) is
+]
+flushed_at (Some (notices.Refused number source)) seat passed_old passed_new old new takes said sits loses is = absurd takes
+flushed_at (Some (notices.Came number)) seat passed_old passed_new old new takes said sits loses is = absurd takes
+flushed_at (Some (notices.Gone number)) seat passed_old passed_new old new takes said sits loses is = elim (eqb_tells seat number) as (λ _. SaidAt seat passed_new new) [
   | inl here ↦
       let lost = loses seat here.1 in
-      subst (λ (b : Bool). IsSaid b (wrote_over passed_new (SeatOf seat)) (waits_at new seat) (lines_to seat told)) (sym (ap (λ (n : ℕ). sits_at new n) here.1 ∙ sits.0))
-      (said_lost (sits_at old seat) (wrote_over passed_old (SeatOf seat)) (waits_at old seat) (wrote_over passed_new (SeatOf seat)) (waits_at new seat) lost.0 (lines_to seat told) lost.1 is)
-  | inr there ↦ moved_at seat passed_old passed_new told old new (sits.1 seat there.1) (said seat there.1) is
+      lost_at seat passed_old passed_new old new lost.0 (subst (λ (n : ℕ). bot_at new n ≡ gone (bot_at old n)) (sym here.1) sits.0) lost.1 is
+  | inr there ↦ moved_at seat passed_old passed_new old new (bot_at old seat) (sits.1 seat there.1) refl refl (said seat there.1) is
 ]
 
-pub said_flushed : (notice : Option SeatNotice) (told wired_old wired_new : List Passage) (old new : List Seat) → TakesNobody notice → Flushes notice old new wired_old wired_new → Changes notice old new
-    → Loses notice old new wired_old wired_new → AreSaid wired_old told old → AreSaid wired_new told new
-said_flushed notice told wired_old wired_new old new takes said sits loses are seat = flushed_at notice seat wired_old wired_new told old new takes said sits loses (are seat)
+pub said_flushed : (notice : Option SeatNotice) (wired_old wired_new : List Passage) (old new : List Seat) → TakesNobody notice → Flushes notice old new wired_old wired_new → Changes notice old new
+    → Loses notice old new wired_old wired_new → AreSaid wired_old old → AreSaid wired_new new
+said_flushed notice wired_old wired_new old new takes said sits loses are seat = flushed_at notice seat wired_old wired_new old new takes said sits loses (are seat)
 
-lines_and : (seat : ℕ) (told : List Passage) (p : Passage) → lines_to seat (told ++ p ∷ []) ≡ lines_to seat told ++ line_to seat p
-lines_and seat [] p = append-nil (line_to seat p)
-lines_and seat (q ∷ told) p = ap (λ (ls : List (List ℕ)). line_to seat q ++ ls) (lines_and seat told p) ∙ sym (append_assoc (line_to seat q) (lines_to seat told) (line_to seat p))
+-- more is told of one seat
+said_more : (sits : Bool) (wrote waits more : List ℕ) (text : List ℕ) → IsSaid sits wrote waits text → (sits ≡ false → more ≡ []) → IsSaid sits wrote (waits ++ more) (text ++ more)
+said_more true wrote waits more text is none =
+    ([], (ap (λ (t : List ℕ). t ++ more) (is.1.0 ∙ (ap (λ (l : List ℕ). (wrote ++ waits) ++ l) (is.1.1 refl) ∙ append-nil (wrote ++ waits))) ∙ (append_assoc wrote waits more ∙ sym (append-nil (wrote ++ (waits ++ more)))), λ e. refl))
+said_more false wrote waits more text is none =
+    let nothing : more ≡ [] = none refl in
+    said_as false false wrote wrote waits (waits ++ more) text (text ++ more) refl refl (ap (λ (m : List ℕ). waits ++ m) nothing ∙ append-nil waits) (ap (λ (m : List ℕ). text ++ m) nothing ∙ append-nil text) is
 
-pub said_telling : (number : ℕ) (line : List ℕ) (kept : Bool) (old new : List Seat) (told all : List Passage) → Tells number line kept old new → ((seat : ℕ) → sits_at new seat ≡ sits_at old seat)
-    → all ≡ told ++ Wrote (SeatOf number) line ∷ [] → (passed : List Passage) → AreSaid passed told old → AreSaid passed all new
-said_telling number line kept old new told all tells sits is passed are seat =
-    let wrote = wrote_over passed (SeatOf seat) in
-    let e : lines_to seat all ≡ lines_to seat told ++ (if number == seat then line ∷ [] else []) = ap (lines_to seat) is ∙ lines_and seat told (Wrote (SeatOf number) line) in
-    elim (eqb_tells seat number) as (λ _. SaidAt seat passed all new) [
+pub said_telling : (number : ℕ) (old new : List Seat) → SaysAt number old new → (passed : List Passage) → AreSaid passed old → AreSaid passed new
+said_telling number old new says passed are seat =
+    elim (eqb_tells seat number) as (λ _. SaidAt seat passed new) [
       | inl here ↦
-          said_as (sits_at old seat) (sits_at new seat) wrote wrote (waits_at old seat ++ (if sits_at old seat && kept then line_of line else [])) (waits_at new seat) (lines_to seat told ++ line ∷ []) (lines_to seat all) (sits seat) refl
-          (subst (λ (n : ℕ). waits_at new n ≡ waits_at old n ++ (if sits_at old n && kept then line_of line else [])) (sym here.1) tells.told)
-          (e ∙ ap (λ (ls : List (List ℕ)). lines_to seat told ++ ls) (cond-true (number == seat) (line ∷ []) [] (eq-eqb number seat (sym here.1))))
-          (said_told (sits_at old seat) kept wrote (waits_at old seat) line (lines_to seat told) (are seat))
-      | inr there ↦
-          said_as (sits_at old seat) (sits_at new seat) wrote wrote (waits_at old seat) (waits_at new seat) (lines_to seat told) (lines_to seat all) (sits seat) refl (tells.others seat there.1)
-          (e ∙ (ap (λ (ls : List (List ℕ)). lines_to seat told ++ ls) (cond-false (number == seat) (line ∷ []) [] (ne_eqb number seat (λ same. there.1 (sym same)))) ∙ append-nil (lines_to seat told))) (are seat)
+          subst (λ (n : ℕ). SaidAt n passed new) (sym here.1)
+          (said_as (sits_at old number) (sits_at new number) (wrote_over passed (SeatOf number)) (wrote_over passed (SeatOf number)) (waits_at old number ++ says.here.more) (waits_at new number) (text_for (bot_at old number) ++ says.here.more)
+          (text_for (bot_at new number)) says.here.sits refl says.here.waits says.here.text
+          (said_more (sits_at old number) (wrote_over passed (SeatOf number)) (waits_at old number) says.here.more (text_for (bot_at old number)) (are number) says.here.none))
+      | inr there ↦ stays_at seat passed passed old new (says.bots seat there.1) refl (says.others seat there.1) (are seat)
     ]
 
 -- nothing is told yet
-pub said_first : (seats : List Seat) → ((seat : ℕ) → waits_at seats seat ≡ []) → AreSaid [] [] seats
-said_first seats none seat = anew_at seat [] [] seats refl (none seat)
+pub said_first : (seats : List Seat) → ((seat : ℕ) → waits_at seats seat ≡ []) → ((seat : ℕ) → bot_at seats seat ≡ no_bot) → AreSaid [] seats
+said_first seats none nobody seat = anew_at seat [] seats (ap text_for (nobody seat)) refl (none seat)
 
 -- whoever sits there is let go of behind what was written
 pub loses_it : (number : ℕ) (seats : List Seat) (old new : Seat) (waiting : List ℕ) (passed_old passed passed_new : List Passage) → number < length seats → old ≡ get_or seats number old
@@ -238,3 +358,30 @@ loses_it number seats old new waiting passed_old passed passed_new within found 
     ∙ (ap (λ (w : List ℕ). (wrote ++ w) ++ waiting) (sym (waits_here seats number new within ∙ none))
     ∙ ap (λ (ps : List Passage). (wrote_over ps (SeatOf number) ++ waits_at (set seats number new) number) ++ waiting) (sym same)))) in
     (waiting, subst (λ (n : ℕ). wrote_over passed_old (SeatOf n) ++ waits_at seats n ≡ (wrote_over passed_new (SeatOf n) ++ waits_at (set seats number new) n) ++ waiting) (sym is) e)
+
+-- ---- all seats
+
+pub says_there : (seats : List Seat) (number : ℕ) (old new : Seat) → number < length seats → old ≡ get_or seats number old → SaysMore old.bot new.bot old.waiting.waiting new.waiting.waiting → SaysAt number seats (set seats number new)
+says_there seats number old new within found says =
+    let at : old ≡ get_or seats number nobody = found ∙ get_or_default seats number old nobody within in
+    let now : get_or (set seats number new) number nobody ≡ new = get_or-set_same seats number new nobody within in
+    record {
+      here = subst (λ (s : Seat). SaysMore (get_or seats number nobody).bot s.bot (get_or seats number nobody).waiting.waiting s.waiting.waiting) (sym now)
+          (subst (λ (s : Seat). SaysMore s.bot new.bot s.waiting.waiting new.waiting.waiting) at says);
+      bots = λ seat differs. ap (λ (s : Seat). s.bot) (get_or-set_other seats number seat new nobody differs);
+      others = λ seat differs. ap (λ (s : Seat). s.waiting.waiting) (get_or-set_other seats number seat new nobody differs);
+    }
+
+pub says_nowhere : (number : ℕ) (old new : List Seat) → new ≡ old → SaysAt number old new
+says_nowhere number old new e = record {
+  here = says_nothing (bot_at old number) (bot_at new number) (waits_at old number) (waits_at new number) (ap (λ (s : List Seat). bot_at s number) e) (ap (λ (s : List Seat). waits_at s number) e);
+  bots = λ seat differs. ap (λ (s : List Seat). bot_at s seat) e;
+  others = λ seat differs. ap (λ (s : List Seat). waits_at s seat) e;
+}
+
+pub said_there : (seats : List Seat) (number : ℕ) (old new : Seat) → number < length seats → old ≡ get_or seats number old → SaysMore old.bot new.bot old.waiting.waiting new.waiting.waiting → (passed : List Passage) → AreSaid passed seats
+    → AreSaid passed (set seats number new)
+said_there seats number old new within found says = said_telling number seats (set seats number new) (says_there seats number old new within found says)
+
+pub said_still : (seats : List Seat) (number : ℕ) (old : Seat) → number < length seats → old ≡ get_or seats number old → (passed : List Passage) → AreSaid passed seats → AreSaid passed (set seats number old)
+said_still seats number old within found = said_there seats number old old within found (says_nothing old.bot old.bot old.waiting.waiting old.waiting.waiting refl refl)

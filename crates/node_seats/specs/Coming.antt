@@ -31,5 +31,4 @@ pub record Comes (notice : Option SeatNotice) (old new : Seats) (wired_old wired
   pub passes : Passes (tokens_of old) notice (passed_of old) (passed_of new) wired_old wired_new
   pub tokens : tokens_of new ≡ tokens_of old
   pub waits : Follows notice old.seats.items new.seats.items
-  pub told : new.told ≡ old.told
   pub sits : Changes notice old.seats.items new.seats.items

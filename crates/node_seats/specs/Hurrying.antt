@@ -26,8 +26,8 @@ Lasts greeted now (Some (notices.Came number)) old new = new ≡ Some now
 
 -- a bot whose time was over before is gone; where it is over now, that is kept, and the next call lets go of it
 pub record Hurries (greeted : Bool) (now number : ℕ) (notice : Option SeatNotice) (old new : Seat) : Type 0 where
-  pub over : old.sits ≡ true → greeted ≡ false → old.since ≡ None → notice ≡ Some (notices.Gone number)
-  pub ends : (came : ℕ) → old.sits ≡ true → greeted ≡ false → old.since ≡ Some came → came + VERSION_TIME ≤ now → new.since ≡ None
+  pub over : old.bot.sits ≡ true → greeted ≡ false → old.since ≡ None → notice ≡ Some (notices.Gone number)
+  pub ends : (came : ℕ) → old.bot.sits ≡ true → greeted ≡ false → old.since ≡ Some came → came + VERSION_TIME ≤ now → new.since ≡ None
   pub lasts : Lasts greeted now notice old.since new.since
 
 -- at a seat that isn't asked time stays as it is, but a guest who was taken in there has it from now on

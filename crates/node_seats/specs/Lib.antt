@@ -1,4 +1,5 @@
 pub mod Lines
+pub mod Words
 pub mod Tokens
 pub mod Passing
 pub mod Pieces

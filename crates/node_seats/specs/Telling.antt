@@ -1,50 +1,141 @@
--- What is told to seats, and what of it is written to them.
-use Rattle.std.specs.Prelude.{◌≡◌, ◌⊎◌, ℕ, ◌==◌, Bool, true, if◌then◌else◌, List, [], ◌∷◌, ◌++◌, Option}
-use Rattle.node_wires.specs.declared.line.Line.{Line}
-use Rattle.node_wires.specs.declared.line.Line.TheVariants.{Peer, Caller, Seat as SeatOf, Guest, Asker}
+-- What the bots of seats are told, and what of it is written to them.
+use Rattle.std.specs.Prelude.{◌≡◌, ◌⊎◌, ℕ, ◌≤◌, Bool, true, false, List, [], ◌∷◌, ◌++◌, length, codes, Option, Some, None, IfSome}
+use Rattle.slot_log.specs.Hand.{Match}
+use Rattle.line_cursor.specs.declared.cursor.Cursor.{Cursor}
+use Rattle.line_cursor.specs.Past.{seat_line_at}
+use Rattle.line_cursor.specs.Cursors.{next_cursor}
+use Rattle.node_wires.specs.declared.line.Line.TheVariants.{Seat as SeatOf}
 use Rattle.node_wires.specs.Passages.{Passage, Began, Came, Wrote, Gave, Logged, wrote_over}
+use Rattle.node_seats.specs.declared.limits.TheConstants.{BACKLOG}
+use Rattle.node_seats.specs.declared.bot.Bot.{Bot}
+use Rattle.node_seats.specs.declared.bot.Parting.{Parting}
+use Rattle.node_seats.specs.declared.bot.Parting.TheVariants.{Over, Other}
+use Rattle.node_seats.specs.declared.bot.Telling.{Telling}
 use Rattle.node_seats.specs.declared.seat.Seat.{Seat}
-use Rattle.node_seats.specs.declared.seats.Seats.{Seats}
-use Rattle.node_seats.specs.Lines.{line_of}
 use Rattle.node_seats.specs.declared.seat_notice.SeatNotice.{SeatNotice}
-use Rattle.node_seats.specs.Seating.{waits_at, sits_at, IsOf}
+use Rattle.node_seats.specs.Lines.{line_of}
+use Rattle.node_seats.specs.Seating.{waits_at, sits_at, bot_at, IsOf}
 
--- the lines that were told to seats so far, each to one of them, in order
-abbrev pub lines_of : Seats → List Passage
-lines_of seats = seats.told.items
+-- ---- the lines that a bot was told
 
--- those of one seat
-abbrev pub line_for : ℕ → Line → List ℕ → List (List ℕ)
-line_for seat (SeatOf number) line = if number == seat then line ∷ [] else []
-line_for seat (Peer number) line = []
-line_for seat (Caller place) line = []
-line_for seat (Guest place) line = []
-line_for seat (Asker place) line = []
+abbrev pub texts_in : List Passage → List (List ℕ)
+texts_in [] = []
+texts_in (Wrote at line ∷ more) = line ∷ texts_in more
+texts_in (Began at ∷ more) = texts_in more
+texts_in (Came at bytes ∷ more) = texts_in more
+texts_in (Gave place seat ∷ more) = texts_in more
+texts_in (Logged text ∷ more) = texts_in more
 
-abbrev pub line_to : ℕ → Passage → List (List ℕ)
-line_to seat (Wrote at line) = line_for seat at line
-line_to seat (Began at) = []
-line_to seat (Came at bytes) = []
-line_to seat (Gave place number) = []
-line_to seat (Logged text) = []
+abbrev pub lines_of : Telling → List (List ℕ)
+lines_of telling = texts_in telling.told.items
 
-abbrev pub lines_to : ℕ → List Passage → List (List ℕ)
-lines_to seat [] = []
-lines_to seat (p ∷ more) = line_to seat p ++ lines_to seat more
+-- as they go to it
+abbrev pub text_of : List (List ℕ) → List ℕ
+text_of [] = []
+text_of (line ∷ more) = line_of line ++ text_of more
 
--- this is made of whole lines of these, in their order, each once at most
-abbrev pub IsMadeOf : List (List ℕ) → List ℕ → Type 0
-IsMadeOf [] text = text ≡ []
-IsMadeOf (line ∷ more) text = IsMadeOf more text ⊎ ((rest : List ℕ) × ((text ≡ line_of line ++ rest) × IsMadeOf more rest))
+abbrev pub text_told : Option Telling → List ℕ
+text_told None = []
+text_told (Some telling) = text_of (lines_of telling)
 
--- what was written to a seat, with what waits for it, is made of whole lines that were told to it; where nobody sits there any more, it is a beginning of such
-abbrev pub IsSaid : Bool → (wrote waits : List ℕ) → List (List ℕ) → Type 0
-IsSaid sits wrote waits lines = (lost : List ℕ) × (IsMadeOf lines ((wrote ++ waits) ++ lost) × (sits ≡ true → lost ≡ []))
+-- what a bot is told behind them
+abbrev pub parting_line : Parting → List ℕ
+parting_line Over = codes "#OVER"
+parting_line Other = codes "#OTHER"
 
-abbrev pub AreSaid : List Passage → (told : List Passage) → List Seat → Type 0
-AreSaid passed told seats = (seat : ℕ) → IsSaid (sits_at seats seat) (wrote_over passed (SeatOf seat)) (waits_at seats seat) (lines_to seat told)
+abbrev pub parting_text : Option Parting → List ℕ
+parting_text None = []
+parting_text (Some parting) = line_of (parting_line parting)
+
+-- all that a bot was told
+abbrev pub text_for : Bot → List ℕ
+text_for bot = text_told bot.telling ++ parting_text bot.parting
+
+-- what was written to a seat, with what waits for it, is what its bot was told; where nobody sits there any more, it is a beginning of that
+abbrev pub IsSaid : Bool → (wrote waits : List ℕ) → List ℕ → Type 0
+IsSaid sits wrote waits text = (lost : List ℕ) × ((text ≡ (wrote ++ waits) ++ lost) × (sits ≡ true → lost ≡ []))
+
+abbrev pub AreSaid : List Passage → List Seat → Type 0
+AreSaid passed seats = (seat : ℕ) → IsSaid (sits_at seats seat) (wrote_over passed (SeatOf seat)) (waits_at seats seat) (text_for (bot_at seats seat))
+
+-- ---- off a table
+
+-- these lines are told a seat from this place on, one after another, each off such a table, and the next is at that place
+abbrev pub TellsFrom : (Match → Type 0) → ℕ → Cursor → List (List ℕ) → Cursor → Type 0
+TellsFrom such seat at [] next = next ≡ at
+TellsFrom such seat at (line ∷ more) next =
+    (table : Match) × (such table × ((seat_line_at table.game table.hands seat at.hand at.actions ≡ Some line) × TellsFrom such seat (next_cursor table.game table.hands at) more next))
+
+-- from this place on, and nothing was told yet
+abbrev pub telling_from : Cursor → Telling
+telling_from at = record { start = at; next = at; told = record { items = [] } }
+
+abbrev pub one_more : ℕ → List ℕ → Cursor → Telling → Telling
+one_more seat line next telling = record { start = telling.start; next = next; told = record { items = telling.told.items ++ Wrote (SeatOf seat) line ∷ [] } }
+
+-- a line was told off this table, or none
+abbrev pub Told : Match → ℕ → (old new : Telling) → (waits_old waits_new : List ℕ) → Type 0
+Told table seat old new waits_old waits_new =
+    ((new ≡ old) × (waits_new ≡ waits_old))
+    ⊎ ((line : List ℕ) × ((seat_line_at table.game table.hands seat old.next.hand old.next.actions ≡ Some line)
+    × ((new ≡ one_more seat line (next_cursor table.game table.hands old.next) old) × (waits_new ≡ waits_old ++ line_of line))))
+
+-- so many were, in order
+pub record TellsOn (table : Match) (seat : ℕ) (old new : Telling) (waits_old waits_new : List ℕ) : Type 0 where
+  pub lines : List (List ℕ)
+  pub start : new.start ≡ old.start
+  pub told : lines_of new ≡ lines_of old ++ lines
+  pub tells : TellsFrom (λ other. other ≡ table) seat old.next lines new.next
+  pub waits : waits_new ≡ waits_old ++ text_of lines
+
+-- a bot that is told lines was told all of this table's, or so many bytes wait for it
+abbrev pub HasAll : Match → ℕ → Telling → (waits : List ℕ) → Type 0
+HasAll table seat telling waits = (seat_line_at table.game table.hands seat telling.next.hand telling.next.actions ≡ None) ⊎ (BACKLOG ≤ length waits)
+
+-- so it is with a bot that sits there and isn't parted from, where it is told lines
+abbrev pub IsToldAll : Match → ℕ → Bot → (waits : List ℕ) → Type 0
+IsToldAll table seat bot waits = bot.sits ≡ true → bot.parting ≡ None → IfSome bot.telling (λ telling. HasAll table seat telling waits)
 
 -- ---- calls
+
+-- of a bot that is told lines more of them were told, off this table; nothing else of it changes
+abbrev pub TellsMore : Match → ℕ → (old new : Option Telling) → Type 0
+TellsMore table seat None new = new ≡ None
+TellsMore table seat (Some old) new =
+    (after : Telling) × ((new ≡ Some after) × ((after.start ≡ old.start) × ((lines : List (List ℕ)) × ((lines_of after ≡ lines_of old ++ lines) × TellsFrom (λ other. other ≡ table) seat old.next lines after.next))))
+
+pub record TellsBot (table : Match) (seat : ℕ) (old new : Bot) : Type 0 where
+  pub sits : new.sits ≡ old.sits
+  pub words : new.words ≡ old.words
+  pub parting : new.parting ≡ old.parting
+  pub told : TellsMore table seat old.telling new.telling
+  pub parted : (parting : Parting) → old.parting ≡ Some parting → new ≡ old
+
+-- a bot that named the version and isn't told lines is from this place on, or all is as it was
+abbrev pub Begins : Cursor → (old new : Bot) → Type 0
+Begins at old new = (new ≡ old) ⊎ ((old.words.is_over ≡ true) × ((old.telling ≡ None) × ((old.parting ≡ None) × (new ≡ record old { telling = Some (telling_from at) }))))
+
+-- a bot is told this behind its lines, or all is as it was; that its line is none it is told only where it has named the version and no line was told
+abbrev pub MayPart : Parting → Bot → Type 0
+MayPart Over bot = Unit {0}
+MayPart Other bot = (bot.telling ≡ None) × (bot.words.is_over ≡ true)
+
+abbrev pub Parts : Parting → (old new : Bot) → Type 0
+Parts parting old new = (new ≡ old) ⊎ ((old.parting ≡ None) × (MayPart parting old × (new ≡ record old { parting = Some parting })))
+
+-- what a bot is told more waits for it, behind the rest; one that is gone is told nothing
+pub record SaysMore (old new : Bot) (waits_old waits_new : List ℕ) : Type 0 where
+  pub more : List ℕ
+  pub none : old.sits ≡ false → more ≡ []
+  pub text : text_for new ≡ text_for old ++ more
+  pub waits : waits_new ≡ waits_old ++ more
+  pub sits : new.sits ≡ old.sits
+
+-- the same of one of the seats, and nothing of the others
+pub record SaysAt (number : ℕ) (old new : List Seat) : Type 0 where
+  pub here : SaysMore (bot_at old number) (bot_at new number) (waits_at old number) (waits_at new number)
+  pub bots : (seat : ℕ) → (seat ≡ number → ⊥) → bot_at new seat ≡ bot_at old seat
+  pub others : (seat : ℕ) → (seat ≡ number → ⊥) → waits_at new seat ≡ waits_at old seat
 
 -- of whoever is let go of there, what was written is a beginning of what had been written and waited
 abbrev pub Loses : Option SeatNotice → List Seat → List Seat → List Passage → List Passage → Type 0

@@ -1,15 +1,17 @@
 //! The bots of a node's seats, over the wires of its process.
 //!
 //! `Seats::next` takes one thing that came of the seat that is asked: a bot that was taken in, a piece that it sent, or its
-//! end. Who asks each of them (`looks`) once a turn takes no more of one seat than one piece. `tell` puts a line behind those
-//! that wait for a seat, `flush` writes what waits. A seat has one bot at a time: who comes meanwhile waits in the system's
-//! queue.
+//! end. Who asks each of them (`looks`) once a turn takes no more of one seat than one piece. `begin` says from which line on a
+//! bot is told the lines of its seat, `tell` tells those to which a table has come, and `part` what comes behind the last;
+//! `flush` writes what waits. From which line on a bot asks to be told is read of what it says before the version (`asked`).
+//! A seat has one bot at a time: who comes meanwhile waits in the system's queue.
 //!
 //! Where seats have tokens, who comes to a seat's port is a guest first: his first line is to be `#TOKEN ` and the 64
 //! hexadecimal digits whose SHA-256 is the seat's `TokenDigest`. Then he is the seat's bot, in place of the one that sits
 //! there; else he is refused. Of a guest nothing is told but that, and nothing behind his line is read before he sits.
 #![tactic(auto)]
 
+mod bot;
 mod guest;
 mod guests;
 pub mod limits;
@@ -17,7 +19,10 @@ mod seat;
 mod seat_notice;
 mod seats;
 mod token_digest;
+mod words;
 
+pub use bot::Parting;
 pub use seat_notice::SeatNotice;
 pub use seats::Seats;
 pub use token_digest::TokenDigest;
+pub use words::Asked;

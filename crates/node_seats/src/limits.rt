@@ -3,8 +3,11 @@
 /// The most bytes of a piece that is taken of a bot at once.
 pub const PIECE: usize = 512;
 
-/// A bot for whom so many bytes wait and more is to be said is let go: it doesn't read.
-pub const BACKLOG: usize = 1 << 20;
+/// A bot for whom so many bytes wait is told no further line until it has read some.
+pub const BACKLOG: usize = 1 << 16;
+
+/// The most bytes of a line that is read before a bot has named the version.
+pub const WORDS: usize = 4096;
 
 /// The bytes of a line that shows a token, where CR LF ends it. Of a longer one no more is read.
 pub const TOKEN_LINE: usize = 73;

@@ -1,28 +1,32 @@
 //! One seat.
 
-ghost use Rattle.std.specs.Prelude.{◌≡◌, ◌++◌, ◌+◌, ◌<◌, ◌≤◌, ℕ, Bool, [], true, false, IfSome, Some, None, length, OnOk, OnErr};
+ghost use Rattle.std.specs.Prelude.{◌≡◌, ◌++◌, ◌+◌, ◌<◌, ◌≤◌, max, ℕ, Bool, [], true, false, IfSome, IsSome, Some, None, length};
 ghost use Rattle.node_seats.specs.declared.seat_notice.SeatNotice.TheVariants as notices;
-ghost use Rattle.node_seats.specs.Lines.{line_of};
 ghost use Rattle.node_wires.specs.declared.line.Line.TheVariants.{Guest as GuestAt};
 ghost use Rattle.node_wires.specs.Passages.{came_over};
 ghost use Rattle.node_seats.specs.Passing.{Passed, TakesNobody, seat_of, Leaves};
 ghost use Rattle.node_seats.specs.Pieces.{IsPieceOf};
 ghost use Rattle.node_seats.specs.Guesting.{ShowsToken, IsToldOf, Passes};
-ghost use Rattle.node_seats.specs.Seating.{Sits};
+ghost use Rattle.node_seats.specs.Seating.{Sits, no_bot, newcomer, gone};
+ghost use Rattle.node_seats.specs.Telling.{parting_line, MayPart, Begins, Parts, SaysMore, TellsBot, IsToldAll};
 ghost use Rattle.node_seats.specs.Hurrying.{HasTime, Lasts, Hurries};
 ghost use Rattle.node_seats.specs.Writing.{Writes};
+ghost use Rattle.node_seats.specs.declared.limits.TheConstants.{BACKLOG as MOST};
 
+use crate::bot::{Bot, Parting, Telling, put_line, tell_lines};
 use crate::guests::Guests;
 use crate::limits::VERSION_TIME;
 use crate::seat_notice::SeatNotice;
 use byte_queue::ByteQueue;
+use line_cursor::{Cursor, SeatLine};
 use node_wires::{Halt, Line, Wire};
-use std::alloc::{AllocError, Global};
+use slot_log::Table;
+use std::alloc::Global;
 
-/// A seat: whether a bot sits there, and what waits for it. Its number is given to calls that have a wire.
+/// A seat: the bot that sits there, if one does, and what waits for it. Its number is given to calls that have a wire.
 #[derive(Drop)]
 pub(crate) struct Seat {
-    pub(crate) sits: bool,
+    pub(crate) bot: Bot,
     /// When its bot was taken in, until its time for the version is seen to be over.
     since: Option<u64>,
     waiting: ByteQueue,
@@ -41,30 +45,94 @@ fn is_late(came: u64, now: u64) -> bool
     now.saturating_sub(came) >= VERSION_TIME
 }
 
+/// What a bot is told behind its lines.
+fn line_of(parting: Parting) -> &'static [u8]
+    ensures { result.now ≡ parting_line parting }
+{
+    match parting {
+        Parting::Over => b"#OVER",
+        Parting::Other => b"#OTHER",
+    }
+}
+
+/// Whether a bot may be told this: that its line is none only where it has named the version and was told no line.
+fn may_part(parting: Parting, bot: &Bot) -> bool
+    ensures may { result ≡ true → MayPart parting bot.now }
+    ensures may_not { result ≡ false → MayPart parting bot.now → ⊥ }
+{
+    match parting {
+        Parting::Over => true,
+        Parting::Other => bot.telling.is_none() && bot.words.is_over(),
+    }
+}
+
 impl Seat {
     /// Nobody sits there. It takes no memory.
     pub(crate) fn new(alloc: Global) -> Seat
-        ensures sits { result.sits ≡ false }
+        ensures sits { result.bot ≡ no_bot }
         ensures waiting { result.waiting.waiting ≡ [] }
     {
         Seat {
-            sits: false,
+            bot: Bot::nobody(),
             since: None,
             waiting: ByteQueue::new(alloc),
         }
     }
 
-    /// Puts a line with CR LF behind what waits. An `Err`, for want of memory, changes nothing.
-    pub(crate) fn tell(&mut self, line: &[u8]) -> Result<(), AllocError>
-        ensures told { OnOk result (self.new.waiting.waiting ≡ self.old.waiting.waiting ++ line_of line.now) }
-        ensures failed { OnErr result (self.new.waiting.waiting ≡ self.old.waiting.waiting) }
-        ensures sits { self.new.sits ≡ self.old.sits }
+    /// From now on the bot that sits there is told the lines of its seat from this place on, where it has named the version, isn't
+    /// told lines yet, and isn't parted from.
+    #[tactic(auto, using(crate::proofs::Telling::says_nothing, crate::proofs::Telling::says_begun))]
+    pub(crate) fn begin(&mut self, at: Cursor)
+        ensures begins { Begins at self.old.bot self.new.bot }
+        ensures begun { self.old.bot.words.is_over ≡ true → self.old.bot.parting ≡ None → IsSome self.new.bot.telling }
+        ensures says { SaysMore self.old.bot self.new.bot self.old.waiting.waiting self.new.waiting.waiting }
         ensures since { self.new.since ≡ self.old.since }
     {
-        self.waiting.reserve(line.len().saturating_add(2))?;
-        self.waiting.push(line)?;
-        self.waiting.push(b"\r\n")?;
-        Ok(())
+        if !self.bot.words.is_over() || self.bot.telling.is_some() || self.bot.parting.is_some() {
+            return;
+        }
+        self.bot.telling = Some(Telling::new(at));
+    }
+
+    /// Tells the bot that sits there the lines of its seat to which the table has come, where it is told lines, as long as few
+    /// bytes wait. False without memory for a line: then that one isn't told. The buffer is for these lines, one at a time.
+    #[tactic(auto, using(crate::proofs::Telling::says_nothing, crate::proofs::Telling::says_told, crate::proofs::Telling::bot_same, crate::proofs::Telling::bot_told))]
+    pub(crate) fn tell(&mut self, line: &mut SeatLine, number: u8, table: &Table) -> bool
+        requires seat { number < table.now.game.players }
+        requires sits { self.old.bot.sits ≡ true }
+        ensures tells { TellsBot table.now number self.old.bot self.new.bot }
+        ensures all { result ≡ true → IsToldAll table.now number self.new.bot self.new.waiting.waiting }
+        ensures bound { length self.new.waiting.waiting ≤ max (length self.old.waiting.waiting) (MOST + 4098) }
+        ensures says { SaysMore self.old.bot self.new.bot self.old.waiting.waiting self.new.waiting.waiting }
+        ensures since { self.new.since ≡ self.old.since }
+    {
+        if self.bot.parting.is_some() {
+            return true;
+        }
+        match &mut self.bot.telling {
+            Some(telling) => tell_lines(telling, &mut self.waiting, line, number, table),
+            None => true,
+        }
+    }
+
+    /// Tells the bot that sits there this behind its lines, where it wasn't told so yet; that its line is none only where it was
+    /// told no line. False without memory: then it isn't told.
+    #[tactic(auto, using(crate::proofs::Telling::says_nothing, crate::proofs::Telling::says_parted))]
+    pub(crate) fn part(&mut self, parting: Parting) -> bool
+        requires { self.old.bot.sits ≡ true }
+        ensures parts { Parts parting self.old.bot self.new.bot }
+        ensures parted { result ≡ true → MayPart parting self.old.bot → IsSome self.new.bot.parting }
+        ensures says { SaysMore self.old.bot self.new.bot self.old.waiting.waiting self.new.waiting.waiting }
+        ensures since { self.new.since ≡ self.old.since }
+    {
+        if self.bot.parting.is_some() || !may_part(parting, &self.bot) {
+            return true;
+        }
+        if put_line(&mut self.waiting, line_of(parting)).is_err() {
+            return false;
+        }
+        self.bot.parting = Some(parting);
+        true
     }
 
     /// How many bytes wait.
@@ -74,23 +142,33 @@ impl Seat {
         self.waiting.waiting().len()
     }
 
+    /// A bot that came now sits there, and nothing waits for it. A function of its own, since whoever calls one clears the room of
+    /// all its variables: so that of the bot that is made here is cleared only where one came.
+    fn sit_down(&mut self, now: u64)
+        ensures sits { self.new.bot ≡ newcomer }
+        ensures since { self.new.since ≡ Some now }
+        ensures waiting { self.new.waiting.waiting ≡ [] }
+    {
+        self.bot = Bot::new();
+        self.since = Some(now);
+        self.waiting.clear();
+    }
+
     /// Takes in a bot, where nobody sits there and one came.
     #[tactic(auto, using(crate::proofs::Lists::nothing_more, crate::proofs::Lists::nothing_passed))]
     fn take_in<W: Wire>(&mut self, wire: &mut W, number: u8, now: u64) -> Option<SeatNotice>
-        requires { self.old.sits ≡ false }
+        requires { self.old.bot.sits ≡ false }
         ensures passed { Passed result (W.passed wire.old) (W.passed wire.new) }
         ensures seat { IfSome result (λ notice. seat_of notice ≡ number) }
         ensures piece { (seat most : ℕ) → IsPieceOf seat most result }
         ensures waiting { Leaves result self.old.waiting.waiting self.new.waiting.waiting }
-        ensures sits { Sits result self.old.sits self.new.sits }
+        ensures sits { Sits result self.old.bot self.new.bot }
         ensures since { (greeted : Bool) → Lasts greeted now result self.old.since self.new.since }
     {
         if !wire.accept_seat(number) {
             return None;
         }
-        self.sits = true;
-        self.since = Some(now);
-        self.waiting.clear();
+        self.sit_down(now);
         Some(SeatNotice::Came { seat: number })
     }
 
@@ -99,11 +177,11 @@ impl Seat {
     pub(crate) fn leave<W: Wire>(&mut self, wire: &mut W, number: u8) -> SeatNotice
         ensures passed { W.passed wire.new ≡ W.passed wire.old }
         ensures gone { result ≡ notices.Gone number }
-        ensures sits { self.new.sits ≡ false }
+        ensures sits { self.new.bot ≡ gone self.old.bot }
         ensures since { self.new.since ≡ self.old.since }
         ensures waiting { self.new.waiting.waiting ≡ [] }
     {
-        self.sits = false;
+        self.bot.sits = false;
         self.waiting.clear();
         wire.close(Line::Seat(number));
         SeatNotice::Gone { seat: number }
@@ -123,7 +201,7 @@ impl Seat {
         ensures seat { IfSome result (λ notice. seat_of notice ≡ number) }
         ensures piece { IsPieceOf number (length buffer.old) result }
         ensures waiting { Leaves result self.old.waiting.waiting self.new.waiting.waiting }
-        ensures sits { Sits result self.old.sits self.new.sits }
+        ensures sits { Sits result self.old.bot self.new.bot }
         ensures since { self.new.since ≡ self.old.since }
     {
         let Ok(mut bytes) = Vec::with_capacity(alloc, buffer.len()) else {
@@ -132,6 +210,7 @@ impl Seat {
         match wire.read(Line::Seat(number), buffer) {
             Ok(count) => {
                 bytes.extend_from_slice(&buffer[..count]).unwrap();
+                self.bot.words.read(bytes.as_slice());
                 Some(SeatNotice::Piece {
                     seat: number,
                     bytes,
@@ -148,7 +227,7 @@ impl Seat {
         ensures over { greeted ≡ false → self.old.since ≡ None → result ≡ true }
         ensures ends { (came : ℕ) → greeted ≡ false → self.old.since ≡ Some came → came + VERSION_TIME ≤ now → self.new.since ≡ None }
         ensures lasts { HasTime greeted now self.old.since → (result ≡ false) × (self.new.since ≡ self.old.since) }
-        ensures sits { self.new.sits ≡ self.old.sits }
+        ensures sits { self.new.bot ≡ self.old.bot }
         ensures waiting { self.new.waiting ≡ self.old.waiting }
     {
         if greeted {
@@ -178,10 +257,10 @@ impl Seat {
         ensures seat { IfSome result (λ notice. seat_of notice ≡ number) }
         ensures piece { IsPieceOf number (length buffer.old) result }
         ensures waiting { Leaves result self.old.waiting.waiting self.new.waiting.waiting }
-        ensures sits { Sits result self.old.sits self.new.sits }
+        ensures sits { Sits result self.old.bot self.new.bot }
         ensures hurries { Hurries greeted now number result self.old self.new }
     {
-        if !self.sits {
+        if !self.bot.sits {
             return None;
         }
         if self.hurry(greeted, now) {
@@ -206,10 +285,10 @@ impl Seat {
         ensures seat { IfSome result (λ notice. seat_of notice ≡ number) }
         ensures piece { IsPieceOf number (length buffer.old) result }
         ensures waiting { Leaves result self.old.waiting.waiting self.new.waiting.waiting }
-        ensures sits { Sits result self.old.sits self.new.sits }
+        ensures sits { Sits result self.old.bot self.new.bot }
         ensures hurries { Hurries greeted now number result self.old self.new }
     {
-        if self.sits {
+        if self.bot.sits {
             self.next_piece(alloc, buffer, wire, number, greeted, now)
         } else {
             self.take_in(wire, number, now)
@@ -233,18 +312,16 @@ impl Seat {
         ensures tokens { guests.new.tokens ≡ guests.old.tokens }
         ensures seat { IfSome result (λ notice. seat_of notice ≡ number) }
         ensures waiting { Leaves result self.old.waiting.waiting self.new.waiting.waiting }
-        ensures sits { Sits result self.old.sits self.new.sits }
+        ensures sits { Sits result self.old.bot self.new.bot }
         ensures since { Lasts true now result self.old.since self.new.since }
     {
-        if self.sits {
+        if self.bot.sits {
             return Some(self.leave(wire, number));
         }
         if !guests.give(wire, place, number, now) {
             return None;
         }
-        self.sits = true;
-        self.since = Some(now);
-        self.waiting.clear();
+        self.sit_down(now);
         Some(SeatNotice::Came { seat: number })
     }
 
@@ -252,7 +329,7 @@ impl Seat {
     #[tactic(auto, using(crate::proofs::Writing::nothing_written, crate::proofs::Writing::some_written))]
     fn write_some<W: Wire>(&mut self, wire: &mut W, number: u8) -> Option<bool>
         ensures wrote { Writes number self.old.waiting.waiting self.new.waiting.waiting (W.passed wire.old) (W.passed wire.new) }
-        ensures sits { self.new.sits ≡ self.old.sits }
+        ensures sits { self.new.bot ≡ self.old.bot }
         ensures since { self.new.since ≡ self.old.since }
     {
         let bytes = self.waiting.waiting();
@@ -273,7 +350,7 @@ impl Seat {
     #[tactic(auto, using(crate::proofs::Writing::nothing_written, crate::proofs::Writing::written_on))]
     pub(crate) fn flush<W: Wire>(&mut self, wire: &mut W, number: u8) -> bool
         ensures wrote { Writes number self.old.waiting.waiting self.new.waiting.waiting (W.passed wire.old) (W.passed wire.new) }
-        ensures sits { self.new.sits ≡ self.old.sits }
+        ensures sits { self.new.bot ≡ self.old.bot }
         ensures since { self.new.since ≡ self.old.since }
     {
         for _ in 0..u64::MAX {

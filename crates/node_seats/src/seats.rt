@@ -1,24 +1,28 @@
-ghost use Rattle.std.specs.Prelude.{◌≡◌, ◌≢◌, ◌++◌, ◌∷◌, ◌<◌, ℕ, List, [], true, length, IfOk, option_map, Some, None};
+ghost use Rattle.std.specs.Prelude.{◌≡◌, ◌≢◌, ◌++◌, ◌+◌, ◌<◌, ◌≤◌, max, ℕ, true, false, List, [], length, IfOk, IfSome, IsSome, IsSomeAnd, option_map, Some, None};
 ghost use Rattle.std.specs.Int.{bit_at};
-ghost use Rattle.node_wires.specs.declared.line.Line.TheVariants.{Guest as GuestAt, Seat as SeatOf};
-ghost use Rattle.node_wires.specs.Passages.{Passage, Wrote, came_over, seats_in, logged_in};
+ghost use Rattle.node_wires.specs.declared.line.Line.TheVariants.{Guest as GuestAt};
+ghost use Rattle.node_wires.specs.Passages.{Passage, came_over, seats_in, logged_in};
 ghost use Rattle.node_seats.specs.Passing.{Passed, TakesNobody, passed_by};
 ghost use Rattle.node_seats.specs.Guesting.{IsToldOf, Passes};
 ghost use Rattle.node_seats.specs.Others.{KeepsOthers, TellsNoGuest};
 ghost use Rattle.node_seats.specs.Writing.{WritesToSeats};
-ghost use Rattle.node_seats.specs.Seating.{Follows, Changes, bit_of, waits_at};
+ghost use Rattle.node_seats.specs.Seating.{Follows, Changes, bit_of, waits_at, bot_at, sits_at, is_silent, no_bot, KeepsOtherBots};
 ghost use Rattle.node_seats.specs.Hurrying.{LastsAt};
-ghost use Rattle.node_seats.specs.Telling.{lines_of, AreSaid, Loses};
+ghost use Rattle.node_seats.specs.Telling.{AreSaid, Loses};
 ghost use Rattle.node_seats.specs.Coming.{passed_in, tokens_in};
 
+use crate::bot::Parting;
 use crate::guest::Found;
 use crate::guests::Guests;
-use crate::limits::{BACKLOG, PIECE};
+use crate::limits::PIECE;
 use crate::seat::Seat;
 use crate::seat_notice::SeatNotice;
 use crate::token_digest::TokenDigest;
+use crate::words::Asked;
+use line_cursor::{Cursor, SeatLine};
 use node_wires::limits::GUESTS;
-use node_wires::{Line, Passages, Wire};
+use node_wires::{Line, Wire};
+use slot_log::Table;
 use std::alloc::{AllocError, Global};
 
 /// The seats of a node.
@@ -32,14 +36,15 @@ pub struct Seats {
     guests: Option<Guests>,
     /// Where a piece stands while it is read.
     buffer: [u8; PIECE],
-    /// The lines that were told, for clauses alone.
-    told: Passages,
+    /// Where a line of a seat stands while it is told.
+    line: SeatLine,
 }
 
 /// So many seats, where nobody sits.
-#[tactic(auto, using(crate::proofs::Seating::one_empty))]
+#[tactic(auto, using(crate::proofs::Seating::one_empty, crate::proofs::Seating::one_nobody))]
 fn empty_seats(alloc: Global, count: u8) -> Result<Vec<Seat>, AllocError>
-    ensures { IfOk result (λ seats. (seat : ℕ) → waits_at seats.items seat ≡ []) }
+    ensures waits { IfOk result (λ seats. (seat : ℕ) → waits_at seats.items seat ≡ []) }
+    ensures nobody { IfOk result (λ seats. (seat : ℕ) → bot_at seats.items seat ≡ no_bot) }
 {
     let mut seats = Vec::with_capacity(alloc, count as usize)?;
     for _ in 0..count {
@@ -99,7 +104,8 @@ fn hear_guest<W: Wire>(
 }
 
 impl Seats {
-    ghost use Rattle.node_seats.specs.Seating.{sits_at, Tells, Flushes};
+    ghost use Rattle.node_seats.specs.Seating.{is_here_at, Flushes};
+    ghost use Rattle.node_seats.specs.Telling.{Begins, TellsBot, IsToldAll, MayPart, Parts, SaysAt};
     ghost use Rattle.node_seats.specs.declared.limits.TheConstants.{BACKLOG as MOST, PIECE as LONGEST};
     ghost use Rattle.node_seats.specs.Pieces.{IsPieceOf};
     ghost use Rattle.node_seats.specs.Hurrying.{HurriesAt, KeepsTime};
@@ -115,8 +121,8 @@ impl Seats {
     ) -> Result<Seats, AllocError>
         ensures tokens { IfOk result (λ seats. tokens_of seats ≡ option_map (λ t. t.items) tokens) }
         ensures passed { IfOk result (λ seats. passed_of seats ≡ []) }
-        ensures told { IfOk result (λ seats. lines_of seats ≡ []) }
-        ensures said { IfOk result (λ seats. AreSaid [] [] seats.seats.items) }
+        ensures nobody { IfOk result (λ seats. (seat : ℕ) → bot_at seats.seats.items seat ≡ no_bot) }
+        ensures said { IfOk result (λ seats. AreSaid [] seats.seats.items) }
     {
         let seats = empty_seats(alloc, count)?;
         let guests = no_guests(alloc, tokens)?;
@@ -126,7 +132,7 @@ impl Seats {
             seats,
             guests,
             buffer: [0; PIECE],
-            told: Passages::new(),
+            line: SeatLine::new(),
         })
     }
 
@@ -213,46 +219,124 @@ impl Seats {
         ensures log { logged_in (W.passed wire.new) ≡ logged_in (W.passed wire.old) }
         ensures others { KeepsOthers (W.passed wire.old) (W.passed wire.new) }
         ensures unsaid { TellsNoGuest (W.passed wire.old) (W.passed wire.new) }
-        ensures said { AreSaid (W.passed wire.old) (lines_of self.old) self.old.seats.items → AreSaid (W.passed wire.new) (lines_of self.old) self.new.seats.items }
+        ensures said { AreSaid (W.passed wire.old) self.old.seats.items → AreSaid (W.passed wire.new) self.new.seats.items }
     {
         self.look(wire, at, greeted, now)
     }
 
-    /// Puts a line behind those that wait for a seat, as `tell` does.
-    #[tactic(auto, using(crate::proofs::Seating::waits_here, crate::proofs::Seating::waits_elsewhere, crate::proofs::Seating::sits_alike))]
-    fn keep(&mut self, seat: u8, line: &[u8]) -> bool
-        ensures told { self.new.told ≡ self.old.told }
+    /// From now on the bot of a seat is told the lines of its seat from this place on, where it has named the version, isn't told
+    /// lines yet, and isn't parted from.
+    #[tactic(auto, using(crate::proofs::Seating::bot_here, crate::proofs::Seating::waits_here, crate::proofs::Telling::says_there, crate::proofs::Telling::says_nowhere))]
+    pub fn begin(&mut self, seat: u8, at: Cursor)
+        ensures begins { Begins at (bot_at self.old.seats.items seat) (bot_at self.new.seats.items seat) }
+        ensures begun { (bot_at self.old.seats.items seat).words.is_over ≡ true → (bot_at self.old.seats.items seat).parting ≡ None → IsSome (bot_at self.new.seats.items seat).telling }
+        ensures says { SaysAt seat self.old.seats.items self.new.seats.items }
+        ensures said { (passed : List Passage) → AreSaid passed self.old.seats.items → AreSaid passed self.new.seats.items }
         ensures guests { self.new.guests ≡ self.old.guests }
-        ensures tells { Tells seat line.now result self.old.seats.items self.new.seats.items }
-        ensures bound { result ≡ true → sits_at self.old.seats.items seat ≡ true → length (waits_at self.old.seats.items seat) < MOST }
-        ensures sits { (seat : ℕ) → sits_at self.new.seats.items seat ≡ sits_at self.old.seats.items seat }
         ensures time { KeepsTime self.old self.new }
     {
-        match self.seats.get_mut(seat as usize) {
+        let number = seat as usize;
+        if let Some(seat) = self.seats.get_mut(number) {
+            seat.begin(at);
+        }
+    }
+
+    /// Tells the bot of a seat the lines to which the table has come, in order, as long as few bytes wait. False without memory
+    /// for a line: then that one isn't told, and it is to be let go of.
+    #[tactic(auto, using(crate::proofs::Seating::bot_here, crate::proofs::Seating::waits_here, crate::proofs::Telling::says_there, crate::proofs::Telling::says_nowhere, crate::proofs::Telling::bot_same))]
+    pub fn tell(&mut self, seat: u8, table: &Table) -> bool
+        ensures tells { TellsBot table.now seat (bot_at self.old.seats.items seat) (bot_at self.new.seats.items seat) }
+        ensures all { result ≡ true → seat < table.now.game.players → IsToldAll table.now seat (bot_at self.new.seats.items seat) (waits_at self.new.seats.items seat) }
+        ensures bound { length (waits_at self.new.seats.items seat) ≤ max (length (waits_at self.old.seats.items seat)) (MOST + 4098) }
+        ensures says { SaysAt seat self.old.seats.items self.new.seats.items }
+        ensures said { (passed : List Passage) → AreSaid passed self.old.seats.items → AreSaid passed self.new.seats.items }
+        ensures guests { self.new.guests ≡ self.old.guests }
+        ensures time { KeepsTime self.old self.new }
+    {
+        let number = seat;
+        if number as usize >= table.game().players() {
+            return true;
+        }
+        match self.seats.get_mut(number as usize) {
             Some(seat) => {
-                if !seat.sits {
+                if !seat.bot.sits {
                     return true;
                 }
-                seat.backlog() < BACKLOG && seat.tell(line).is_ok()
+                seat.tell(&mut self.line, number, table)
             }
             None => true,
         }
     }
 
-    /// Tells a line to a seat: it waits behind the others. Nothing waits for a seat where nobody sits. False where he is to
-    /// be let go of: too much waits for him already, or there is no memory.
-    #[tactic(auto, using(crate::proofs::Telling::said_telling))]
-    pub fn tell(&mut self, seat: u8, line: &[u8]) -> bool
-        ensures told { lines_of self.new ≡ lines_of self.old ++ Wrote (SeatOf seat) line.now ∷ [] }
+    /// Tells the bot of a seat this behind its lines, where it wasn't told so yet; that its line is none only where it was told no
+    /// line. False without memory: then it is to be let go of.
+    #[tactic(auto, using(crate::proofs::Seating::bot_here, crate::proofs::Seating::waits_here, crate::proofs::Telling::says_there, crate::proofs::Telling::says_nowhere))]
+    pub fn part(&mut self, seat: u8, parting: Parting) -> bool
+        ensures parts { Parts parting (bot_at self.old.seats.items seat) (bot_at self.new.seats.items seat) }
+        ensures parted { result ≡ true → sits_at self.old.seats.items seat ≡ true → MayPart parting (bot_at self.old.seats.items seat) → IsSome (bot_at self.new.seats.items seat).parting }
+        ensures says { SaysAt seat self.old.seats.items self.new.seats.items }
+        ensures said { (passed : List Passage) → AreSaid passed self.old.seats.items → AreSaid passed self.new.seats.items }
         ensures guests { self.new.guests ≡ self.old.guests }
-        ensures tells { Tells seat line.now result self.old.seats.items self.new.seats.items }
-        ensures bound { result ≡ true → sits_at self.old.seats.items seat ≡ true → length (waits_at self.old.seats.items seat) < MOST }
-        ensures sits { (seat : ℕ) → sits_at self.new.seats.items seat ≡ sits_at self.old.seats.items seat }
         ensures time { KeepsTime self.old self.new }
-        ensures said { (passed : List Passage) → AreSaid passed (lines_of self.old) self.old.seats.items → AreSaid passed (lines_of self.new) self.new.seats.items }
     {
-        self.told.wrote(Line::Seat(seat), line);
-        self.keep(seat, line)
+        let number = seat as usize;
+        match self.seats.get_mut(number) {
+            Some(seat) => {
+                if !seat.bot.sits {
+                    return true;
+                }
+                seat.part(parting)
+            }
+            None => true,
+        }
+    }
+
+    /// What the bot of a seat asked to be told, and the line that it named; nothing where there is no such seat.
+    pub fn asked(&self, seat: u8) -> (Asked, &[u8])
+        ensures asked { result.0 ≡ (bot_at self.now.seats.items seat).words.asked }
+        ensures named { result.1.now ≡ (bot_at self.now.seats.items seat).words.named }
+    {
+        match self.seats.get(seat as usize) {
+            Some(seat) => (seat.bot.words.asked(), seat.bot.words.named()),
+            None => (Asked::Nothing, &[]),
+        }
+    }
+
+    /// Whether a bot sits at a seat that is told nothing yet, neither lines nor that it is parted from.
+    pub fn is_silent(&self, seat: u8) -> bool
+        ensures { result ≡ is_silent (bot_at self.now.seats.items seat) }
+    {
+        match self.seats.get(seat as usize) {
+            Some(seat) => {
+                seat.bot.sits && seat.bot.telling.is_none() && seat.bot.parting.is_none()
+            }
+            None => false,
+        }
+    }
+
+    /// What the bot of a seat was told behind its lines, if it was.
+    pub fn parting(&self, seat: u8) -> Option<Parting> {
+        match self.seats.get(seat as usize) {
+            Some(seat) if seat.bot.sits => seat.bot.parting,
+            _ => None,
+        }
+    }
+
+    /// Whether somebody sits at any seat.
+    pub fn is_any_taken(&self) -> bool {
+        self.seats.iter().any(|seat| seat.bot.sits)
+    }
+
+    /// The place of the line that the bot of a seat is told next, where it is told lines.
+    pub fn next_place(&self, seat: u8) -> Option<Cursor>
+        ensures next { IfSome result (λ next. IsSomeAnd (bot_at self.now.seats.items seat).telling (λ telling. telling.next ≡ next)) }
+        ensures none { result ≡ None → (bot_at self.now.seats.items seat).telling ≡ None }
+    {
+        let seat = self.seats.get(seat as usize)?;
+        match &seat.bot.telling {
+            Some(telling) => Some(telling.next()),
+            None => None,
+        }
     }
 
     /// How many bytes wait for a seat; 0 where nobody sits.
@@ -269,12 +353,13 @@ impl Seats {
     #[tactic(auto, using(crate::proofs::Telling::said_leaving))]
     pub fn hang_up<W: Wire>(&mut self, wire: &mut W, seat: u8) -> Option<SeatNotice>
         ensures passed { W.passed wire.new ≡ W.passed wire.old }
-        ensures told { lines_of self.new ≡ lines_of self.old }
         ensures guests { self.new.guests ≡ self.old.guests }
         ensures waits { Follows result self.old.seats.items self.new.seats.items }
         ensures sits { Changes result self.old.seats.items self.new.seats.items }
         ensures time { KeepsTime self.old self.new }
-        ensures said { AreSaid (W.passed wire.old) (lines_of self.old) self.old.seats.items → AreSaid (W.passed wire.new) (lines_of self.old) self.new.seats.items }
+        ensures said { AreSaid (W.passed wire.old) self.old.seats.items → AreSaid (W.passed wire.new) self.new.seats.items }
+        ensures gone { sits_at self.new.seats.items seat ≡ false }
+        ensures others { KeepsOtherBots seat self.old.seats.items self.new.seats.items }
     {
         self.let_go(wire, seat)
     }
@@ -283,17 +368,18 @@ impl Seats {
     #[tactic(auto, using(crate::proofs::Lists::nothing_more, crate::proofs::Lists::nothing_passed))]
     fn let_go<W: Wire>(&mut self, wire: &mut W, seat: u8) -> Option<SeatNotice>
         ensures nobody { TakesNobody result }
-        ensures told { self.new.told ≡ self.old.told }
         ensures guests { self.new.guests ≡ self.old.guests }
         ensures passed { W.passed wire.new ≡ W.passed wire.old }
         ensures waits { Follows result self.old.seats.items self.new.seats.items }
         ensures sits { Changes result self.old.seats.items self.new.seats.items }
         ensures time { KeepsTime self.old self.new }
+        ensures gone { sits_at self.new.seats.items seat ≡ false }
+        ensures others { KeepsOtherBots seat self.old.seats.items self.new.seats.items }
     {
         let number = seat;
         match self.seats.get_mut(number as usize) {
             Some(seat) => {
-                if seat.sits {
+                if seat.bot.sits {
                     Some(seat.leave(wire, number))
                 } else {
                     None
@@ -315,12 +401,11 @@ impl Seats {
         ensures loses { Loses result self.old.seats.items self.new.seats.items (W.passed wire.old) (W.passed wire.new) }
         ensures others { KeepsOthers (W.passed wire.old) (W.passed wire.new) }
         ensures wrote { WritesToSeats (W.passed wire.old) (W.passed wire.new) }
-        ensures told { self.new.told ≡ self.old.told }
         ensures guests { self.new.guests ≡ self.old.guests }
         ensures time { KeepsTime self.old self.new }
     {
         let seat = self.seats.get_mut(number as usize)?;
-        if seat.sits && !seat.flush(wire, number) {
+        if seat.bot.sits && !seat.flush(wire, number) {
             return Some(seat.leave(wire, number));
         }
         None
@@ -337,10 +422,9 @@ impl Seats {
         ensures others { KeepsOthers (W.passed wire.old) (W.passed wire.new) }
         ensures wrote { WritesToSeats (W.passed wire.old) (W.passed wire.new) }
         ensures unsaid { TellsNoGuest (W.passed wire.old) (W.passed wire.new) }
-        ensures told { lines_of self.new ≡ lines_of self.old }
         ensures guests { self.new.guests ≡ self.old.guests }
         ensures time { KeepsTime self.old self.new }
-        ensures said { AreSaid (W.passed wire.old) (lines_of self.old) self.old.seats.items → AreSaid (W.passed wire.new) (lines_of self.old) self.new.seats.items }
+        ensures said { AreSaid (W.passed wire.old) self.old.seats.items → AreSaid (W.passed wire.new) self.new.seats.items }
     {
         self.flush_all(wire)
     }
@@ -356,7 +440,6 @@ impl Seats {
         ensures loses { Loses result self.old.seats.items self.new.seats.items (W.passed wire.old) (W.passed wire.new) }
         ensures others { KeepsOthers (W.passed wire.old) (W.passed wire.new) }
         ensures wrote { WritesToSeats (W.passed wire.old) (W.passed wire.new) }
-        ensures told { self.new.told ≡ self.old.told }
         ensures guests { self.new.guests ≡ self.old.guests }
         ensures time { KeepsTime self.old self.new }
     {
@@ -368,24 +451,34 @@ impl Seats {
         None
     }
 
+    /// Whether somebody sits at a seat who isn't still waiting for the line that he named.
+    pub fn is_here(&self, number: usize) -> bool
+        ensures { result ≡ is_here_at self.now.seats.items number }
+    {
+        match self.seats.get(number) {
+            Some(seat) => seat.bot.is_here(),
+            None => false,
+        }
+    }
+
     /// Whether somebody sits at a seat.
     pub fn sits(&self, number: usize) -> bool
         ensures { result ≡ sits_at self.now.seats.items number }
     {
         match self.seats.get(number) {
-            Some(seat) => seat.sits,
+            Some(seat) => seat.bot.sits,
             None => false,
         }
     }
 
-    /// The seats where somebody sits, a bit each, seat 0 the lowest.
+    /// The seats where somebody sits who isn't still waiting for the line that he named, a bit each, seat 0 the lowest.
     #[tactic(auto, using(crate::proofs::SeatBits::no_bits, crate::proofs::SeatBits::one_more))]
     pub fn bits(&self) -> u16
-        ensures { (seat : ℕ) → seat < 16 → bit_at result seat ≡ bit_of (sits_at self.now.seats.items seat) }
+        ensures { (seat : ℕ) → seat < 16 → bit_at result seat ≡ bit_of (is_here_at self.now.seats.items seat) }
     {
         let mut bits = 0u16;
         for number in 0..16usize {
-            bits = with_bit(bits, number, self.sits(number));
+            bits = with_bit(bits, number, self.is_here(number));
         }
         bits
     }

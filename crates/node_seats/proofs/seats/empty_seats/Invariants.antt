@@ -1,6 +1,9 @@
 use Rattle.std.proofs.Common.{◌≡◌, ℕ, []}
-use Rattle.node_seats.specs.Seating.{waits_at}
+use Rattle.node_seats.specs.Seating.{waits_at, bot_at, no_bot}
 use Rattle.node_seats.proofs.seats.empty_seats.Given as goal
 
 abbrev pub invariant-loop : goal.invariant-loop
-invariant-loop l = (seat : ℕ) → waits_at l.seats.items seat ≡ []
+invariant-loop l = record {
+  waits : (seat : ℕ) → waits_at l.seats.items seat ≡ [];
+  nobody : (seat : ℕ) → bot_at l.seats.items seat ≡ no_bot;
+}

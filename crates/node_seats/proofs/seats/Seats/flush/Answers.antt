@@ -1,11 +1,10 @@
-use Rattle.node_seats.specs.Telling.{lines_of}
 use Rattle.node_seats.proofs.Telling.{said_flushed}
 use Rattle.node_seats.proofs.Writing.{no_guest_told}
 use Rattle.node_seats.proofs.seats.Seats.flush.Goals as goal
 
 pub returns-clause-said : goal.returns-clause-said
 returns-clause-said g c =
-    said_flushed c.flush_all.result (lines_of c.args.self.now) (g.W.Wire.passed c.args.wire.now) (g.W.Wire.passed c.flush_all.new.wire) c.args.self.now.seats.items c.flush_all.new.self.seats.items c.flush_all.ensures.nobody
+    said_flushed c.flush_all.result (g.W.Wire.passed c.args.wire.now) (g.W.Wire.passed c.flush_all.new.wire) c.args.self.now.seats.items c.flush_all.new.self.seats.items c.flush_all.ensures.nobody
     c.flush_all.ensures.said c.flush_all.ensures.sits c.flush_all.ensures.loses
 
 pub returns-clause-unsaid : goal.returns-clause-unsaid

@@ -1,10 +1,14 @@
-use Rattle.std.proofs.Common.{ap, ◌∙◌}
-use Rattle.node_wires.specs.declared.passages.Passages.{Passages}
-use Rattle.node_seats.specs.Telling.{lines_of}
-use Rattle.node_seats.proofs.Telling.{said_telling}
+use Rattle.std.proofs.Common.{◌<◌, length, arith}
+use Rattle.std.proofs.lemmas.Grind.{common_steps}
+use Rattle.node_seats.proofs.Telling.{said_there, said_still}
 use Rattle.node_seats.proofs.seats.Seats.tell.Goals as goal
 
-pub returns-clause-said : goal.returns-clause-said
-returns-clause-said c =
-    said_telling c.args.seat c.args.line.now c.keep.result c.args.self.now.seats.items c.keep.new.self.seats.items (lines_of c.args.self.now) (lines_of c.keep.new.self) c.keep.ensures.tells c.keep.ensures.sits
-    (ap (λ (p : Passages). p.items) c.keep.ensures.told ∙ c.wrote.ensures)
+pub returns-then-not-seat-clause-said : goal.returns-then-not-seat-clause-said
+returns-then-not-seat-clause-said c =
+    let within : c.args.seat < length c.args.self.now.seats.items = grind (arith, common_steps) in
+    said_still c.args.self.now.seats.items c.args.seat c.in-Some.seat.now within c.in-Some.ensures.value
+
+pub returns-else-not-seat-clause-said : goal.returns-else-not-seat-clause-said
+returns-else-not-seat-clause-said c =
+    let within : c.args.seat < length c.args.self.now.seats.items = grind (arith, common_steps) in
+    said_there c.args.self.now.seats.items c.args.seat c.in-Some.seat.now c.tell.new.self within c.in-Some.ensures.value c.tell.ensures.says
