@@ -1,13 +1,13 @@
 #!/usr/bin/env python3
 """Counts what `node` and `serve` clear, copy and ask of the system for one command: bench/moved.py [OPTIONS].
 
-Two players in C call through matches of limit hold'em over TCP: at three `node` processes, where they sit at the one that
-leads, and at one `serve` with three nodes. The library bench/moved.c, loaded before the program, counts its calls of
-memset, memcpy and memmove by the place of the call, and its system calls by name. Every match stands idle for a while
-before the players come. What a process moves in that time, by the second, is subtracted from what it moves until the
-first log has the score. The rest is divided by the commands of the match.
+Two players in C call through matches of limit hold'em over TCP: at three `node` processes without a key and at three with
+one, where they sit at the one that leads, and at one `serve` with three nodes. The library bench/moved.c, loaded before the
+program, counts its calls of memset, memcpy and memmove by the place of the call, and its system calls by name. Every match
+stands idle for a while before the players come. What a process moves in that time, by the second, is subtracted from what it
+moves until the first log has the score. The rest is divided by the commands of the match.
 
-For the leader, the followers and `serve` it prints two tables: bytes a command by function, and system calls a command by
+For the leaders, the followers and `serve` it prints two tables: bytes a command by function, and system calls a command by
 name. Figures are medians, with the least and the most of all runs in brackets; a follower counts as a run of its own.
 
   cleared, copied   bytes of calls of memset, and of memcpy and memmove, of 256 bytes and more
@@ -222,9 +222,9 @@ def preloaded(library, counts):
     return ["/usr/bin/env", f"LD_PRELOAD={library}", f"MOVED_COUNTS={counts}"]
 
 
-def of_node(tools, words, progress):
+def of_node(tools, words, progress, has_key=False):
     """What the leader and each follower of a match moved; none if more than one node campaigned."""
-    match = Counted(tools["library"], NODES, words.hands, words.folder)
+    match = Counted(tools["library"], NODES, words.hands, words.folder, has_key)
     try:
         for node in range(NODES):
             match.begin(node)
@@ -236,9 +236,15 @@ def of_node(tools, words, progress):
         players.end()
         match.ended()
         leaders = match.leaders()
-        return {"leader": [found.pop(leaders[0])], "follower": found} if len(leaders) == 1 else None
+        which = " with a key" if has_key else ""
+        return {f"leader{which}": [found.pop(leaders[0])], f"follower{which}": found} if len(leaders) == 1 else None
     finally:
         match.remove()
+
+
+def of_key(tools, words, progress):
+    """The same with a key."""
+    return of_node(tools, words, progress, has_key=True)
 
 
 def of_serve(tools, words, progress):
@@ -344,10 +350,10 @@ def tell(text):
 
 def counted(name, tools, words):
     """The matches of a command: what each kind of process moved in each of them."""
-    count_one, runs, passed_over = {"node": of_node, "serve": of_serve}[name], collections.defaultdict(list), 0
-    while len(runs["serve" if name == "serve" else "leader"]) < words.runs:
-        number = len(runs["serve" if name == "serve" else "leader"]) + 1
-        found = count_one(tools, words, lambda text: tell(f"match {number} of {words.runs} of {name}: {text}"))
+    (count_one, who, what), runs, passed_over = MATCHES[name], collections.defaultdict(list), 0
+    while len(runs[who]) < words.runs:
+        number = len(runs[who]) + 1
+        found = count_one(tools, words, lambda text: tell(f"match {number} of {words.runs} of {what}: {text}"))
         if found is None:
             passed_over += 1
             if passed_over > AGAIN:
@@ -356,8 +362,16 @@ def counted(name, tools, words):
         for who, moved in found.items():
             runs[who] += moved
     if passed_over:
-        print(f"{name}: {passed_over} more matches aren't counted, since the leader changed in them")
+        print(f"{what}: {passed_over} more matches aren't counted, since the leader changed in them")
     return runs
+
+
+# The matches that are counted: what counts one, which process of it has one row a match, and how it is called.
+MATCHES = {
+    "node": (of_node, "leader", "node"),
+    "key": (of_key, "leader with a key", "node with a key"),
+    "serve": (of_serve, "serve", "serve"),
+}
 
 
 def from_one(word):
@@ -375,7 +389,7 @@ def seconds(word):
 def arguments(words):
     parser = argparse.ArgumentParser(description=__doc__, formatter_class=argparse.RawDescriptionHelpFormatter)
     parser.add_argument("--program", type=Path, default=Processes.program, help="the program; by default the one that is built here")
-    parser.add_argument("--only", choices=("node", "serve"), help="counts one command alone")
+    parser.add_argument("--only", choices=MATCHES, help="counts matches of one kind alone: of node, of node with a key, or of serve")
     parser.add_argument("--runs", type=from_one, default=5, help="how many matches of each (5)")
     parser.add_argument("--hands", type=from_one, default=500, help="hands of a match, each of nine commands (500)")
     parser.add_argument("--idle", type=seconds, default=4.0, metavar="S", help="seconds in which a match stands idle (4)")
@@ -393,7 +407,7 @@ def main(words):
         print("bench/moved.py: the C compiler cc is not on the PATH", file=sys.stderr)
         return 2
     Processes.program = Match.program = words.program.resolve()
-    load, names = os.getloadavg()[0], [words.only] if words.only else ["node", "serve"]
+    load, names = os.getloadavg()[0], [words.only] if words.only else [*MATCHES]
     try:
         with tempfile.TemporaryDirectory() as folder:
             tools = {"players": built("players", PLAYERS, folder), "library": built("moved.so", LIBRARY.read_text(), folder, *FLAGS)}

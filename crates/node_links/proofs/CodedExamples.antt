@@ -119,7 +119,7 @@ more_behind_the_first = refl
 
 -- the channel has the frame as it is, and codes it later
 pub frame_given : (c : Channel) → c.out.frame ≡ None → (given c (Some (record_of.Frame frame))).out.frame ≡ Some frame
-frame_given c e = ap (λ (f : Option Frame). Rattle.node_links.specs.Coding.and_frame f frame) e
+frame_given c e = ap (λ (f : Option Frame). Rattle.peer_codes.specs.Outgoings.and_frame f frame) e
 
 pub short_frame_dropped : (c : Channel) → given c (Some (record_of.Frame (record { bytes = record { items = 0 ∷ [] } }))) ≡ c
 short_frame_dropped c = refl

@@ -20,7 +20,7 @@ use Rattle.peer_codes.specs.Beginning.{Begins as ChannelBegins, TextBegun, Hello
 use Rattle.peer_codes.specs.Codes.{after}
 use Rattle.peer_codes.specs.Connections.{met as met_by, turned_away, answered, takes_more, with_more, begun_next}
 use Rattle.peer_codes.specs.Histories.{IsCoded, said_phase}
-use Rattle.peer_codes.specs.Outgoings.{unwritten}
+use Rattle.peer_codes.specs.Outgoings.{unwritten, and_frame}
 use Rattle.peer_codes.specs.Spelling.{record_text}
 use Rattle.peer_codes.specs.Steps.{proving}
 use Rattle.node_links.specs.declared.peer_fault.PeerFault.{PeerFault}
@@ -30,7 +30,7 @@ use Rattle.node_links.specs.declared.stage.Stage.{Stage}
 use Rattle.node_links.specs.declared.stage.Stage.TheVariants as stages
 use Rattle.node_links.specs.declared.coded_connection.CodedConnection.{CodedConnection}
 use Rattle.node_links.specs.declared.connection.Connection.TheVariants.{Coded}
-use Rattle.node_links.specs.Coding.{settled_stage, matched, taken, given, and_frame, begun_open, begun_by, begun_where, begun_coded}
+use Rattle.node_links.specs.Coding.{settled_stage, matched, taken, given, begun_open, begun_by, begun_where, begun_coded}
 use Rattle.node_links.specs.Judging.{judged_match, judged_known}
 use Rattle.node_links.specs.Versions.{in_version, version_at}
 use Rattle.node_links.specs.Waits.{Waits}

@@ -15,8 +15,11 @@ heard_as arrivals.Frame frame = heards.Frame frame
 heard_as (arrivals.Beat beat) frame = heards.Beat beat
 heard_as (arrivals.Further further) frame = heards.Further further
 
+abbrev pub told_as : Result Arrived PeerFault → Frame → Result Heard PeerFault
+told_as (Err fault) frame = Err fault
+told_as (Ok arrived) frame = Ok (heard_as arrived frame)
+
 -- what is told, where the buffer has this frame
 abbrev pub told : Option (Result Arrived PeerFault) → Frame → Option (Result Heard PeerFault)
 told None frame = None
-told (Some (Err fault)) frame = Some (Err fault)
-told (Some (Ok arrived)) frame = Some (Ok (heard_as arrived frame))
+told (Some arrived) frame = Some (told_as arrived frame)

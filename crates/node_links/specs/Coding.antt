@@ -14,7 +14,7 @@ use Rattle.peer_codes.specs.declared.records.Record.TheVariants as record_of
 use Rattle.peer_codes.specs.declared.outgoing.Outgoing.{Outgoing}
 use Rattle.peer_codes.specs.declared.connection.Connection.{Connection as Channel}
 use Rattle.peer_codes.specs.Connections as channels
-use Rattle.peer_codes.specs.Outgoings.{unwritten}
+use Rattle.peer_codes.specs.Outgoings.{unwritten, and_frame}
 use Rattle.node_links.specs.declared.own.Own.{Own}
 use Rattle.node_links.specs.declared.own.Met.{Met}
 use Rattle.node_links.specs.declared.peer_fault.PeerFault.{PeerFault}
@@ -24,14 +24,24 @@ use Rattle.node_links.specs.declared.heard.Heard.{Heard}
 use Rattle.node_links.specs.declared.heard.Heard.TheVariants as heards
 use Rattle.node_links.specs.declared.stage.Stage.{Stage}
 use Rattle.node_links.specs.declared.stage.Stage.TheVariants as stages
-use Rattle.node_links.specs.declared.coded_step.CodedStep.{CodedStep}
+use Rattle.node_links.specs.declared.coded_step.LentStep.{LentStep}
 use Rattle.node_links.specs.declared.coded_connection.CodedConnection.{CodedConnection}
+use Rattle.node_links.specs.Arriving.{told_as}
 use Rattle.node_links.specs.Judging.{judged_match, judged_known}
 use Rattle.node_links.specs.Telling.{read_behind}
 use Rattle.node_links.specs.Waits.{Waits}
 use Rattle.node_links.specs.Waiting.{next_of, rest_of, has_next}
 
 -- ---- what came
+
+-- what an event does to a connection
+pub record CodedStep : Type 0 where
+  pub stage : Stage
+  pub heard : Result Heard PeerFault
+
+-- what it does, where the buffer has this frame
+abbrev pub step_as : LentStep → Frame → CodedStep
+step_as step frame = record { stage = step.stage; heard = told_as step.told frame }
 
 abbrev pub peer_fault_of : ConnectionFault → PeerFault
 peer_fault_of (channel_faults.Record fault) = faults.Record fault
@@ -152,10 +162,6 @@ fault_at (stages.Open hello) = None
 
 -- ---- what is written
 
-abbrev pub and_frame : Option Frame → Frame → Option Frame
-and_frame None frame = Some frame
-and_frame (Some other) frame = Some other
-
 -- the channel has this to say next
 abbrev pub given : Channel → Option Record → Channel
 given c None = c
@@ -165,9 +171,13 @@ given c (Some (record_of.Hello hello)) = c
 given c (Some (record_of.Proof proof)) = c
 given c (Some (record_of.More more)) = channels.with_more (channels.takes_more c.phase c.out.more more.kind) more c
 
+-- this is coded now, if something waits
+abbrev pub said_next : CodedConnection → Option Record → CodedConnection
+said_next c said = record c { channel = channels.begun_next (given c.channel said) }
+
 -- what waits next is coded now, and waits no longer
 abbrev pub begun_open : Version → CodedConnection → Waits → CodedConnection × Waits
-begun_open version c w = (record c { channel = channels.begun_next (given c.channel (next_of version w)) }, rest_of version w)
+begun_open version c w = (said_next c (next_of version w), rest_of version w)
 
 -- only on an open connection, and where something waits
 abbrev pub begun_by : Stage → CodedConnection → Waits → CodedConnection × Waits

@@ -38,6 +38,9 @@ SettingsReadBack = (s : Settings) → AreSettings s → settings_of (settings_te
 
 -- ---- records of further kinds
 
+abbrev pub more_in : ℕ → List ℕ → More
+more_in kind bytes = record { kind = kind; bytes = record { items = bytes } }
+
 abbrev pub lives_further : Result Lives RecordFault → Result Further RecordFault
 lives_further (Ok lives) = Ok (furthers.Lives lives)
 lives_further (Err fault) = Err fault

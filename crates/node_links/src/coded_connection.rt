@@ -5,19 +5,21 @@ ghost use Rattle.peer_codes.specs.Outgoings.{unwritten};
 ghost use Rattle.peer_codes.specs.Steps.{is_coded};
 ghost use Rattle.node_links.specs.declared.stage.Stage.TheVariants as stages;
 ghost use Rattle.node_links.specs.Going.{taken_at};
-ghost use Rattle.node_links.specs.Waiting.{next_of, rest_of};
-ghost use Rattle.node_links.specs.Coding.{HearsOrWaits, HearsProof, NextCoded, has_said_hello, settled_stage, peer_at, fault_at, given, begun_open, begun_by, begun_coded};
+ghost use Rattle.node_links.specs.Arriving.{told};
+ghost use Rattle.node_links.specs.Frames.{frame_of};
+ghost use Rattle.node_links.specs.Waiting.{first_frame, more_of, more_record, without_more, next_behind, rest_behind};
+ghost use Rattle.node_links.specs.Coding.{HearsOrWaits, HearsProof, NextCoded, has_said_hello, settled_stage, peer_at, fault_at, said_next, begun_open, begun_by, begun_coded};
 ghost use Rattle.node_links.specs.Versions.{in_version, version_at};
 ghost use Rattle.peer_codes.specs.declared.records.Record.TheVariants as record_of;
 
-use crate::coded_step::{CodedStep, coded_step, settled_stage};
-use crate::heard::Heard;
+use crate::arrived::Arrived;
+use crate::coded_step::{LentStep, coded_step, settled_stage};
 use crate::outbox::Outbox;
 use crate::own::{Met, Own};
 use crate::peer_fault::PeerFault;
 use crate::stage::Stage;
-use peer_codes::limits::LEAST_FRAME;
-use peer_codes::{Connection as Channel, Frame, Hello, Key, Record, Version};
+use peer_codes::limits::{LEAST_FRAME, MOST_FRAME};
+use peer_codes::{Beat, Connection as Channel, Frame, Hello, Key, Version};
 use std::alloc::{AllocError, Global};
 
 /// A connection between two nodes with codes, as a machine without sockets: a channel of `peer_codes`, and how the other's
@@ -73,41 +75,42 @@ impl CodedConnection {
         self.channel.take_piece(piece)
     }
 
-    /// What the channel tells next.
-    fn hear(&mut self) -> Option<Result<Heard, PeerFault>>
-        ensures { HearsOrWaits self.old result self.new }
+    /// What the channel tells next, of which a frame goes into the buffer.
+    fn hear(&mut self, frame: &mut Frame) -> Option<Result<Arrived, PeerFault>>
+        ensures { HearsOrWaits self.old (told result frame.new) self.new }
     {
-        let came = self.channel.next()?;
-        let CodedStep { stage, heard } = coded_step(self.stage, came);
+        let came = self.channel.next(frame)?;
+        let LentStep { stage, told } = coded_step(self.stage, came, frame);
         self.stage = stage;
-        Some(heard)
+        Some(told)
     }
 
     /// The same where the other's proof comes next, which is over both Hellos: so not before this side's own is written.
-    fn hear_proof(&mut self) -> Option<Result<Heard, PeerFault>>
-        ensures { HearsProof (has_said_hello self.old.channel.out) self.old result self.new }
+    fn hear_proof(&mut self, frame: &mut Frame) -> Option<Result<Arrived, PeerFault>>
+        ensures { HearsProof (has_said_hello self.old.channel.out) self.old (told result frame.new) self.new }
     {
         if !self.channel.has_said_hello() {
             return None;
         }
-        self.hear()
+        self.hear(frame)
     }
 
-    /// What came next, or the fault that closed the connection, told again from then on.
+    /// What came next, or the fault that closed the connection, told again from then on. A frame goes into the buffer, in
+    /// place of what that had.
     ///
     /// `None` where the record in front isn't whole, while something waits to be judged, while the Hello that came isn't
     /// answered, and while this side's own Hello isn't wholly written, or anything behind it before the other's proof came. The
     /// fault is that of the channel: 120 to 122, 124, 125 or 126.
-    pub fn next(&mut self) -> Option<Result<Heard, PeerFault>>
-        ensures { NextCoded self.old.stage self.old result self.new }
+    pub fn next(&mut self, frame: &mut Frame) -> Option<Result<Arrived, PeerFault>>
+        ensures { NextCoded self.old.stage self.old (told result frame.new) self.new }
     {
         match self.stage {
             Stage::Asked(_) => None,
             Stage::Proved(_) => None,
             Stage::Closed(fault) => Some(Err(fault)),
-            Stage::Greeting => self.hear(),
-            Stage::Matched(_) => self.hear_proof(),
-            Stage::Open(_) => self.hear(),
+            Stage::Greeting => self.hear(frame),
+            Stage::Matched(_) => self.hear_proof(frame),
+            Stage::Open(_) => self.hear(frame),
         }
     }
 
@@ -184,29 +187,58 @@ impl CodedConnection {
         }
     }
 
-    /// The channel has this frame to say next; not one that is none by its length.
-    fn give_frame(&mut self, frame: Frame)
-        ensures { self.new ≡ record self.old { channel = given self.old.channel (Some (record_of.Frame frame)) } }
+    /// Codes and begins a beat.
+    fn begin_beat(&mut self, beat: Beat)
+        ensures { self.new ≡ said_next self.old (Some (record_of.Beat beat)) }
     {
-        if frame.bytes.len() < LEAST_FRAME {
-            return;
-        }
-        let _ = self.channel.put_frame(frame);
+        self.channel.tell_beat(beat);
+        self.channel.begin();
     }
 
-    /// The channel has this to say next, if something waits.
-    fn give(&mut self, said: Option<Record>)
-        ensures { self.new ≡ record self.old { channel = given self.old.channel said } }
+    /// Codes and begins a frame of these bytes; not one that is none by its length.
+    fn say_frame(&mut self, frame: &[u8])
+        requires { length frame.now ≤ MOST_FRAME }
+        ensures { self.new ≡ said_next self.old (Some (record_of.Frame (frame_of frame.now))) }
     {
-        match said {
-            Some(Record::Beat(beat)) => self.channel.tell_beat(beat),
-            Some(Record::Frame(frame)) => self.give_frame(frame),
-            Some(Record::Hello(_)) => (),
-            Some(Record::Proof(_)) => (),
-            Some(Record::More(more)) => {
-                let _ = self.channel.put_more(more);
-            }
-            None => (),
+        if frame.len() < LEAST_FRAME {
+            self.channel.begin();
+            return;
+        }
+        self.channel.say_frame(frame);
+    }
+
+    /// Codes and begins the oldest frame that waits, if one does.
+    fn begin_frame(&mut self, waiting: &mut Outbox)
+        ensures own { self.new ≡ said_next self.old (first_frame waiting.old.frames) }
+        ensures waiting { waiting.new ≡ record waiting.old { frames = drop 1 waiting.old.frames } }
+    {
+        match waiting.take_frame() {
+            Some(frame) => self.say_frame(frame.as_slice()),
+            None => self.channel.begin(),
+        }
+    }
+
+    /// Codes and begins the record of a further kind that waits, if one does and the connection is of this version.
+    fn begin_more(&mut self, version: Version, waiting: &mut Outbox)
+        ensures own { self.new ≡ said_next self.old (more_record (more_of version waiting.old)) }
+        ensures waiting { waiting.new ≡ without_more version waiting.old }
+    {
+        if let Some(more) = waiting.take_more(version) {
+            let _ = self.channel.put_more(more);
+        }
+        self.channel.begin();
+    }
+
+    /// Codes and begins what waits next behind the beat, if anything does. Apart from each other, since a record of a further
+    /// kind makes room for one at its entry.
+    fn begin_behind(&mut self, version: Version, waiting: &mut Outbox)
+        ensures own { self.new ≡ said_next self.old (next_behind (more_of version waiting.old) waiting.old.frames) }
+        ensures waiting { waiting.new ≡ rest_behind (more_of version waiting.old) version waiting.old }
+    {
+        if waiting.has_more(version) {
+            self.begin_more(version, waiting);
+        } else {
+            self.begin_frame(waiting);
         }
     }
 
@@ -215,9 +247,10 @@ impl CodedConnection {
         ensures own { self.new ≡ (begun_open version self.old waiting.old).0 }
         ensures waiting { waiting.new ≡ (begun_open version self.old waiting.old).1 }
     {
-        let said = waiting.next(version);
-        self.give(said);
-        self.channel.begin();
+        match waiting.take_beat() {
+            Some(beat) => self.begin_beat(beat),
+            None => self.begin_behind(version, waiting),
+        }
     }
 
     /// The same, where the connection is open and something waits.

@@ -1,21 +1,23 @@
 //! What an event of a channel with codes does to a connection, and how the Hello that came is judged.
 
 ghost use Rattle.std.specs.Prelude.{◌≡◌};
-ghost use Rattle.node_links.specs.Coding.{peer_fault_of, closed, on_greeting, on_matched, on_further, on_open, on_event, coded_step, matched, taken, settled_stage};
+ghost use Rattle.peer_codes.specs.declared.frame.Frame.{Frame};
+ghost use Rattle.peer_codes.specs.Lending.{event_as, told_as};
+ghost use Rattle.node_links.specs.Coding.{step_as, peer_fault_of, closed, on_greeting, on_matched, on_further, on_open, on_event, coded_step, matched, taken, settled_stage};
 
+use crate::arrived::Arrived;
 use crate::further::{Further, read_behind};
-use crate::heard::Heard;
 use crate::judging::{judge_known, judge_match};
 use crate::own::{Met, Own};
 use crate::peer_fault::PeerFault;
 use crate::stage::Stage;
-use peer_codes::{ConnectionFault, Event, Hello, RecordFault};
+use peer_codes::{ConnectionFault, Frame, Hello, Lent, RecordFault};
 
-/// What an event does to a connection.
-#[derive(Drop)]
-pub(crate) struct CodedStep {
+/// What an event does to a connection, whose bytes a buffer has.
+#[derive(Clone, Copy)]
+pub(crate) struct LentStep {
     pub(crate) stage: Stage,
-    pub(crate) heard: Result<Heard, PeerFault>,
+    pub(crate) told: Result<Arrived, PeerFault>,
 }
 
 /// The fault of a channel as one of a connection.
@@ -31,99 +33,106 @@ fn peer_fault_of(fault: ConnectionFault) -> PeerFault
 }
 
 /// The fault closes the connection.
-fn closed(fault: PeerFault) -> CodedStep
-    ensures { result ≡ closed fault }
+fn closed(fault: PeerFault) -> LentStep
+    ensures { (frame : Frame) → step_as result frame ≡ closed fault }
 {
-    CodedStep {
+    LentStep {
         stage: Stage::Closed(fault),
-        heard: Err(fault),
+        told: Err(fault),
     }
 }
 
 /// Something came before the other's Hello was there.
-fn on_greeting(event: Event) -> CodedStep
-    ensures { result ≡ on_greeting event }
+fn on_greeting(lent: Lent) -> LentStep
+    ensures { (frame : Frame) → step_as result frame ≡ on_greeting (event_as lent frame) }
 {
-    match event {
-        Event::Greeted(hello) => CodedStep {
+    match lent {
+        Lent::Greeted(hello) => LentStep {
             stage: Stage::Asked(hello),
-            heard: Ok(Heard::Hello(hello)),
+            told: Ok(Arrived::Hello(hello)),
         },
-        Event::Opened => closed(PeerFault::UnexpectedRecord),
-        Event::Frame(_) => closed(PeerFault::UnexpectedRecord),
-        Event::Beat(_) => closed(PeerFault::UnexpectedRecord),
-        Event::More(_) => closed(PeerFault::UnexpectedRecord),
+        Lent::Opened => closed(PeerFault::UnexpectedRecord),
+        Lent::Frame => closed(PeerFault::UnexpectedRecord),
+        Lent::Beat(_) => closed(PeerFault::UnexpectedRecord),
+        Lent::More(_) => closed(PeerFault::UnexpectedRecord),
     }
 }
 
 /// Something came before the other's proof was there.
-fn on_matched(hello: Hello, event: Event) -> CodedStep
-    ensures { result ≡ on_matched hello event }
+fn on_matched(hello: Hello, lent: Lent) -> LentStep
+    ensures { (frame : Frame) → step_as result frame ≡ on_matched hello (event_as lent frame) }
 {
-    match event {
-        Event::Opened => CodedStep {
+    match lent {
+        Lent::Opened => LentStep {
             stage: Stage::Proved(hello),
-            heard: Ok(Heard::Proved(hello)),
+            told: Ok(Arrived::Proved(hello)),
         },
-        Event::Greeted(_) => closed(PeerFault::UnexpectedRecord),
-        Event::Frame(_) => closed(PeerFault::UnexpectedRecord),
-        Event::Beat(_) => closed(PeerFault::UnexpectedRecord),
-        Event::More(_) => closed(PeerFault::UnexpectedRecord),
+        Lent::Greeted(_) => closed(PeerFault::UnexpectedRecord),
+        Lent::Frame => closed(PeerFault::UnexpectedRecord),
+        Lent::Beat(_) => closed(PeerFault::UnexpectedRecord),
+        Lent::More(_) => closed(PeerFault::UnexpectedRecord),
     }
 }
 
 /// A record of a further kind came on an open connection, and tells this, or closes it.
-fn on_further(hello: Hello, read: Result<Further, RecordFault>) -> CodedStep
-    ensures { result ≡ on_further hello read }
+fn on_further(hello: Hello, read: Result<Further, RecordFault>) -> LentStep
+    ensures { (frame : Frame) → step_as result frame ≡ on_further hello read }
 {
     match read {
-        Ok(further) => CodedStep {
+        Ok(further) => LentStep {
             stage: Stage::Open(hello),
-            heard: Ok(Heard::Further(further)),
+            told: Ok(Arrived::Further(further)),
         },
         Err(fault) => closed(PeerFault::Record(fault)),
     }
 }
 
-/// Something came on an open connection.
-fn on_open(hello: Hello, event: Event) -> CodedStep
-    ensures { result ≡ on_open hello event }
+/// Something came on an open connection, of which the buffer has the bytes.
+fn on_open(hello: Hello, lent: Lent, frame: &Frame) -> LentStep
+    ensures { step_as result frame.now ≡ on_open hello (event_as lent frame.now) }
 {
-    match event {
-        Event::Frame(frame) => CodedStep {
+    match lent {
+        Lent::Frame => LentStep {
             stage: Stage::Open(hello),
-            heard: Ok(Heard::Frame(frame)),
+            told: Ok(Arrived::Frame),
         },
-        Event::Beat(beat) => CodedStep {
+        Lent::Beat(beat) => LentStep {
             stage: Stage::Open(hello),
-            heard: Ok(Heard::Beat(beat)),
+            told: Ok(Arrived::Beat(beat)),
         },
-        Event::Greeted(_) => closed(PeerFault::UnexpectedRecord),
-        Event::Opened => closed(PeerFault::UnexpectedRecord),
-        Event::More(more) => on_further(hello, read_behind(&hello, &more)),
+        Lent::Greeted(_) => closed(PeerFault::UnexpectedRecord),
+        Lent::Opened => closed(PeerFault::UnexpectedRecord),
+        Lent::More(kind) => {
+            let read = read_behind(&hello, kind, frame.bytes.as_slice());
+            on_further(hello, read)
+        }
     }
 }
 
-/// What an event does.
-fn on_event(stage: Stage, event: Event) -> CodedStep
-    ensures { result ≡ on_event stage event }
+/// What an event does, of which the buffer has the bytes.
+fn on_event(stage: Stage, lent: Lent, frame: &Frame) -> LentStep
+    ensures { step_as result frame.now ≡ on_event stage (event_as lent frame.now) }
 {
     match stage {
-        Stage::Greeting => on_greeting(event),
-        Stage::Matched(hello) => on_matched(hello, event),
-        Stage::Open(hello) => on_open(hello, event),
+        Stage::Greeting => on_greeting(lent),
+        Stage::Matched(hello) => on_matched(hello, lent),
+        Stage::Open(hello) => on_open(hello, lent, frame),
         Stage::Asked(_) => closed(PeerFault::UnexpectedRecord),
         Stage::Proved(_) => closed(PeerFault::UnexpectedRecord),
         Stage::Closed(fault) => closed(fault),
     }
 }
 
-/// What the event that came does, or the fault of what came.
-pub(crate) fn coded_step(stage: Stage, came: Result<Event, ConnectionFault>) -> CodedStep
-    ensures { result ≡ coded_step stage came }
+/// What the event that came does, of which the buffer has the bytes, or the fault of what came.
+pub(crate) fn coded_step(
+    stage: Stage,
+    came: Result<Lent, ConnectionFault>,
+    frame: &Frame,
+) -> LentStep
+    ensures { step_as result frame.now ≡ coded_step stage (told_as came frame.now) }
 {
     match came {
-        Ok(event) => on_event(stage, event),
+        Ok(lent) => on_event(stage, lent, frame),
         Err(fault) => closed(peer_fault_of(fault)),
     }
 }

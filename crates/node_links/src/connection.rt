@@ -5,11 +5,10 @@ ghost use Rattle.node_links.specs.Talks.{Talk};
 ghost use Rattle.node_links.specs.Judging.{IsKnown};
 ghost use Rattle.node_links.specs.Waiting.{IsBegun};
 ghost use Rattle.node_links.specs.Arriving.{told};
-ghost use Rattle.node_links.specs.Coding.{NextCoded};
 ghost use Rattle.node_links.specs.Kinds.{IsCalling, IsListening, room_of, TakesIn, NextBy, answered_coded, answered_by, settled_by, begun_by, Writes};
 ghost use Rattle.node_links.specs.Going.{Goes, GoesOn, GoesOnWith, GoesOnWritten, IsOfKey, Tells, OpensAs, silence, unwritten_of, peer_of, taken_of, fault_of};
 
-use crate::arrived::{Arrived, lend};
+use crate::arrived::Arrived;
 use crate::coded_connection::CodedConnection;
 use crate::outbox::Outbox;
 use crate::own::{Met, Own};
@@ -44,13 +43,6 @@ fn answer_coded(coded: &mut CodedConnection, own: Hello)
         Link::Plain => (),
         Link::Coded(_) => coded.answer(own),
     }
-}
-
-/// What came next over a connection with codes, of which a frame goes into the buffer.
-fn next_coded(coded: &mut CodedConnection, frame: &mut Frame) -> Option<Result<Arrived, PeerFault>>
-    ensures { NextCoded coded.old.stage coded.old (told result frame.new) coded.new }
-{
-    lend(coded.next(), frame)
 }
 
 impl Connection {
@@ -108,7 +100,7 @@ impl Connection {
             Connection::Coded(coded) => {
                 events_stand_in_front();
                 calls_happen();
-                next_coded(coded, frame)
+                coded.next(frame)
             }
         }
     }

@@ -1,12 +1,12 @@
 //! What a record of a further kind tells.
 
 ghost use Rattle.std.specs.Prelude.{◌≡◌};
-ghost use Rattle.node_links.specs.Telling.{further_of, read_behind};
+ghost use Rattle.node_links.specs.Telling.{more_in, further_of, read_behind};
 
 use crate::limits::{LIVES, SETTINGS};
 use crate::lives::{Lives, lives_of};
 use crate::settings::{Settings, settings_of};
-use peer_codes::{Hello, More, RecordFault, Version};
+use peer_codes::{Hello, RecordFault, Version};
 
 /// What a record of a further kind tells.
 #[derive(Clone, Copy, Debug, PartialEq, Eq)]
@@ -19,17 +19,17 @@ pub enum Further {
     Unknown,
 }
 
-/// What a record of a further kind tells of a match of so many nodes: 120 `BadLength` where it has more bytes or fewer than
+/// What a record of this further kind with these bytes tells of a match of so many nodes: 120 `BadLength` where it has more bytes or fewer than
 /// one of its kind.
-fn further_of(nodes: u8, more: &More) -> Result<Further, RecordFault>
-    ensures { result ≡ further_of nodes more.now }
+fn further_of(nodes: u8, kind: u8, bytes: &[u8]) -> Result<Further, RecordFault>
+    ensures { result ≡ further_of nodes (more_in kind bytes.now) }
 {
-    match more.kind {
-        LIVES => match lives_of(nodes, more.bytes.as_slice()) {
+    match kind {
+        LIVES => match lives_of(nodes, bytes) {
             Ok(lives) => Ok(Further::Lives(lives)),
             Err(fault) => Err(fault),
         },
-        SETTINGS => match settings_of(more.bytes.as_slice()) {
+        SETTINGS => match settings_of(bytes) {
             Ok(settings) => Ok(Further::Settings(settings)),
             Err(fault) => Err(fault),
         },
@@ -38,11 +38,11 @@ fn further_of(nodes: u8, more: &More) -> Result<Further, RecordFault>
 }
 
 /// The same behind the other's Hello: 121 `BadKind` where that is of the first version.
-pub(crate) fn read_behind(hello: &Hello, more: &More) -> Result<Further, RecordFault>
-    ensures { result ≡ read_behind hello.now more.now }
+pub(crate) fn read_behind(hello: &Hello, kind: u8, bytes: &[u8]) -> Result<Further, RecordFault>
+    ensures { result ≡ read_behind hello.now (more_in kind bytes.now) }
 {
     match hello.version {
         Version::First => Err(RecordFault::BadKind),
-        Version::Second => further_of(hello.ends.nodes, more),
+        Version::Second => further_of(hello.ends.nodes, kind, bytes),
     }
 }

@@ -1,8 +1,5 @@
 ghost use Rattle.std.specs.Prelude.{◌≡◌, ◌≤◌, length, IfOk};
 
-use arrayvec::ArrayVec;
-use paxos_wire::push_all;
-use peer_codes::Frame;
 use peer_codes::limits::MOST_FRAME;
 use std::alloc::{AllocError, Global};
 use std::marker::Model;
@@ -52,14 +49,5 @@ impl KeptFrame {
     {
         let KeptFrame { bytes } = self;
         bytes
-    }
-
-    /// The same frame in an array.
-    pub fn frame(&self) -> Frame
-        ensures { result ≡ self.now }
-    {
-        let mut bytes = ArrayVec::new();
-        push_all(&mut bytes, self.as_slice());
-        Frame { bytes }
     }
 }

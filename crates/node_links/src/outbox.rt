@@ -1,13 +1,13 @@
 ghost use Rattle.std.specs.Prelude.{◌≡◌, ◌≤◌, ◌+◌, ◌-◌, ◌++◌, ◌∷◌, [], None, Some, drop, length};
 ghost use Rattle.peer_codes.specs.declared.version.Version.TheVariants.{Second};
 ghost use Rattle.node_links.specs.Frames.{frame_of};
-ghost use Rattle.node_links.specs.Waiting.{newest, has_more, has_next, more_of, without_more, next_of, rest_of, next_behind, rest_behind, first_of, Puts};
+ghost use Rattle.node_links.specs.Waiting.{newest, has_more, has_next, more_of, without_more, first_of, Puts};
 
 use crate::kept_frame::KeptFrame;
 use crate::lives::Lives;
 use crate::settings::Settings;
 use peer_codes::limits::MOST_FRAME;
-use peer_codes::{Beat, Frame, More, Record, Version};
+use peer_codes::{Beat, Frame, More, Version};
 use std::alloc::Global;
 use std::collections::VecDeque;
 use std::marker::Model;
@@ -173,30 +173,5 @@ impl Outbox {
         ensures rest { self.new ≡ record self.old { frames = drop 1 self.old.frames } }
     {
         self.frames.pop_front()
-    }
-
-    /// What is said next behind the beat.
-    fn next_behind(&mut self, version: Version) -> Option<Record>
-        ensures next { result ≡ next_behind (more_of version self.old) self.old.frames }
-        ensures rest { self.new ≡ rest_behind (more_of version self.old) version self.old }
-    {
-        if let Some(more) = self.take_more(version) {
-            return Some(Record::More(more));
-        }
-        match self.take_frame() {
-            Some(kept) => Some(Record::Frame(kept.frame())),
-            None => None,
-        }
-    }
-
-    /// What is said next on a connection of this version, if anything waits; it waits no longer.
-    pub fn next(&mut self, version: Version) -> Option<Record>
-        ensures next { result ≡ next_of version self.old }
-        ensures rest { self.new ≡ rest_of version self.old }
-    {
-        if let Some(beat) = self.take_beat() {
-            return Some(Record::Beat(beat));
-        }
-        self.next_behind(version)
     }
 }

@@ -99,7 +99,10 @@ fn on_open(other: Hello, said: Record) -> Step
         },
         Record::Hello(_) => closed(PeerFault::UnexpectedRecord),
         Record::Proof(_) => closed(PeerFault::UnexpectedRecord),
-        Record::More(more) => on_further(other, read_behind(&other, &more)),
+        Record::More(more) => {
+            let read = read_behind(&other, more.kind, more.bytes.as_slice());
+            on_further(other, read)
+        }
     }
 }
 

@@ -2,7 +2,6 @@
 use Rattle.std.proofs.Common.{true, false, ◌≡◌, inl, inr, ℕ, List, [], ◌∷◌, ◌++◌, replicate, Option, Some, None, Err, refl, sym, ap, ◌∙◌}
 use Rattle.peer_codes.specs.declared.fault.RecordFault.TheVariants.{BadLength, BadKind}
 use Rattle.peer_codes.specs.declared.connection_fault.ConnectionFault.TheVariants as faults
-use Rattle.peer_codes.specs.declared.version.Version.{Version}
 use Rattle.peer_codes.specs.declared.version.Version.TheVariants.{First, Second}
 use Rattle.peer_codes.specs.declared.hello.Link.{Link}
 use Rattle.peer_codes.specs.declared.hello.Link.TheVariants.{Plain, Coded}

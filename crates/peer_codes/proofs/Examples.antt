@@ -4,7 +4,6 @@ use Rattle.byteorder.specs.Endian.{big_bytes}
 use Rattle.paxos_wire.specs.Reading.{ballot_at}
 use Rattle.peer_codes.specs.declared.limits.TheConstants.{PLAIN_HELLO_BYTES, CODED_HELLO_BYTES, MOST_LENGTH}
 use Rattle.peer_codes.specs.declared.fault.RecordFault.TheVariants.{BadLength, BadKind, BadHello}
-use Rattle.peer_codes.specs.declared.version.Version.{Version}
 use Rattle.peer_codes.specs.declared.version.Version.TheVariants.{First, Second}
 use Rattle.peer_codes.specs.declared.hello.Link.{Link}
 use Rattle.peer_codes.specs.declared.hello.Link.TheVariants.{Plain, Coded}

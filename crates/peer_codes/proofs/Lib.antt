@@ -8,6 +8,7 @@ pub mod CodeLaws
 pub mod CoverLaws
 pub mod VersionLaws
 pub mod StepParts
+pub mod Saying
 pub mod StepLaws
 pub mod HistoryLaws
 pub mod CallLaws

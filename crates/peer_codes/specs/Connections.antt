@@ -30,7 +30,7 @@ use Rattle.peer_codes.specs.Spelling.{beat_text, record_text}
 use Rattle.peer_codes.specs.Faults.{needed, front, IsPartial}
 use Rattle.peer_codes.specs.Codes.{coded, after}
 use Rattle.peer_codes.specs.Steps.{proof_of, proving, front_step}
-use Rattle.peer_codes.specs.Outgoings.{unwritten, later, with_begun}
+use Rattle.peer_codes.specs.Outgoings.{unwritten, later, with_begun, and_frame, is_idle}
 
 -- ---- what came
 
@@ -94,6 +94,19 @@ takes_more (phases.Closed fault) other byte = false
 abbrev pub with_more : Bool → More → Connection → Connection
 with_more true more c = record c { out = record c.out { more = Some more } }
 with_more false more c = c
+
+-- a frame of these bytes waits, but not where one does already
+abbrev pub with_frame : List ℕ → Connection → Connection
+with_frame bytes c = record c { out = record c.out { frame = and_frame c.out.frame (record { bytes = record { items = bytes } }) } }
+
+-- what is put there is coded at once: the connection is open, a number is left, and nothing else is to be written
+abbrev pub is_free : Phase → Outgoing → Bool
+is_free (phases.Open ways) out = nat_lt ways.writing.number LAST_NUMBER && is_idle out
+is_free (phases.Greeting own) out = false
+is_free (phases.Asked caller) out = false
+is_free phases.Refused out = false
+is_free (phases.Proving theirs ways) out = false
+is_free (phases.Closed fault) out = false
 
 -- ---- what is written
 

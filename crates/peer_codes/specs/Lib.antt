@@ -10,6 +10,7 @@ pub mod Hmac
 pub mod Codes
 pub mod Returned
 pub mod Steps
+pub mod Lending
 pub mod Histories
 pub mod Telling
 pub mod Outgoings

@@ -1,5 +1,5 @@
 -- What is to be written on a connection.
-use Rattle.std.specs.Prelude.{◌≡◌, ℕ, List, drop, Option, Some, None}
+use Rattle.std.specs.Prelude.{◌≡◌, ℕ, ◌==◌, ◌&&◌, Bool, List, length, drop, Option, Some, None, is_none}
 use Rattle.peer_codes.specs.declared.records.Proof.{Proof}
 use Rattle.peer_codes.specs.declared.frame.Frame.{Frame}
 use Rattle.peer_codes.specs.declared.outgoing.Outgoing.{Outgoing}
@@ -16,6 +16,15 @@ later old (Some proof) = Some proof
 -- the record with this text is begun
 abbrev pub with_begun : List ℕ → Outgoing → Outgoing
 with_begun text o = record { hello = o.hello; proof = o.proof; beat = o.beat; more = o.more; frame = o.frame; begun = record { items = text }; written = 0 }
+
+-- a frame waits, but not where one does already
+abbrev pub and_frame : Option Frame → Frame → Option Frame
+and_frame None frame = Some frame
+and_frame (Some other) frame = Some other
+
+-- nothing is unfinished, and nothing waits
+abbrev pub is_idle : Outgoing → Bool
+is_idle o = length (unwritten o) == 0 && (is_none o.hello && (is_none o.proof && (is_none o.beat && (is_none o.more && is_none o.frame))))
 
 -- a frame waits, or it is given back where one does already
 abbrev pub Put : Option Frame → Frame → Outgoing → Outgoing → Option Frame → Type 0

@@ -1,21 +1,22 @@
 ghost use Rattle.std.specs.Prelude.{◌≡◌, ◌≤◌, ◌<◌, ◌+◌, ◌++◌, ◌==◌, ◌&&◌, [], true, length, drop, is_none, Some, Err, OnOk, OnErr};
-ghost use Rattle.peer_codes.specs.declared.limits.TheConstants.{LEAST_FRAME};
+ghost use Rattle.peer_codes.specs.declared.limits.TheConstants.{LEAST_FRAME, MOST_FRAME};
 ghost use Rattle.peer_codes.specs.declared.phase.Phase.TheVariants as phases;
 ghost use Rattle.peer_codes.specs.declared.records.Record.TheVariants as record_of;
 ghost use Rattle.peer_codes.specs.Spelling.{record_text};
 ghost use Rattle.peer_codes.specs.Outgoings.{unwritten, with_begun, Put};
 ghost use Rattle.peer_codes.specs.Steps.{is_coded};
-ghost use Rattle.peer_codes.specs.Connections.{ReadsOrWaits, Next, met, turned_away, answered, takes_more, with_more, begun_coded, begun_first, begun_next};
+ghost use Rattle.peer_codes.specs.Lending.{told};
+ghost use Rattle.peer_codes.specs.Connections.{ReadsOrWaits, Next, met, turned_away, answered, takes_more, with_more, with_frame, is_free, begun_coded, begun_first, begun_next};
 
 use crate::beat::Beat;
 use crate::connection_fault::ConnectionFault;
-use crate::event::Event;
 use crate::fault::RecordFault;
 use crate::frame::Frame;
 use crate::hello::Hello;
 use crate::hellos::Hellos;
 use crate::key::Key;
 use crate::kind::is_more;
+use crate::lent::Lent;
 use crate::more::More;
 use crate::outgoing::Outgoing;
 use crate::phase::Phase;
@@ -30,10 +31,10 @@ use std::alloc::{AllocError, Global};
 
 /// A connection with codes, as a machine without sockets.
 ///
-/// What comes is put in by `take_piece`, in any pieces, and comes out as events by `next`; the called then answers with its
-/// own Hello by `answer`. What is to be said is put in by `tell_beat`, `put_more` and `put_frame`, and comes out as bytes:
-/// `begin` begins the next record where none is unfinished, `unwritten` shows what of it isn't written yet, and `wrote` says
-/// how much was.
+/// What comes is put in by `take_piece`, in any pieces, and comes out as events by `next`, whose bytes go into a buffer; the
+/// called then answers with its own Hello by `answer`. What is to be said is put in by `tell_beat`, `put_more` and
+/// `put_frame`, and comes out as bytes: `begin` begins the next record where none is unfinished, `unwritten` shows what of it
+/// isn't written yet, and `wrote` says how much was. `say_frame` is `put_frame` and `begin` of a frame that lies elsewhere.
 /// So a frame is coded when its first byte is about to be written and no sooner: what waits is frames, and whoever
 /// keeps them may drop them.
 #[derive(Drop)]
@@ -46,7 +47,7 @@ pub struct Connection {
 }
 
 /// The fault that closed the connection, told again.
-fn fault_again(fault: ConnectionFault) -> Option<Result<Event, ConnectionFault>>
+fn fault_again(fault: ConnectionFault) -> Option<Result<Lent, ConnectionFault>>
     ensures { result ≡ Some (Err fault) }
 {
     Some(Err(fault))
@@ -97,33 +98,34 @@ impl Connection {
         self.came.push(piece)
     }
 
-    /// What stands in front of what came; `None` where it isn't whole.
-    fn read(&mut self) -> Option<Result<Event, ConnectionFault>>
-        ensures { ReadsOrWaits self.old result self.new }
+    /// What stands in front of what came, whose bytes go into the buffer; `None` where it isn't whole.
+    fn read(&mut self, frame: &mut Frame) -> Option<Result<Lent, ConnectionFault>>
+        ensures { ReadsOrWaits self.old (told result frame.new) self.new }
     {
         let end = front_end(self.came.waiting())?;
         let front = &self.came.waiting()[..end];
-        let event = take_front(&self.key, &mut self.phase, &mut self.out, front);
+        let told = take_front(&self.key, &mut self.phase, &mut self.out, front, frame);
         self.came.skip(end);
-        Some(event)
+        Some(told)
     }
 
-    /// What came next, or the fault that closed the connection, told again from then on.
+    /// What came next, or the fault that closed the connection, told again from then on. The bytes of a frame and of a record
+    /// of a further kind go into the buffer, in place of what that had; with another event what it has means nothing.
     ///
     /// `None` where the record in front isn't whole, and where the called has to answer first. The fault is the first
     /// of: 120 `BadLength` and 121 `BadKind` of the record in front, 126 `UnexpectedRecord` (a kind that may not come now, or no
     /// number is left) or 121 `BadKind` (a further kind where the connection isn't open, or isn't of the second version), 120 `BadLength` (a proof of another length, or no room for a tag), and then 122 `BadHello`, 124
     /// `WrongProof`, 125 `WrongTag`, or those of what stood under the seal.
-    pub fn next(&mut self) -> Option<Result<Event, ConnectionFault>>
-        ensures { Next self.old.phase self.old result self.new }
+    pub fn next(&mut self, frame: &mut Frame) -> Option<Result<Lent, ConnectionFault>>
+        ensures { Next self.old.phase self.old (told result frame.new) self.new }
     {
         match &self.phase {
             Phase::Asked(_) => None,
             Phase::Closed(fault) => fault_again(*fault),
             Phase::Refused => fault_again(ConnectionFault::Record(RecordFault::BadHello)),
-            Phase::Greeting(_) => self.read(),
-            Phase::Proving(_, _) => self.read(),
-            Phase::Open(_) => self.read(),
+            Phase::Greeting(_) => self.read(frame),
+            Phase::Proving(_, _) => self.read(frame),
+            Phase::Open(_) => self.read(frame),
         }
     }
 
@@ -274,6 +276,57 @@ impl Connection {
             return;
         }
         self.begin_first();
+    }
+
+    /// Whether a frame is coded at once: the connection is open, a number is left, and nothing else is to be written.
+    fn is_free(&self) -> bool
+        ensures { result ≡ is_free self.now.phase self.now.out }
+    {
+        match &self.phase {
+            Phase::Open(ways) => ways.writing.has_number() && self.out.is_idle(),
+            Phase::Greeting(_) => false,
+            Phase::Asked(_) => false,
+            Phase::Refused => false,
+            Phase::Proving(_, _) => false,
+            Phase::Closed(_) => false,
+        }
+    }
+
+    /// Codes and begins this frame at once.
+    fn start_frame(&mut self, frame: &[u8])
+        requires most { length frame.now ≤ MOST_FRAME }
+        requires free { is_free self.old.phase self.old.out ≡ true }
+        ensures { self.new ≡ begun_next (with_frame frame.now self.old) }
+    {
+        if let Phase::Open(ways) = &mut self.phase {
+            self.out.start_frame(&mut ways.writing, frame);
+        }
+    }
+
+    /// This frame waits, unless one does already.
+    fn keep_frame(&mut self, frame: &[u8])
+        requires least { LEAST_FRAME ≤ length frame.now }
+        requires most { length frame.now ≤ MOST_FRAME }
+        ensures { self.new ≡ with_frame frame.now self.old }
+    {
+        if let Some(frame) = Frame::new(frame) {
+            let _ = self.out.put_frame(frame);
+        }
+    }
+
+    /// This frame is to be said next, unless one waits already, and the next record is begun, where none is unfinished. Where
+    /// nothing else is to be written it is coded as it lies.
+    pub fn say_frame(&mut self, frame: &[u8])
+        requires least { LEAST_FRAME ≤ length frame.now }
+        requires most { length frame.now ≤ MOST_FRAME }
+        ensures { self.new ≡ begun_next (with_frame frame.now self.old) }
+    {
+        if self.is_free() {
+            self.start_frame(frame);
+            return;
+        }
+        self.keep_frame(frame);
+        self.begin();
     }
 
     /// What of the record that was begun isn't written yet.

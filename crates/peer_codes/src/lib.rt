@@ -9,8 +9,8 @@
 //! With a `Key` that all nodes share, each side's `Hello` has a nonce. Both `Hellos` and the key give each side's
 //! `proof` and the two `Way`s. On a way each record has its number, what is sent of its body is hidden under the stream
 //! of ChaCha20 that the way's key seeds, and behind it stands HMAC-SHA256 (`tag`) of number, kind and what is sent.
-//! A `Connection` is all of that as a machine without sockets: bytes that come go in, events come out; what is to be
-//! said goes in, bytes to write come out.
+//! A `Connection` is all of that as a machine without sockets: bytes that come go in, events come out, whose bytes go into a
+//! buffer of the caller's (`Lent`); what is to be said goes in, bytes to write come out.
 //!
 //! The laws: what is written reads back, and records of a stream are told apart (`records_read_back`,
 //! `records_are_told_apart`); what is coded on a way reads back on it, and nothing else is read on it
@@ -60,6 +60,7 @@ mod hmac;
 mod key;
 mod kind;
 mod laws;
+mod lent;
 pub mod limits;
 mod more;
 mod outgoing;
@@ -89,6 +90,7 @@ pub use laws::{
     open_connections_are_proved, open_ways_go_on, own_proofs_are_said, proofs_open,
     records_are_told_apart, records_are_whole, records_read_back,
 };
+pub use lent::Lent;
 pub use more::More;
 pub use outgoing::Outgoing;
 pub use phase::{Phase, Ways};

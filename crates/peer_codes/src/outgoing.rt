@@ -5,14 +5,16 @@ ghost use Rattle.byte_queue.specs.Queued.{Queued};
 ghost use Rattle.peer_codes.specs.declared.key.Key.{Key};
 ghost use Rattle.peer_codes.specs.declared.way.Way.{Way};
 ghost use Rattle.peer_codes.specs.declared.phase.Phase.TheVariants as phases;
-ghost use Rattle.peer_codes.specs.Outgoings.{unwritten, later, with_begun, Put};
+ghost use Rattle.peer_codes.specs.declared.kind.Kind.TheVariants as kind_of;
+ghost use Rattle.peer_codes.specs.Codes.{coded, after};
+ghost use Rattle.peer_codes.specs.Outgoings.{unwritten, later, with_begun, is_idle, Put};
 ghost use Rattle.peer_codes.specs.Connections.{begun_on, begun_open};
 
 use crate::beat::Beat;
 use crate::frame::Frame;
 use crate::hello::Hello;
 use crate::kind::Kind;
-use crate::limits::{LAST_NUMBER, MOST_RECORD};
+use crate::limits::{LAST_NUMBER, MOST_FRAME, MOST_RECORD};
 use crate::more::More;
 use crate::records::Proof;
 use crate::way::Way;
@@ -98,6 +100,18 @@ impl Outgoing {
         }
     }
 
+    /// Whether nothing is unfinished, and nothing waits.
+    pub(crate) fn is_idle(&self) -> bool
+        ensures { result ≡ is_idle self.now }
+    {
+        self.unwritten().is_empty()
+            && self.hello.is_none()
+            && self.proof.is_none()
+            && self.beat.is_none()
+            && self.more.is_none()
+            && self.frame.is_none()
+    }
+
     /// So many bytes of it are written now.
     pub(crate) fn wrote(&mut self, count: usize)
         requires { count ≤ length (unwritten self.old) }
@@ -115,6 +129,17 @@ impl Outgoing {
         ensures { self.new ≡ with_begun text.items self.old }
     {
         self.begun = text;
+        self.written = 0;
+    }
+
+    /// Codes and begins a frame of these bytes, which doesn't wait before.
+    pub(crate) fn start_frame(&mut self, way: &mut Way, frame: &[u8])
+        requires number { way.old.number < LAST_NUMBER }
+        requires most { length frame.now ≤ MOST_FRAME }
+        ensures out { self.new ≡ with_begun (coded way.old kind_of.Frame frame.now) self.old }
+        ensures way { way.new ≡ after way.old (length frame.now) }
+    {
+        way.cover(Kind::Frame, frame, &mut self.begun);
         self.written = 0;
     }
 

@@ -7,6 +7,7 @@ ghost use Rattle.peer_codes.specs.Codes.{uncovered};
 ghost use Rattle.peer_codes.specs.Steps.{closed, ways_of, only_coded, of_version, no_hello, greeted, on_greeting, on_proof, frame_heard, beat_heard, more_heard, on_more, on_record, staying, stepped, front_step};
 ghost use Rattle.peer_codes.specs.Reading.{hello_of};
 ghost use Rattle.peer_codes.specs.Outgoings.{later};
+ghost use Rattle.peer_codes.specs.Lending.{told_as};
 
 use crate::beat_reading::beat_of;
 use crate::connection_fault::ConnectionFault;
@@ -19,14 +20,15 @@ use crate::hellos::Hellos;
 use crate::hmac::is_same;
 use crate::key::Key;
 use crate::kind::Kind;
+use crate::lent::{Lent, lend, owned};
 use crate::limits::{LEAST_FRAME, MOST_CONTENT, MOST_RECORD, TAG_BYTES};
-use crate::more::More;
 use crate::outgoing::Outgoing;
 use crate::phase::{Phase, Ways};
 use crate::reading::kind_in;
 use crate::records::Proof;
 use crate::role::Role;
 use crate::version::Version;
+use arrayvec::ArrayVec;
 use std::mem;
 
 /// What a record does to a connection.
@@ -173,80 +175,98 @@ fn on_proof(theirs: Proof, ways: Ways, kind: Kind, content: &[u8]) -> Step
     }
 }
 
-/// A frame came, as far as its tag is right.
-fn frame_heard(ways: &mut Ways, content: &[u8]) -> Result<Event, ConnectionFault>
+/// A frame came, as far as its tag is right: it goes into the buffer.
+fn frame_heard(ways: &mut Ways, content: &[u8], frame: &mut Frame) -> Result<Lent, ConnectionFault>
     requires { length content.now ≤ MOST_CONTENT }
-    ensures { staying ways.new result ≡ frame_heard ways.old (length content.now - TAG_BYTES) (uncovered ways.old.reading kind_of.Frame content.now) }
+    ensures { staying ways.new (told_as result frame.new) ≡ frame_heard ways.old (length content.now - TAG_BYTES) (uncovered ways.old.reading kind_of.Frame content.now) }
 {
-    match ways.reading.uncover(Kind::Frame, content) {
-        Ok(bytes) => {
-            if bytes.len() < LEAST_FRAME {
+    match ways.reading.uncover(Kind::Frame, content, &mut frame.bytes) {
+        Ok(()) => {
+            if frame.bytes.len() < LEAST_FRAME {
                 return Err(ConnectionFault::Record(RecordFault::BadLength));
             }
-            Ok(Event::Frame(Frame { bytes }))
+            Ok(Lent::Frame)
         }
         Err(fault) => Err(fault),
     }
 }
 
-/// A beat came, as far as its tag is right.
-fn beat_heard(ways: &mut Ways, content: &[u8]) -> Result<Event, ConnectionFault>
+/// A beat came, as far as its tag is right: its bytes go into the buffer.
+fn beat_heard(ways: &mut Ways, content: &[u8], frame: &mut Frame) -> Result<Lent, ConnectionFault>
     requires { length content.now ≤ MOST_CONTENT }
-    ensures { staying ways.new result ≡ beat_heard ways.old (length content.now - TAG_BYTES) (uncovered ways.old.reading kind_of.Beat content.now) }
+    ensures { staying ways.new (told_as result frame.new) ≡ beat_heard ways.old (length content.now - TAG_BYTES) (uncovered ways.old.reading kind_of.Beat content.now) }
 {
-    match ways.reading.uncover(Kind::Beat, content) {
-        Ok(body) => match beat_of(body.as_slice()) {
-            Ok(beat) => Ok(Event::Beat(beat)),
+    match ways.reading.uncover(Kind::Beat, content, &mut frame.bytes) {
+        Ok(()) => match beat_of(frame.bytes.as_slice()) {
+            Ok(beat) => Ok(Lent::Beat(beat)),
             Err(fault) => Err(ConnectionFault::Record(fault)),
         },
         Err(fault) => Err(fault),
     }
 }
 
-/// A record of a further kind came, as far as its tag is right.
-fn more_heard(ways: &mut Ways, kind: u8, content: &[u8]) -> Result<Event, ConnectionFault>
+/// A record of a further kind came, as far as its tag is right: its bytes go into the buffer.
+fn more_heard(
+    ways: &mut Ways,
+    kind: u8,
+    content: &[u8],
+    frame: &mut Frame,
+) -> Result<Lent, ConnectionFault>
     requires { length content.now ≤ MOST_CONTENT }
-    ensures { staying ways.new result ≡ more_heard ways.old (length content.now - TAG_BYTES) kind (uncovered ways.old.reading (kind_of.More kind) content.now) }
+    ensures { staying ways.new (told_as result frame.new) ≡ more_heard ways.old (length content.now - TAG_BYTES) kind (uncovered ways.old.reading (kind_of.More kind) content.now) }
 {
-    match ways.reading.uncover(Kind::More(kind), content) {
-        Ok(bytes) => Ok(Event::More(More { kind, bytes })),
+    match ways
+        .reading
+        .uncover(Kind::More(kind), content, &mut frame.bytes)
+    {
+        Ok(()) => Ok(Lent::More(kind)),
         Err(fault) => Err(fault),
     }
 }
 
 /// A record of a further kind came, which may come behind Hellos of the second version alone.
-fn on_more(ways: &mut Ways, kind: u8, content: &[u8]) -> Result<Event, ConnectionFault>
+fn on_more(
+    ways: &mut Ways,
+    kind: u8,
+    content: &[u8],
+    frame: &mut Frame,
+) -> Result<Lent, ConnectionFault>
     requires { length content.now ≤ MOST_CONTENT }
-    ensures { staying ways.new result ≡ on_more ways.old.reading.version ways.old kind content.now }
+    ensures { staying ways.new (told_as result frame.new) ≡ on_more ways.old.reading.version ways.old kind content.now }
 {
     match ways.reading.version() {
         Version::First => Err(ConnectionFault::Record(RecordFault::BadKind)),
-        Version::Second => more_heard(ways, kind, content),
+        Version::Second => more_heard(ways, kind, content, frame),
     }
 }
 
-/// A record came on an open connection.
-fn on_record(ways: &mut Ways, kind: Kind, content: &[u8]) -> Result<Event, ConnectionFault>
+/// A record came on an open connection, whose bytes go into the buffer.
+fn on_record(
+    ways: &mut Ways,
+    kind: Kind,
+    content: &[u8],
+    frame: &mut Frame,
+) -> Result<Lent, ConnectionFault>
     requires { length content.now ≤ MOST_CONTENT }
-    ensures { staying ways.new result ≡ on_record ways.old kind content.now }
+    ensures { staying ways.new (told_as result frame.new) ≡ on_record ways.old kind content.now }
 {
     match kind {
-        Kind::Frame => frame_heard(ways, content),
-        Kind::Beat => beat_heard(ways, content),
+        Kind::Frame => frame_heard(ways, content, frame),
+        Kind::Beat => beat_heard(ways, content, frame),
         Kind::Hello => Err(ConnectionFault::UnexpectedRecord),
         Kind::Proof => Err(ConnectionFault::UnexpectedRecord),
-        Kind::More(kind) => on_more(ways, kind, content),
+        Kind::More(kind) => on_more(ways, kind, content, frame),
     }
 }
 
 /// What stands in front of the bytes that came does to an open connection; a fault closes it.
 #[tactic(auto, unfolding(crate::specs::Steps::front_step, crate::specs::Steps::stepped))]
-fn open_step(ways: &mut Ways, front: &[u8]) -> Result<Event, ConnectionFault>
+fn open_step(ways: &mut Ways, front: &[u8], frame: &mut Frame) -> Result<Lent, ConnectionFault>
     requires { length front.now ≤ MOST_RECORD }
-    ensures { (key : List ℕ) → staying ways.new result ≡ front_step key (phases.Open ways.old) front.now }
+    ensures { (key : List ℕ) → staying ways.new (told_as result frame.new) ≡ front_step key (phases.Open ways.old) front.now }
 {
     match kind_in(front) {
-        Ok(kind) => on_record(ways, kind, &front[5..]),
+        Ok(kind) => on_record(ways, kind, &front[5..], frame),
         Err(fault) => Err(ConnectionFault::Record(fault)),
     }
 }
@@ -265,6 +285,19 @@ fn staying(ways: Ways, event: Result<Event, ConnectionFault>) -> Step
     }
 }
 
+/// A record came on an open connection, which is handed on.
+fn on_open(ways: Ways, kind: Kind, content: &[u8]) -> Step
+    requires { length content.now ≤ MOST_CONTENT }
+    ensures { result ≡ on_record ways kind content.now }
+{
+    let mut ways = ways;
+    let mut frame = Frame {
+        bytes: ArrayVec::new(),
+    };
+    let told = on_record(&mut ways, kind, content, &mut frame);
+    staying(ways, owned(told, frame))
+}
+
 /// What a record of this kind does.
 #[tactic(auto, unfolding(crate::specs::Steps::stepped))]
 fn stepped(key: &Key, phase: Phase, kind: Kind, content: &[u8]) -> Step
@@ -276,10 +309,7 @@ fn stepped(key: &Key, phase: Phase, kind: Kind, content: &[u8]) -> Step
         Phase::Asked(_) => closed(ConnectionFault::UnexpectedRecord),
         Phase::Refused => closed(ConnectionFault::Record(RecordFault::BadHello)),
         Phase::Proving(theirs, ways) => on_proof(theirs, ways, kind, content),
-        Phase::Open(mut ways) => {
-            let event = on_record(&mut ways, kind, content);
-            staying(ways, event)
-        }
+        Phase::Open(ways) => on_open(ways, kind, content),
         Phase::Closed(fault) => closed(fault),
     }
 }
@@ -319,25 +349,43 @@ fn take_step(
     event
 }
 
+/// The same, where the bytes of what came go into the buffer.
+fn lend_step(
+    key: &Key,
+    phase: &mut Phase,
+    out: &mut Outgoing,
+    front: &[u8],
+    frame: &mut Frame,
+) -> Result<Lent, ConnectionFault>
+    requires { length front.now ≤ MOST_RECORD }
+    ensures phase { phase.new ≡ (front_step key.now.bytes phase.old front.now).phase }
+    ensures event { told_as result frame.new ≡ (front_step key.now.bytes phase.old front.now).event }
+    ensures out { out.new ≡ record out.old { proof = later out.old.proof (front_step key.now.bytes phase.old front.now).proof } }
+{
+    lend(take_step(key, phase, out, front), frame)
+}
+
 /// What stands in front of the bytes that came does to a connection; this side's own proof is to be written, where it
-/// says so.
+/// says so. The bytes of a frame, a beat and a record of a further kind go into the buffer; on an open connection nothing
+/// as long is made.
 pub(crate) fn take_front(
     key: &Key,
     phase: &mut Phase,
     out: &mut Outgoing,
     front: &[u8],
-) -> Result<Event, ConnectionFault>
+    frame: &mut Frame,
+) -> Result<Lent, ConnectionFault>
     requires { length front.now ≤ MOST_RECORD }
     ensures phase { phase.new ≡ (front_step key.now.bytes phase.old front.now).phase }
-    ensures event { result ≡ (front_step key.now.bytes phase.old front.now).event }
+    ensures event { told_as result frame.new ≡ (front_step key.now.bytes phase.old front.now).event }
     ensures out { out.new ≡ record out.old { proof = later out.old.proof (front_step key.now.bytes phase.old front.now).proof } }
 {
-    let event = match phase {
-        Phase::Open(ways) => open_step(ways, front),
-        _ => return take_step(key, phase, out, front),
+    let told = match phase {
+        Phase::Open(ways) => open_step(ways, front, frame),
+        _ => return lend_step(key, phase, out, front, frame),
     };
-    if let Err(fault) = &event {
-        *phase = Phase::Closed(*fault);
+    if let Err(fault) = told {
+        *phase = Phase::Closed(fault);
     }
-    event
+    told
 }

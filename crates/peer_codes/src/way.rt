@@ -150,7 +150,8 @@ impl Way {
         self.number = number + 1;
     }
 
-    /// The body of the coded record of this kind, and the way goes on to the next number; a fault changes nothing.
+    /// Writes the body of the coded record of this kind in place of what stood there, and the way goes on to the next number. A
+    /// fault doesn't change the way.
     ///
     /// The fault is the first of: 126 `UnexpectedRecord` (no number is left), 120 `BadLength` (no room for a tag), 125
     /// `WrongTag`.
@@ -159,9 +160,10 @@ impl Way {
         &mut self,
         kind: Kind,
         content: &[u8],
-    ) -> Result<ArrayVec<u8, MOST_FRAME>, ConnectionFault>
+        body: &mut ArrayVec<u8, MOST_FRAME>,
+    ) -> Result<(), ConnectionFault>
         requires { length content.now ≤ MOST_CONTENT }
-        ensures body { Answers result (uncovered self.old kind content.now) }
+        ensures body { Answers result body.new (uncovered self.old kind content.now) }
         ensures ok { OnOk result (self.new ≡ after self.old (length content.now - TAG_BYTES)) }
         ensures err { OnErr result (self.new ≡ self.old) }
     {
@@ -177,9 +179,9 @@ impl Way {
             return Err(ConnectionFault::WrongTag);
         }
         self.number += 1;
-        let mut body = ArrayVec::new();
-        push_all(&mut body, sent);
+        body.clear();
+        push_all(body, sent);
         mask(&mut self.seal, body.as_mut_slice());
-        Ok(body)
+        Ok(())
     }
 }

@@ -11,7 +11,8 @@ use crate::vectors::{
     SECOND_BEAT, SECOND_CALLED_HELLO, SECOND_CALLED_PROOF, SECOND_CALLER_HELLO,
     SECOND_CALLER_PROOF, SECOND_FRAME, SECOND_LIVES, THEN_BEAT, THEN_FRAME,
 };
-use peer_codes::{Connection, Event, Frame, Hello};
+use arrayvec::ArrayVec;
+use peer_codes::{Connection, Frame, Hello, Lent};
 use std::alloc::{AllocError, Global};
 use std::process::Abort;
 use std::test::Fail;
@@ -60,24 +61,24 @@ fn closed_by(fault: u8) -> Heard {
     Heard { fault, ..NOTHING }
 }
 
-/// What was heard, and this event.
-fn and_event(heard: Heard, event: &Event) -> Heard {
+/// What was heard, and this, of which the buffer has the bytes.
+fn and_lent(heard: Heard, lent: Lent, frame: &Frame) -> Heard {
     let mut heard = heard;
-    match event {
-        Event::Greeted(hello)
-            if *hello == caller()
-                || *hello == called()
-                || *hello == second(caller())
-                || *hello == second(called()) => {
+    let bytes = frame.bytes.as_slice();
+    match lent {
+        Lent::Greeted(hello)
+            if hello == caller()
+                || hello == called()
+                || hello == second(caller())
+                || hello == second(called()) => {
             heard.hellos = heard.hellos.saturating_add(1);
         }
-        Event::Opened => heard.proofs = heard.proofs.saturating_add(1),
-        Event::Frame(frame) if frame.bytes.as_slice() == ASK.as_slice() => {
+        Lent::Opened => heard.proofs = heard.proofs.saturating_add(1),
+        Lent::Frame if bytes == ASK.as_slice() => {
             heard.frames = heard.frames.saturating_add(1);
         }
-        Event::Beat(beat) if *beat == BEAT => heard.beats = heard.beats.saturating_add(1),
-        Event::More(more)
-            if more.kind == LIVES && more.bytes.as_slice() == LIVES_BYTES.as_slice() => {
+        Lent::Beat(beat) if beat == BEAT => heard.beats = heard.beats.saturating_add(1),
+        Lent::More(kind) if kind == LIVES && bytes == LIVES_BYTES.as_slice() => {
             heard.lives = heard.lives.saturating_add(1);
         }
         _ => heard.others = heard.others.saturating_add(1),
@@ -90,14 +91,17 @@ fn hear_all(side: &mut Connection, own: Hello) -> Heard
     requires { is_coded own.link ≡ true }
 {
     let mut heard = NOTHING;
+    let mut frame = Frame {
+        bytes: ArrayVec::new(),
+    };
     for _ in 0..8 {
-        match side.next() {
+        match side.next(&mut frame) {
             None => return heard,
             Some(Err(fault)) => {
                 heard.fault = fault.code();
                 return heard;
             }
-            Some(Ok(event)) => heard = and_event(heard, &event),
+            Some(Ok(lent)) => heard = and_lent(heard, lent, &frame),
         }
         side.answer(own);
     }
@@ -190,6 +194,21 @@ fn the_caller_talks(rt: HostRuntime) -> Result<(), Fail> {
     side.begin();
     assert_bytes(&rt, side.unwritten(), &THEN_BEAT[20..]);
     wrote(&mut side, 32);
+    assert_bytes(&rt, said(alloc, &mut side)?.as_slice(), &THEN_FRAME);
+    Ok(())
+}
+
+/// A frame that is said where it lies is coded as one that was put there, and waits as such where something goes before it.
+#[test]
+fn a_frame_is_said_where_it_lies(rt: HostRuntime) -> Result<(), Fail> {
+    let alloc = rt.alloc();
+    let mut side = open_caller(alloc)?;
+    side.say_frame(&ASK);
+    assert_bytes(&rt, said(alloc, &mut side)?.as_slice(), &FIRST_FRAME);
+    side.tell_beat(BEAT);
+    side.say_frame(&ASK);
+    assert_bytes(&rt, side.unwritten(), &THEN_BEAT);
+    wrote(&mut side, 52);
     assert_bytes(&rt, said(alloc, &mut side)?.as_slice(), &THEN_FRAME);
     Ok(())
 }

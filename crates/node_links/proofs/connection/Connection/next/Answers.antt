@@ -15,10 +15,10 @@ returns-in-Plain-clause-tells c = subst (λ (s : Connection). Tells (told c.next
 
 pub returns-in-Coded-clause-goes : goal.returns-in-Coded-clause-goes
 returns-in-Coded-clause-goes c =
-    subst (λ (s : Connection). GoesOn s (Coded c.next_coded.new.coded)) (sym c.in-Coded.is)
-    (coded_nexts c.events_stand_in_front.ensures c.calls_happen.ensures.waits c.in-Coded.coded c.next_coded.new.coded (told c.next_coded.result c.next_coded.new.frame) c.next_coded.ensures)
+    subst (λ (s : Connection). GoesOn s (Coded c.next-in-Coded.new.self)) (sym c.in-Coded.is)
+    (coded_nexts c.events_stand_in_front.ensures c.calls_happen.ensures.waits c.in-Coded.coded c.next-in-Coded.new.self (told c.next-in-Coded.result c.next-in-Coded.new.frame) c.next-in-Coded.ensures)
 
 pub returns-in-Coded-clause-tells : goal.returns-in-Coded-clause-tells
 returns-in-Coded-clause-tells c =
-    subst (λ (s : Connection). Tells (told c.next_coded.result c.next_coded.new.frame) s (Coded c.next_coded.new.coded)) (sym c.in-Coded.is)
-    (coded_tells c.events_stand_in_front.ensures c.in-Coded.coded c.next_coded.new.coded (told c.next_coded.result c.next_coded.new.frame) c.next_coded.ensures)
+    subst (λ (s : Connection). Tells (told c.next-in-Coded.result c.next-in-Coded.new.frame) s (Coded c.next-in-Coded.new.self)) (sym c.in-Coded.is)
+    (coded_tells c.events_stand_in_front.ensures c.in-Coded.coded c.next-in-Coded.new.self (told c.next-in-Coded.result c.next-in-Coded.new.frame) c.next-in-Coded.ensures)
