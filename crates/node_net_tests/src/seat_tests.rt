@@ -1,7 +1,7 @@
 //! The bots of seats, over wires in memory.
 
 use crate::samples::{assert_bytes, assert_number};
-use node_seats::{SeatNotice, Seats, TokenDigest};
+use node_seats::{Asked, Parting, SeatNotice, Seats, TokenDigest};
 use node_wires::{Line, MemoryWire};
 use std::alloc::{AllocError, Global};
 use std::net::IpAddr;
@@ -111,13 +111,13 @@ fn a_bot_comes_is_told_and_goes(rt: HostRuntime) -> Result<(), Fail> {
     table.wire.come(Line::Seat(1), b"VERSION")?;
     table.assert_hears(&rt, 0, 7);
     // Nobody sits at seat 0.
-    assert!(rt;
-        table.seats.tell(1, b"LINE") && table.seats.tell(1, b"NEXT") && table.seats.tell(0, b"LINE")
-    );
-    assert_number(&rt, table.seats.backlog(1) as u64, 12);
+    for seat in [1, 1, 0] {
+        assert!(rt; table.seats.part(seat, Parting::Over));
+    }
+    assert_number(&rt, table.seats.backlog(1) as u64, 7);
     assert!(rt; table.seats.flush(&mut table.wire).is_none());
     assert_number(&rt, table.seats.backlog(1) as u64, 0);
-    assert_bytes(&rt, table.wire.written(Line::Seat(1)), b"LINE\r\nNEXT\r\n");
+    assert_bytes(&rt, table.wire.written(Line::Seat(1)), b"#OVER\r\n");
     assert_bytes(&rt, table.wire.written(Line::Seat(0)), b"");
     table.wire.end(Line::Seat(1));
     table.assert_hears(&rt, 0, 3);
@@ -135,6 +135,27 @@ fn much_comes_in_pieces(rt: HostRuntime) -> Result<(), Fail> {
     for expected in [512, 512, 76, 0] {
         table.assert_hears(&rt, 0, expected);
     }
+    Ok(())
+}
+
+/// What a bot asks before it names the version is read, in whatever pieces it comes; nothing behind that is.
+#[test]
+fn what_a_bot_asks_is_read(rt: HostRuntime) -> Result<(), Fail> {
+    let mut table = open_seats(rt.alloc())?;
+    table.wire.come_to_seat(1);
+    table.assert_hears(&rt, 0, 2);
+    for piece in [
+        b"#RESUME MATCH".as_slice(),
+        b"STATE:0\r\nVERSION:2.0.0\r\n#RESUME FIRST\r\n",
+    ] {
+        table.wire.come(Line::Seat(1), piece)?;
+        table.assert_hears(&rt, 0, piece.len() as u64);
+    }
+    let (asked, named) = table.seats.asked(1);
+    assert!(rt; asked == Asked::Line);
+    assert_bytes(&rt, named, b"MATCHSTATE:0");
+    // It waits for that line.
+    assert_number(&rt, table.seats.bits() as u64, 0);
     Ok(())
 }
 
@@ -170,13 +191,20 @@ fn the_next_bot_gets_nothing_of_the_last(rt: HostRuntime) -> Result<(), Fail> {
     let mut table = open_seats(rt.alloc())?;
     table.wire.come_to_seat(0);
     table.assert_hears(&rt, 0, 1);
-    assert!(rt; table.seats.tell(0, b"LINE"));
+    assert!(rt; table.seats.part(0, Parting::Over));
     table.wire.end(Line::Seat(0));
     assert!(rt; table.seats.flush(&mut table.wire).is_some());
     table.wire.come_to_seat(0);
     table.assert_hears(&rt, 0, 1);
-    assert!(rt; table.seats.tell(0, b"NEXT") && table.seats.flush(&mut table.wire).is_none());
-    assert_bytes(&rt, table.wire.written(Line::Seat(0)), b"NEXT\r\n");
+    // It has to name the version first.
+    assert!(rt; table.seats.part(0, Parting::Other));
+    assert_number(&rt, table.seats.backlog(0) as u64, 0);
+    table.wire.come(Line::Seat(0), b"VERSION:2.0.0\r\n")?;
+    table.assert_hears(&rt, 0, 15);
+    assert!(rt;
+        table.seats.part(0, Parting::Other) && table.seats.flush(&mut table.wire).is_none()
+    );
+    assert_bytes(&rt, table.wire.written(Line::Seat(0)), b"#OTHER\r\n");
     assert!(rt; table.seats.hang_up(&mut table.wire, 0).is_some());
     assert!(rt; table.seats.hang_up(&mut table.wire, 0).is_none());
     Ok(())
@@ -248,10 +276,10 @@ fn a_seat_is_taken_over(rt: HostRuntime) -> Result<(), Fail> {
             table.assert_hears(&rt, 0, 3);
         }
         table.assert_hears(&rt, 0, 1);
-        assert!(rt; table.seats.tell(0, b"LINE"));
+        assert!(rt; table.seats.part(0, Parting::Over));
     }
     assert!(rt; table.seats.flush(&mut table.wire).is_none());
-    assert_bytes(&rt, table.wire.written(Line::Seat(0)), b"LINE\r\n");
+    assert_bytes(&rt, table.wire.written(Line::Seat(0)), b"#OVER\r\n");
     Ok(())
 }
 

@@ -1,8 +1,10 @@
--- Which lives and settings wait for a peer once they are told.
-use Rattle.std.specs.Prelude.{◌≡◌, ◌&&◌, Bool, true, false, Option, Some, None, is_some}
+-- Which lives and settings wait for peers once they are told.
+use Rattle.std.specs.Prelude.{◌≡◌, ℕ, ◌<◌, ◌≤◌, ◌&&◌, Bool, true, false, List, length, get_or, Option, Some, None, is_some}
+use Rattle.node_links.specs.declared.limits.TheConstants.{NODES}
 use Rattle.node_links.specs.declared.lives.Lives.{Lives}
 use Rattle.node_links.specs.declared.settings.Settings.{Settings}
 use Rattle.node_peers.specs.declared.peer.Peer.{Peer}
+use Rattle.node_peers.specs.Handing.{GoBack}
 
 -- lives go over an open connection of the second version
 abbrev pub takes_lives : Peer → Bool
@@ -23,3 +25,13 @@ pub data IsInformed (lives : Lives) (settings : Option Settings) (old new : Peer
   -- some were told already
   again : is_some old.lives_told ≡ true → new ≡ old → IsInformed lives settings old new
   never : takes_lives old ≡ false → new ≡ old → IsInformed lives settings old new
+
+-- the same of the first so many peers, and of the others nothing changed
+pub record Informed (count : ℕ) (lives : Lives) (settings : Option Settings) (old new : List Peer) : Type 0 where
+  pub size : length new ≡ length old
+  pub told : (number : ℕ) (nobody : Peer) → number < count → number < length old → IsInformed lives settings (get_or old number nobody) (get_or new number nobody)
+  pub others : (number : ℕ) (nobody : Peer) → count ≤ number → get_or new number nobody ≡ get_or old number nobody
+
+-- first it is told how this node is, and then these lives
+abbrev pub AreInformed : Lives → Option Settings → List Peer → List Peer → Type 0
+AreInformed lives settings old new = (between : List Peer) × (GoBack old between × Informed NODES lives settings between new)

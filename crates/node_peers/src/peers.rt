@@ -5,6 +5,9 @@ ghost use Rattle.node_peers.specs.Hearing.{IsTold};
 ghost use Rattle.node_peers.specs.Handing.{frames_for, GoBack, AreHanded, are_handed_prop};
 ghost use Rattle.node_peers.specs.Knowing.{IsOfOne};
 ghost use Rattle.node_peers.specs.Replacing.{AreClosed};
+ghost use Rattle.node_links.specs.declared.limits.TheConstants.{NODES as MOST};
+ghost use Rattle.node_peers.specs.Knowing.{lives_told};
+ghost use Rattle.node_peers.specs.Reporting.{Informed, AreInformed};
 ghost use Rattle.node_wires.specs.Passages.{Wrote, seats_in, wrote_over, logged_in};
 ghost use Rattle.node_wires.specs.declared.line.Line.TheVariants.{Seat, Peer as ToPeer};
 
@@ -294,14 +297,15 @@ impl Peers {
     }
 
     /// Tells each peer how this node is, where that is due, and which lives of stores are known here, where it wasn't told
-    /// these yet.
-    #[tactic(auto, using(crate::proofs::Handing::handed_on, crate::proofs::Handing::handed_stays, crate::proofs::Handing::handed_grew))]
+    /// these yet: they wait then for each peer that is there by a connection of the second version.
+    #[tactic(auto, using(crate::proofs::Handing::handed_on, crate::proofs::Handing::handed_stays, crate::proofs::Handing::handed_grew, crate::proofs::Reporting::both_told))]
     pub fn tell(&mut self, told: OwnReport, now: u64)
-        ensures { Stays self.old self.new }
+        ensures stays { Stays self.old self.new }
+        ensures told { AreInformed (lives_told (own_of self.old) self.old.peers.items) self.old.settings self.old.peers.items self.new.peers.items }
     {
-        tell_all(&mut self.peers, told, now);
         let lines = &self.lines;
         let lives = lives_told(&lines.own, &self.peers);
+        tell_all(&mut self.peers, told, now);
         tell_lives(&mut self.peers, &lives, self.settings);
     }
 
@@ -377,9 +381,10 @@ fn tell_all(peers: &mut Vec<Peer>, told: OwnReport, now: u64)
 }
 
 /// Tells each peer these lives and these settings, where it wasn't told them yet.
-#[tactic(auto, using(crate::proofs::Handing::back_at, crate::proofs::Handing::back_same, crate::proofs::Handing::back_on))]
+#[tactic(auto, using(crate::proofs::Handing::back_at, crate::proofs::Handing::back_same, crate::proofs::Handing::back_on, crate::proofs::Reporting::none_told_yet, crate::proofs::Reporting::one_informed, crate::proofs::Reporting::none_informed))]
 fn tell_lives(peers: &mut Vec<Peer>, lives: &Lives, settings: Option<Settings>)
-    ensures { GoBack peers.old.items peers.new.items }
+    ensures back { GoBack peers.old.items peers.new.items }
+    ensures told { Informed MOST lives.now settings peers.old.items peers.new.items }
 {
     for number in 0..NODES {
         if let Some(peer) = peers.get_mut(number) {
