@@ -17,8 +17,8 @@ use Rattle.node_peers.specs.declared.notice.Notice.{Notice}
 use Rattle.node_peers.specs.declared.notice.Notice.TheVariants as notices
 use Rattle.node_seats.specs.declared.seat.Seat.{Seat}
 use Rattle.node_seats.specs.Others as seats
-use Rattle.node_seats.specs.Seating.{waits_at, sits_at}
-use Rattle.node_seats.specs.Telling.{lines_to, IsSaid, AreSaid}
+use Rattle.node_seats.specs.Seating.{waits_at, sits_at, bot_at}
+use Rattle.node_seats.specs.Telling.{text_for, IsSaid, AreSaid}
 use Rattle.node_status.specs.declared.asker.Asker.{Asker}
 use Rattle.node_status.specs.Asking as status
 use Rattle.node_status.specs.Asking.{AreAnswered, is_asker, Arrivals, Comes, IsGiven}
@@ -76,18 +76,18 @@ not_guests place before (Logged text ∷ ys) are = absurd are.0
 
 -- ---- where nothing changes but what is said of it
 
-said_so : (seat : ℕ) (old new told : List Passage) (bots : List Seat) → wrote_over new (SeatOf seat) ≡ wrote_over old (SeatOf seat)
-    → IsSaid (sits_at bots seat) (wrote_over old (SeatOf seat)) (waits_at bots seat) (lines_to seat told) → IsSaid (sits_at bots seat) (wrote_over new (SeatOf seat)) (waits_at bots seat) (lines_to seat told)
-said_so seat old new told bots e is = subst (λ (w : List ℕ). IsSaid (sits_at bots seat) w (waits_at bots seat) (lines_to seat told)) (sym e) is
+said_so : (seat : ℕ) (old new : List Passage) (bots : List Seat) → wrote_over new (SeatOf seat) ≡ wrote_over old (SeatOf seat)
+    → IsSaid (sits_at bots seat) (wrote_over old (SeatOf seat)) (waits_at bots seat) (text_for (bot_at bots seat)) → IsSaid (sits_at bots seat) (wrote_over new (SeatOf seat)) (waits_at bots seat) (text_for (bot_at bots seat))
+said_so seat old new bots e is = subst (λ (w : List ℕ). IsSaid (sits_at bots seat) w (waits_at bots seat) (text_for (bot_at bots seat))) (sym e) is
 
-pub said_alike : (old new told : List Passage) (bots : List Seat) → ((seat : ℕ) → wrote_over new (SeatOf seat) ≡ wrote_over old (SeatOf seat)) → AreSaid old told bots → AreSaid new told bots
-said_alike old new told bots e are seat = said_so seat old new told bots (e seat) (are seat)
+pub said_alike : (old new : List Passage) (bots : List Seat) → ((seat : ℕ) → wrote_over new (SeatOf seat) ≡ wrote_over old (SeatOf seat)) → AreSaid old bots → AreSaid new bots
+said_alike old new bots e are seat = said_so seat old new bots (e seat) (are seat)
 
 -- ---- peers
 
-pub carried_grown : (old new wired_old wired_new told : List Passage) (bots : List Seat) (askers : List Asker) → Adds old new wired_old wired_new → ((seat : ℕ) → wrote_over wired_new (SeatOf seat) ≡ wrote_over wired_old (SeatOf seat))
-    → IsCarried wired_old old told bots askers → IsCarried wired_new new told bots askers
-carried_grown old new wired_old wired_new told bots askers adds writing is = record {
+pub carried_grown : (old new wired_old wired_new : List Passage) (bots : List Seat) (askers : List Asker) → Adds old new wired_old wired_new → ((seat : ℕ) → wrote_over wired_new (SeatOf seat) ≡ wrote_over wired_old (SeatOf seat))
+    → IsCarried wired_old old bots askers → IsCarried wired_new new bots askers
+carried_grown old new wired_old wired_new bots askers adds writing is = record {
   peers = λ line of_peers. (
     ap (λ (ps : List Passage). wrote_over ps line) adds.wired
         ∙ (wrote_both line [] wired_old adds.more
@@ -96,7 +96,7 @@ carried_grown old new wired_old wired_new told bots askers adds writing is = rec
         ∙ (came_both line [] wired_old adds.more
         ∙ (ap (λ (b : List ℕ). came_behind line b adds.more) (is.peers line of_peers).1 ∙ (sym (came_both line [] old adds.more) ∙ ap (λ (ps : List Passage). came_over ps line) (sym adds.put_down)))),
   );
-  said = said_alike wired_old wired_new told bots writing is.said;
+  said = said_alike wired_old wired_new bots writing is.said;
   guests = λ place.
       ap (λ (ps : List Passage). wrote_over ps (Guest place)) adds.wired ∙ (wrote_both (Guest place) [] wired_old adds.more ∙ (not_guests place (wrote_over wired_old (Guest place)) adds.more adds.of_peers ∙ is.guests place));
   answered = λ place.
@@ -112,9 +112,9 @@ not_bots (SeatOf n) is = absurd is
 not_bots (Guest n) is = absurd is
 not_bots (AskerAt n) is = absurd is
 
-pub carried_seated : (old new lines told : List Passage) (bots now : List Seat) (askers : List Asker) → seats.KeepsOthers old new → seats.TellsNoGuest old new → (AreSaid old told bots → AreSaid new told now)
-    → IsCarried old lines told bots askers → IsCarried new lines told now askers
-carried_seated old new lines told bots now askers keeps unsaid said is = record {
+pub carried_seated : (old new lines : List Passage) (bots now : List Seat) (askers : List Asker) → seats.KeepsOthers old new → seats.TellsNoGuest old new → (AreSaid old bots → AreSaid new now)
+    → IsCarried old lines bots askers → IsCarried new lines now askers
+carried_seated old new lines bots now askers keeps unsaid said is = record {
   peers = λ line of_peers. (keeps.wrote line (not_bots line of_peers) ∙ (is.peers line of_peers).0, keeps.came line (not_bots line of_peers) ∙ (is.peers line of_peers).1);
   said = said is.said;
   guests = λ place. unsaid place (is.guests place);
@@ -130,11 +130,11 @@ no_asker (SeatOf n) is = absurd is
 no_asker (Guest n) is = absurd is
 no_asker (AskerAt n) is = absurd is
 
-pub carried_asked : (old new lines told : List Passage) (bots : List Seat) (askers now : List Asker) → status.KeepsOthers old new → (AreAnswered old askers → AreAnswered new now) → IsCarried old lines told bots askers
-    → IsCarried new lines told bots now
-carried_asked old new lines told bots askers now keeps answered is = record {
+pub carried_asked : (old new lines : List Passage) (bots : List Seat) (askers now : List Asker) → status.KeepsOthers old new → (AreAnswered old askers → AreAnswered new now) → IsCarried old lines bots askers
+    → IsCarried new lines bots now
+carried_asked old new lines bots askers now keeps answered is = record {
   peers = λ line of_peers. (keeps.wrote line (no_asker line of_peers) ∙ (is.peers line of_peers).0, keeps.came line (no_asker line of_peers) ∙ (is.peers line of_peers).1);
-  said = said_alike old new told bots (λ seat. keeps.wrote (SeatOf seat) refl) is.said;
+  said = said_alike old new bots (λ seat. keeps.wrote (SeatOf seat) refl) is.said;
   guests = λ place. keeps.wrote (Guest place) refl ∙ is.guests place;
   answered = answered is.answered;
 }
@@ -183,12 +183,12 @@ lines_logged old new text e = record {
 pub lines_on : (a b c : List Passage) → KeepsLines a b → KeepsLines b c → KeepsLines a c
 lines_on a b c one two = record { wrote = λ line. two.wrote line ∙ one.wrote line; came = λ line. two.came line ∙ one.came line }
 
-pub said_along : (old new told : List Passage) (bots : List Seat) → KeepsLines old new → AreSaid old told bots → AreSaid new told bots
-said_along old new told bots keeps are = said_alike old new told bots (λ seat. keeps.wrote (SeatOf seat)) are
+pub said_along : (old new : List Passage) (bots : List Seat) → KeepsLines old new → AreSaid old bots → AreSaid new bots
+said_along old new bots keeps are = said_alike old new bots (λ seat. keeps.wrote (SeatOf seat)) are
 
-pub carried_shown : (old new lines told all : List Passage) (bots now : List Seat) (askers : List Asker) → KeepsLines old new → (AreSaid old told bots → AreSaid new all now) → IsCarried old lines told bots askers
-    → IsCarried new lines all now askers
-carried_shown old new lines told all bots now askers keeps said is = record {
+pub carried_shown : (old new lines : List Passage) (bots now : List Seat) (askers : List Asker) → KeepsLines old new → (AreSaid old bots → AreSaid new now) → IsCarried old lines bots askers
+    → IsCarried new lines now askers
+carried_shown old new lines bots now askers keeps said is = record {
   peers = λ line of_peers. (keeps.wrote line ∙ (is.peers line of_peers).0, keeps.came line ∙ (is.peers line of_peers).1);
   said = said is.said;
   guests = λ place. keeps.wrote (Guest place) ∙ is.guests place;
@@ -278,5 +278,5 @@ pub none_unsaid : (old new : List Passage) → new ≡ old → seats.TellsNoGues
 none_unsaid old new same place none = ap (λ (ps : List Passage). wrote_over ps (Guest place)) same ∙ none
 
 -- over new wires all is carried
-pub carried_first : (bots : List Seat) (askers : List Asker) → AreSaid [] [] bots → AreAnswered [] askers → IsCarried [] [] [] bots askers
+pub carried_first : (bots : List Seat) (askers : List Asker) → AreSaid [] bots → AreAnswered [] askers → IsCarried [] [] bots askers
 carried_first bots askers said answered = record { peers = λ line of_peers. (refl, refl); said = said; guests = λ place. refl; answered = answered }

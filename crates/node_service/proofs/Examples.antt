@@ -8,7 +8,7 @@ use Rattle.stations.specs.Deeds.{Deed}
 use Rattle.node_service.specs.Parts.{IsPartOf}
 use Rattle.node_service.specs.Showing.{shown_log, LogGains}
 use Rattle.node_service.specs.Logging.{HasNoStart, StartedOnce}
-use Rattle.node_service.specs.Handed.{frames_by, lines_by}
+use Rattle.node_service.specs.Handed.{frames_by}
 use Rattle.node_service.specs.Arriving.{OfSeat, OfPeer, incoming_in, came_by}
 use Rattle.node_service.specs.Sessions.{Without, With, Astray, session_of, IsBeginning, AreGiven}
 use Rattle.node_service.specs.Fitting.{FitsAt}
@@ -17,6 +17,10 @@ use Rattle.node_service.specs.declared.wrong_tokens.Untold.{Untold}
 use Rattle.node_peers.specs.declared.notice.Notice.TheVariants as notices
 use Rattle.node_service.specs.declared.server_notice.ServerNotice.TheVariants as tells
 use Rattle.node_service.specs.Company.{joined_in}
+use Rattle.betting.specs.declared.action.Action.TheVariants.{Fold}
+use Rattle.slot_log.specs.Hand.{Hand}
+use Rattle.line_cursor.specs.Cursors.{cursor_at}
+use Rattle.node_service.specs.Bots.{newest_place}
 use Rattle.node_service.specs.WrongTokens.{nobody, and_one, due_of, told_at}
 
 -- ---- two deeds of node 0: seat 1 sent 7 8, upon which the node sent a frame to node 2 and showed a line to seat 0 and text to its log; before that seat 1 connected
@@ -44,14 +48,10 @@ no_line_of_a_seat : shown_log (later ∷ first ∷ []) ≡ 1 ∷ 5 ∷ 2 ∷ 3 �
 unfolding first later
 no_line_of_a_seat is = cc
 
--- frames go to the peers, and lines to the seats
+-- frames go to the peers
 handed_on : frames_by (later ∷ first ∷ []) ≡ Wrote (line.Peer 2) (6 ∷ []) ∷ []
 unfolding first later
 handed_on = refl
-
-told_on : lines_by (later ∷ first ∷ []) ≡ Wrote (line.Seat 0) (5 ∷ []) ∷ []
-unfolding first later
-told_on = refl
 
 -- a frame isn't handed on for another node
 for_its_own_node : frames_by (later ∷ first ∷ []) ≡ Wrote (line.Peer 1) (6 ∷ []) ∷ [] → ⊥
@@ -208,3 +208,15 @@ not_started_behind once = by once.later once.first once.deeds_are once.no_other
     by : (later : List Deed) (first : Deed) → begun ∷ quiet ∷ [] ≡ later ++ first ∷ [] → HasNoStart later → ⊥
     by [] first is none = cc
     by (deed ∷ later) first is none = let never : true ≡ false = ap newest_began is ∙ none.0 in absurd (cc)
+
+-- ---- where the lines of a bot begin
+
+-- two hands were dealt, of the newer of which one action was taken
+abbrev two_hands : List Hand
+two_hands = (record { deal = []; past = Fold ∷ [] }) ∷ (record { deal = []; past = [] }) ∷ []
+
+at_the_newest : newest_place two_hands ≡ cursor_at 1 1
+at_the_newest = refl
+
+at_the_first_that_comes : newest_place [] ≡ cursor_at 0 0
+at_the_first_that_comes = refl

@@ -9,7 +9,8 @@ use Rattle.stations.specs.Deeds.{Deed}
 use Rattle.stations.specs.Stations.{Look}
 use Rattle.node_service.specs.Parts.{IsPartOf}
 use Rattle.node_service.specs.Showing.{shown_log, LogGains}
-use Rattle.node_service.specs.Handed.{frames_by, lines_by}
+use Rattle.node_service.specs.Bots.{AreBotsOf}
+use Rattle.node_service.specs.Handed.{frames_by}
 use Rattle.node_service.specs.Arriving.{Incoming, seats_of, peers_of, came_by}
 use Rattle.node_service.specs.Served.{Served}
 use Rattle.node_service.specs.Logging.{StartedOnce, IsOnce}
@@ -30,7 +31,7 @@ use Rattle.node_service.proofs.Turns.{no_frames}
 use Rattle.node_service.proofs.Hearing.{hears_none, hears_on}
 use Rattle.node_service.proofs.Parts.{both, left_out}
 use Rattle.node_service.proofs.Welcoming.{hosts_none, hosts_on, let_in_on, let_in_both}
-use Rattle.node_service.proofs.Showing.{shown_by_both, came_by_both, frames_by_both, lines_by_both, seats_of_more, peers_of_more, nothing_shown, shown_on}
+use Rattle.node_service.proofs.Showing.{shown_by_both, came_by_both, frames_by_both, seats_of_more, peers_of_more, nothing_shown, shown_on}
 
 -- where nothing was taken it fits
 pub but_nothing : {N : Type 0} (served : Served N) → FitsBut [] served → Fits served
@@ -65,9 +66,9 @@ taken_fits {N} taken old new look seats loosened fits = (
 
 module _ {D : Type 0} {g : Ghosts D} where
   -- where nothing is done
-  unfoldable pub still : (old new : Served (Node D)) → new.look ≡ old.look → new.log_failed ≡ old.log_failed → new.sent ≡ old.sent → new.told ≡ old.told → new.heard ≡ old.heard → logged_in new.passed ≡ logged_in old.passed → seats_in new.passed ≡ seats_in old.passed
+  unfoldable pub still : (old new : Served (Node D)) → new.look ≡ old.look → new.log_failed ≡ old.log_failed → new.sent ≡ old.sent → (AreBotsOf g old.look old.bots → AreBotsOf g new.look new.bots) → new.heard ≡ old.heard → logged_in new.passed ≡ logged_in old.passed → seats_in new.passed ≡ seats_in old.passed
       → Loosens old.sittings new.sittings → Hears old.own new.own old.lines new.lines → GivesOnly (IsReply new.look) old.askers new.askers → (Carries old → Carries new) → new.started ≡ old.started → new.terms ≡ old.terms → new.guests ≡ old.guests → GoesOn g [] old new
-  still old new look log_failed sent told heard log seats loosened hears asked carried started terms guests = record {
+  still old new look log_failed sent bots heard log seats loosened hears asked carried started terms guests = record {
     config = ap (λ (l : Look (Node D)). l.config) look;
     number = ap (λ (l : Look (Node D)). l.number) look;
     begun = ap (λ (l : Look (Node D)). begun_of g l.node) look;
@@ -77,7 +78,7 @@ module _ {D : Type 0} {g : Ghosts D} where
     log = subst (λ (b : Bool). LogGains old.log_failed b [] (logged_in old.passed) (logged_in new.passed)) (sym log_failed)
         (subst (λ (m : List ℕ). LogGains old.log_failed old.log_failed [] (logged_in old.passed) m) (sym log) (nothing_shown old.log_failed (logged_in old.passed)));
     sent = sent ∙ sym (append-nil old.sent);
-    told = told ∙ sym (append-nil old.told);
+    bots = bots;
     gained = [];
     seats = seats ∙ sym (append-nil (seats_in old.passed));
     heard = heard ∙ sym (append-nil old.heard);
@@ -106,8 +107,7 @@ module _ {D : Type 0} {g : Ghosts D} where
         first.log then_on.log);
     sent = subst (λ (m : List Passage). three.sent ≡ one.sent ++ m) (sym (frames_by_both then_on.since first.since))
         (then_on.sent ∙ (ap (λ (m : List Passage). m ++ frames_by then_on.since) first.sent ∙ append_assoc one.sent (frames_by first.since) (frames_by then_on.since)));
-    told = subst (λ (m : List Passage). three.told ≡ one.told ++ m) (sym (lines_by_both then_on.since first.since))
-        (then_on.told ∙ (ap (λ (m : List Passage). m ++ lines_by then_on.since) first.told ∙ append_assoc one.told (lines_by first.since) (lines_by then_on.since)));
+    bots = λ are. then_on.bots (first.bots are);
     gained = first.gained ++ then_on.gained;
     seats = subst (λ (m : List Passage). seats_in three.passed ≡ seats_in one.passed ++ m) (sym (seats_of_more first.gained then_on.gained))
         (then_on.seats ∙ (ap (λ (m : List Passage). m ++ seats_of then_on.gained) first.seats ∙ append_assoc (seats_in one.passed) (seats_of first.gained) (seats_of then_on.gained)));
@@ -138,7 +138,7 @@ module _ {D : Type 0} {g : Ghosts D} where
     log = subst (λ (b : Bool). LogGains b three.log_failed (shown_log then_on.since) (logged_in one.passed) (logged_in three.passed)) takes.log_failed
         (subst (λ (m : List ℕ). LogGains two.log_failed three.log_failed (shown_log then_on.since) m (logged_in three.passed)) takes.log then_on.log);
     sent = then_on.sent ∙ ap (λ (m : List Passage). m ++ frames_by then_on.since) takes.sent;
-    told = then_on.told ∙ ap (λ (m : List Passage). m ++ lines_by then_on.since) takes.told;
+    bots = λ are. then_on.bots (takes.bots are);
     gained = taken ++ then_on.gained;
     seats = subst (λ (m : List Passage). seats_in three.passed ≡ seats_in one.passed ++ m) (sym (seats_of_more taken then_on.gained))
         (then_on.seats ∙ (ap (λ (m : List Passage). m ++ seats_of then_on.gained) takes.seats ∙ append_assoc (seats_in one.passed) (seats_of taken) (seats_of then_on.gained)));
@@ -166,7 +166,7 @@ module _ {D : Type 0} {g : Ghosts D} where
     deeds = goes.deeds;
     log = goes.log;
     sent = goes.sent;
-    told = goes.told;
+    bots = goes.bots;
     gained = goes.gained;
     seats = goes.seats;
     heard = goes.heard;
@@ -183,7 +183,7 @@ module _ {D : Type 0} {g : Ghosts D} where
 
   -- nothing happens
   unfoldable pub nothing_done : (here : Served (Node D)) → GoesOn g [] here here
-  nothing_done here = still here here refl refl refl refl refl refl refl (λ seat. inl refl) (hears_none here.own here.own here.lines here.lines refl refl) (λ place within. inl refl) (λ is. is) refl refl refl
+  nothing_done here = still here here refl refl refl (λ are. are) refl refl refl (λ seat. inl refl) (hears_none here.own here.own here.lines here.lines refl refl) (λ place within. inl refl) (λ is. is) refl refl refl
 
   -- what was taken and isn't given
   pub not_given : {taken : List Incoming} {one two : Served (Node D)} → seats_of taken ≡ [] → Takes g taken one two → GoesOn g [] one two

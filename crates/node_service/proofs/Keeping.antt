@@ -4,7 +4,7 @@ use Rattle.std.proofs.lemmas.List.{append-nil}
 use Rattle.std.specs.Prelude.{Option, Result, IfSome, IsNone}
 use Rattle.promise_store.specs.declared.disk.Disk.{Ghosts}
 use Rattle.node_wires.specs.declared.wire.Wire.{Ghosts as OfWire}
-use Rattle.node_wires.specs.Passages.{Passage, logged_in, seats_in, wrote_over}
+use Rattle.node_wires.specs.Passages.{Passage, logged_in, seats_in, wrote_over, came_over}
 use Rattle.dealer_node.specs.Nodes.{Node}
 use Rattle.dealer_node.specs.Seeing.{begun_of}
 use Rattle.dealer_node.specs.Outs.{Told, nothing_told}
@@ -16,7 +16,8 @@ use Rattle.stations.specs.Looking.{look_of}
 use Rattle.node_service.specs.declared.desk.Desk.{Desk}
 use Rattle.node_service.specs.declared.local_node.LocalNode.{LocalNode}
 use Rattle.node_service.specs.Showing.{shown_log, added, LogGains}
-use Rattle.node_service.specs.Handed.{frames_by, lines_by}
+use Rattle.node_service.specs.Bots.{AreBotsOf}
+use Rattle.node_service.specs.Handed.{frames_by}
 use Rattle.node_service.specs.Arriving.{Incoming, seats_of, peers_of, taken_for}
 use Rattle.node_service.specs.Served.{Served}
 use Rattle.node_service.specs.Desks.{served_by, IsUntouched, IsKeptWith, IsKept}
@@ -32,7 +33,7 @@ use Rattle.node_wires.specs.declared.line.Line.TheVariants.{Seat as SeatOf}
 use Rattle.node_wires.specs.declared.passages.Passages.{Passages}
 use Rattle.node_seats.specs.declared.seats.Seats.{Seats}
 use Rattle.node_seats.specs.Others.{KeepsOthers, TellsNoGuest}
-use Rattle.node_seats.specs.Telling.{lines_of, AreSaid}
+use Rattle.node_seats.specs.Telling.{AreSaid}
 use Rattle.node_status.specs.declared.askers.Askers.{Askers}
 use Rattle.node_status.specs.Asking.{AreAnswered, KeepsOthers as OthersKept}
 use Rattle.node_service.specs.declared.company.Company.{Company}
@@ -40,7 +41,7 @@ use Rattle.node_service.specs.Asking.{line_given, GivesOnly, IsNoLine, IsReply, 
 use Rattle.node_service.specs.Crossing.{IsCarried, Carries}
 use Rattle.node_service.specs.Handing.{HandsOn}
 use Rattle.node_service.proofs.Asking.{gives_alike, gives_weaker, none_gives_on}
-use Rattle.node_service.proofs.Crossing.{carried_grown, carried_seated, carried_asked}
+use Rattle.node_service.proofs.Crossing.{carried_grown, carried_seated, carried_asked, none_unsaid}
 use Rattle.node_service.specs.Company.{HearsOn}
 use Rattle.node_service.proofs.Hearing.{hears_none, hears_on, heard_on}
 use Rattle.node_service.proofs.Fitting.{fits_moved}
@@ -63,24 +64,24 @@ heard_either old new (inl same) = hears_none (own_of old) (own_of new) (passed_o
 heard_either old new (inr hears) = hears
 
 module _ {D W : Type 0} {disk : Ghosts D} (wire : OfWire W) where
-  pub carried_as : (old new : Desk D W disk) → lines_of new.seats ≡ lines_of old.seats → IsUntouched wire old new ⊎ (Carries (served_by wire old) → Carries (served_by wire new)) → Carries (served_by wire old)
+  pub carried_as : (old new : Desk D W disk) → IsUntouched wire old new ⊎ (Carries (served_by wire old) → Carries (served_by wire new)) → Carries (served_by wire old)
       → Carries (served_by wire new)
-  carried_as old new told (inr carries) is = carries is
-  carried_as old new told (inl same) is =
-      subst (λ (m : List Passage). IsCarried m (passed_of new.company.peers) (lines_of new.seats) new.seats.seats.items new.askers.askers.items) (sym same.0)
-      (subst (λ (m : List Passage). IsCarried (wire.passed old.wire) m (lines_of new.seats) new.seats.seats.items new.askers.askers.items) (sym same.1.0)
-      (subst (λ (s : Seats). IsCarried (wire.passed old.wire) (passed_of old.company.peers) (lines_of s) s.seats.items new.askers.askers.items) (sym same.1.1.0)
-      (subst (λ (a : Askers). IsCarried (wire.passed old.wire) (passed_of old.company.peers) (lines_of old.seats) old.seats.seats.items a.askers.items) (sym same.1.1.1) is)))
+  carried_as old new (inr carries) is = carries is
+  carried_as old new (inl same) is =
+      subst (λ (m : List Passage). IsCarried m (passed_of new.company.peers) new.seats.seats.items new.askers.askers.items) (sym same.0)
+      (subst (λ (m : List Passage). IsCarried (wire.passed old.wire) m new.seats.seats.items new.askers.askers.items) (sym same.1.0)
+      (subst (λ (s : Seats). IsCarried (wire.passed old.wire) (passed_of old.company.peers) s.seats.items new.askers.askers.items) (sym same.1.1.0)
+      (subst (λ (a : Askers). IsCarried (wire.passed old.wire) (passed_of old.company.peers) old.seats.seats.items a.askers.items) (sym same.1.1.1) is)))
 
   pub carries : {such : List ℕ → Type 0} {old new : Desk D W disk} → IsKeptWith wire such old new → Carries (served_by wire old) → Carries (served_by wire new)
-  carries {old = old} {new} is = carried_as old new is.told is.carried
+  carries {old = old} {new} is = carried_as old new is.carried
 
   pub kept_on : {such : List ℕ → Type 0} {one two three : Desk D W disk} → IsKeptWith wire such one two → IsKeptWith wire such two three → IsKeptWith wire such one three
   kept_on {such} {one} {two} {three} first then_on = record {
     member = then_on.member ∙ first.member;
     log_failed = then_on.log_failed ∙ first.log_failed;
     sent = then_on.sent ∙ first.sent;
-    told = then_on.told ∙ first.told;
+    bots = λ are. then_on.bots (first.bots are);
     guests = then_on.guests ∙ first.guests;
     heard = then_on.heard ∙ first.heard;
     log = then_on.log ∙ first.log;
@@ -97,7 +98,7 @@ module _ {D W : Type 0} {disk : Ghosts D} (wire : OfWire W) where
     member = ap (λ (d : Desk D W disk). d.member) is;
     log_failed = ap (λ (d : Desk D W disk). d.log_failed) is;
     sent = ap (λ (d : Desk D W disk). frames_of d.company.peers) is;
-    told = ap (λ (d : Desk D W disk). lines_of d.seats) is;
+    bots = λ are. subst (λ (d : Desk D W disk). AreBotsOf disk (look_of d.member.station) d.seats.seats.items) (sym is) are;
     guests = ap (λ (d : Desk D W disk). d.seats.guests) is;
     heard = ap (λ (d : Desk D W disk). heard_of d.company.peers) is;
     log = ap (λ (d : Desk D W disk). logged_in (wire.passed d.wire)) is;
@@ -110,6 +111,10 @@ module _ {D W : Type 0} {disk : Ghosts D} (wire : OfWire W) where
 
   -- ---- one call
 
+  bots_kept : (old new : Desk D W disk) → new.member ≡ old.member → new.seats ≡ old.seats → AreBotsOf disk (look_of old.member.station) old.seats.seats.items → AreBotsOf disk (look_of new.member.station) new.seats.seats.items
+  bots_kept old new member seats are =
+      subst (λ (m : LocalNode D disk). AreBotsOf disk (look_of m.station) new.seats.seats.items) (sym member) (subst (λ (s : Seats). AreBotsOf disk (look_of old.member.station) s.seats.items) (sym seats) are)
+
   -- of the peers nothing passed
   pub kept_still : {old new : Desk D W disk} → new.member ≡ old.member → new.log_failed ≡ old.log_failed → new.sittings ≡ old.sittings → new.seats ≡ old.seats → new.askers ≡ old.askers
       → wire.passed new.wire ≡ wire.passed old.wire → Stays old.company.peers new.company.peers → HearsOn old.company.peers new.company.peers → IsKept wire old new
@@ -117,7 +122,7 @@ module _ {D W : Type 0} {disk : Ghosts D} (wire : OfWire W) where
     member = member;
     log_failed = log_failed;
     sent = ap (λ (p : Passages). p.items) stays.1.1.0;
-    told = ap lines_of seats;
+    bots = λ are. bots_kept old new member seats are;
     guests = ap (λ (s : Seats). s.guests) seats;
     heard = ap (λ (p : Passages). p.items) stays.1.1.1;
     log = ap logged_in passed;
@@ -137,7 +142,7 @@ module _ {D W : Type 0} {disk : Ghosts D} (wire : OfWire W) where
     member = member;
     log_failed = log_failed;
     sent = ap (λ (p : Passages). p.items) grew.1.1.0;
-    told = ap lines_of seats;
+    bots = λ are. bots_kept old new member seats are;
     guests = ap (λ (s : Seats). s.guests) seats;
     heard = ap (λ (p : Passages). p.items) grew.1.1.1;
     log = log;
@@ -146,21 +151,21 @@ module _ {D W : Type 0} {disk : Ghosts D} (wire : OfWire W) where
     hears = inr hears;
     asked = λ place within. inl (ap (λ (a : Askers). line_given a.askers.items place) askers);
     carried = inr (λ is.
-        subst (λ (s : Seats). IsCarried (wire.passed new.wire) (passed_of new.company.peers) (lines_of s) s.seats.items new.askers.askers.items) (sym seats)
-        (subst (λ (a : Askers). IsCarried (wire.passed new.wire) (passed_of new.company.peers) (lines_of old.seats) old.seats.seats.items a.askers.items) (sym askers)
-        (carried_grown (passed_of old.company.peers) (passed_of new.company.peers) (wire.passed old.wire) (wire.passed new.wire) (lines_of old.seats) old.seats.seats.items old.askers.askers.items grew.1.0 writing is)));
+        subst (λ (s : Seats). IsCarried (wire.passed new.wire) (passed_of new.company.peers) s.seats.items new.askers.askers.items) (sym seats)
+        (subst (λ (a : Askers). IsCarried (wire.passed new.wire) (passed_of new.company.peers) old.seats.seats.items a.askers.items) (sym askers)
+        (carried_grown (passed_of old.company.peers) (passed_of new.company.peers) (wire.passed old.wire) (wire.passed new.wire) old.seats.seats.items old.askers.askers.items grew.1.0 writing is)));
   }
 
   -- something was written to seats, or one was let go of
   pub kept_seated : {old new : Desk D W disk} → new.member ≡ old.member → new.log_failed ≡ old.log_failed → new.company ≡ old.company → new.askers ≡ old.askers → Loosens old.sittings new.sittings
-      → lines_of new.seats ≡ lines_of old.seats → new.seats.guests ≡ old.seats.guests → logged_in (wire.passed new.wire) ≡ logged_in (wire.passed old.wire) → seats_in (wire.passed new.wire) ≡ seats_in (wire.passed old.wire)
+      → (AreBotsOf disk (look_of old.member.station) old.seats.seats.items → AreBotsOf disk (look_of old.member.station) new.seats.seats.items) → new.seats.guests ≡ old.seats.guests → logged_in (wire.passed new.wire) ≡ logged_in (wire.passed old.wire) → seats_in (wire.passed new.wire) ≡ seats_in (wire.passed old.wire)
       → KeepsOthers (wire.passed old.wire) (wire.passed new.wire) → TellsNoGuest (wire.passed old.wire) (wire.passed new.wire)
-      → (AreSaid (wire.passed old.wire) (lines_of old.seats) old.seats.seats.items → AreSaid (wire.passed new.wire) (lines_of old.seats) new.seats.seats.items) → IsKept wire old new
-  kept_seated {old} {new} member log_failed company askers loosened told guests log seats others unsaid said = record {
+      → (AreSaid (wire.passed old.wire) old.seats.seats.items → AreSaid (wire.passed new.wire) new.seats.seats.items) → IsKept wire old new
+  kept_seated {old} {new} member log_failed company askers loosened bots guests log seats others unsaid said = record {
     member = member;
     log_failed = log_failed;
     sent = ap (λ (c : Company). frames_of c.peers) company;
-    told = told;
+    bots = λ are. subst (λ (m : LocalNode D disk). AreBotsOf disk (look_of m.station) new.seats.seats.items) (sym member) (bots are);
     guests = guests;
     heard = ap (λ (c : Company). heard_of c.peers) company;
     log = log;
@@ -169,11 +174,21 @@ module _ {D W : Type 0} {disk : Ghosts D} (wire : OfWire W) where
     hears = inl (ap (λ (c : Company). c.peers) company);
     asked = λ place within. inl (ap (λ (a : Askers). line_given a.askers.items place) askers);
     carried = inr (λ is.
-        subst (λ (c : Company). IsCarried (wire.passed new.wire) (passed_of c.peers) (lines_of new.seats) new.seats.seats.items new.askers.askers.items) (sym company)
-        (subst (λ (a : Askers). IsCarried (wire.passed new.wire) (passed_of old.company.peers) (lines_of new.seats) new.seats.seats.items a.askers.items) (sym askers)
-        (subst (λ (m : List Passage). IsCarried (wire.passed new.wire) (passed_of old.company.peers) m new.seats.seats.items old.askers.askers.items) (sym told)
-        (carried_seated (wire.passed old.wire) (wire.passed new.wire) (passed_of old.company.peers) (lines_of old.seats) old.seats.seats.items new.seats.seats.items old.askers.askers.items others unsaid said is))));
+        subst (λ (c : Company). IsCarried (wire.passed new.wire) (passed_of c.peers) new.seats.seats.items new.askers.askers.items) (sym company)
+        (subst (λ (a : Askers). IsCarried (wire.passed new.wire) (passed_of old.company.peers) new.seats.seats.items a.askers.items) (sym askers)
+        (carried_seated (wire.passed old.wire) (wire.passed new.wire) (passed_of old.company.peers) old.seats.seats.items new.seats.seats.items old.askers.askers.items others unsaid said is)));
   }
+
+  -- bots were told something
+  pub kept_told : {old new : Desk D W disk} → new.member ≡ old.member → new.log_failed ≡ old.log_failed → new.company ≡ old.company → new.askers ≡ old.askers → new.sittings ≡ old.sittings → new.wire ≡ old.wire
+      → (AreBotsOf disk (look_of old.member.station) old.seats.seats.items → AreBotsOf disk (look_of old.member.station) new.seats.seats.items) → new.seats.guests ≡ old.seats.guests
+      → ((passed : List Passage) → AreSaid passed old.seats.seats.items → AreSaid passed new.seats.seats.items) → IsKept wire old new
+  kept_told {old} {new} member log_failed company askers sittings same bots guests said =
+      let passed : wire.passed new.wire ≡ wire.passed old.wire = ap wire.passed same in
+      kept_seated member log_failed company askers (λ seat. inl (ap (λ (s : Sittings). sitting_at s seat) sittings)) bots guests (ap logged_in passed) (ap seats_in passed)
+      (record { wrote = λ line off. ap (λ (ps : List Passage). wrote_over ps line) passed; came = λ line off. ap (λ (ps : List Passage). came_over ps line) passed })
+      (none_unsaid (wire.passed old.wire) (wire.passed new.wire) passed)
+      (λ are. subst (λ (ps : List Passage). AreSaid ps new.seats.seats.items) (sym passed) (said (wire.passed old.wire) are))
 
   -- something passed over lines of those who ask, or they were given such lines
   pub kept_asked : {such : List ℕ → Type 0} {old new : Desk D W disk} → new.member ≡ old.member → new.log_failed ≡ old.log_failed → new.company ≡ old.company → new.seats ≡ old.seats → new.sittings ≡ old.sittings
@@ -183,7 +198,7 @@ module _ {D W : Type 0} {disk : Ghosts D} (wire : OfWire W) where
     member = member;
     log_failed = log_failed;
     sent = ap (λ (c : Company). frames_of c.peers) company;
-    told = ap lines_of seats;
+    bots = λ are. bots_kept old new member seats are;
     guests = ap (λ (s : Seats). s.guests) seats;
     heard = ap (λ (c : Company). heard_of c.peers) company;
     log = others.log;
@@ -192,9 +207,9 @@ module _ {D W : Type 0} {disk : Ghosts D} (wire : OfWire W) where
     hears = inl (ap (λ (c : Company). c.peers) company);
     asked = asked;
     carried = inr (λ is.
-        subst (λ (c : Company). IsCarried (wire.passed new.wire) (passed_of c.peers) (lines_of new.seats) new.seats.seats.items new.askers.askers.items) (sym company)
-        (subst (λ (s : Seats). IsCarried (wire.passed new.wire) (passed_of old.company.peers) (lines_of s) s.seats.items new.askers.askers.items) (sym seats)
-        (carried_asked (wire.passed old.wire) (wire.passed new.wire) (passed_of old.company.peers) (lines_of old.seats) old.seats.seats.items old.askers.askers.items new.askers.askers.items others answered is)));
+        subst (λ (c : Company). IsCarried (wire.passed new.wire) (passed_of c.peers) new.seats.seats.items new.askers.askers.items) (sym company)
+        (subst (λ (s : Seats). IsCarried (wire.passed new.wire) (passed_of old.company.peers) s.seats.items new.askers.askers.items) (sym seats)
+        (carried_asked (wire.passed old.wire) (wire.passed new.wire) (passed_of old.company.peers) old.seats.seats.items old.askers.askers.items new.askers.askers.items others answered is)));
   }
 
   -- ---- as part of what is done
@@ -203,7 +218,7 @@ module _ {D W : Type 0} {disk : Ghosts D} (wire : OfWire W) where
       → Does disk [] (served_by wire old) (served_by wire new)
   unfolding still
   goes_with {such} {old} {new} replies is = (
-    still (served_by wire old) (served_by wire new) (ap (λ (m : LocalNode D disk). look_of m.station) is.member) is.log_failed is.sent is.told is.heard is.log is.seats is.sittings
+    still (served_by wire old) (served_by wire new) (ap (λ (m : LocalNode D disk). look_of m.station) is.member) is.log_failed is.sent is.bots is.heard is.log is.seats is.sittings
         (heard_either old.company.peers new.company.peers is.hears)
         (gives_weaker such (IsReply (look_of new.member.station)) old.askers.askers.items new.askers.askers.items replies is.asked) (carries is)
         (ap (λ (m : LocalNode D disk). m.is_started) is.member) (ap (λ (m : LocalNode D disk). m.terms) is.member) is.guests,
@@ -244,7 +259,7 @@ module _ {D W : Type 0} {disk : Ghosts D} (wire : OfWire W) where
     log = subst (λ (b : Bool). LogGains b three.log_failed (shown_log goes.since) (logged_in (wire.passed one.wire)) (logged_in three.passed)) is.log_failed
         (subst (λ (m : List ℕ). LogGains two.log_failed three.log_failed (shown_log goes.since) m (logged_in three.passed)) is.log goes.log);
     sent = goes.sent ∙ ap (λ (m : List Passage). m ++ frames_by goes.since) is.sent;
-    told = goes.told ∙ ap (λ (m : List Passage). m ++ lines_by goes.since) is.told;
+    bots = λ are. goes.bots (is.bots are);
     gained = goes.gained;
     seats = goes.seats ∙ ap (λ (m : List Passage). m ++ seats_of goes.gained) is.seats;
     heard = goes.heard ∙ ap (λ (m : List Passage). m ++ peers_of goes.gained) is.heard;
@@ -274,12 +289,12 @@ module _ {D W : Type 0} {disk : Ghosts D} (wire : OfWire W) where
   kept_only none is = let_go_so none (goes_kept is)
 
   -- what a call made was handed on, and then it was kept
-  pub hands_kept : {told : Told} {one : Served (Node D)} {two three : Desk D W disk} → HandsOn told one (served_by wire two) → IsKept wire two three → HandsOn told one (served_by wire three)
+  pub hands_kept : {told : Told} {one : Served (Node D)} {two three : Desk D W disk} → HandsOn disk told one (served_by wire two) → IsKept wire two three → HandsOn disk told one (served_by wire three)
   hands_kept {told} {one} {two} {three} hands is = record {
     log = subst (λ (b : Bool). LogGains one.log_failed b (added (map text_by told.shown)) (logged_in one.passed) (logged_in (wire.passed three.wire))) (sym is.log_failed)
         (subst (λ (m : List ℕ). LogGains one.log_failed two.log_failed (added (map text_by told.shown)) (logged_in one.passed) m) (sym is.log) hands.log);
     sent = is.sent ∙ hands.sent;
-    told = is.told ∙ hands.told;
+    bots = λ are. is.bots (hands.bots (subst (λ (m : LocalNode D disk). AreBotsOf disk (look_of m.station) one.bots) is.member are));
     seats = is.seats ∙ hands.seats;
     heard = is.heard ∙ hands.heard;
     guests = is.guests ∙ hands.guests;
@@ -289,20 +304,20 @@ module _ {D W : Type 0} {disk : Ghosts D} (wire : OfWire W) where
   }
 
   -- how bots are is of no account for that
-  pub settled : {told : Told} {one : Served (Node D)} (two : Desk D W disk) (sittings : Sittings) → HandsOn told one (served_by wire two) → HandsOn told one (served_by wire (record two { sittings = sittings }))
-  settled two sittings hands = record { log = hands.log; sent = hands.sent; told = hands.told; seats = hands.seats; heard = hands.heard; guests = hands.guests; hears = hands.hears; asked = hands.asked; carried = hands.carried }
+  pub settled : {told : Told} {one : Served (Node D)} (two : Desk D W disk) (sittings : Sittings) → HandsOn disk told one (served_by wire two) → HandsOn disk told one (served_by wire (record two { sittings = sittings }))
+  settled two sittings hands = record { log = hands.log; sent = hands.sent; bots = hands.bots; seats = hands.seats; heard = hands.heard; guests = hands.guests; hears = hands.hears; asked = hands.asked; carried = hands.carried }
 
   -- nor is the node that was called
-  pub of_any : {told : Told} {three : Served (Node D)} (one : Desk D W disk) (member : LocalNode D disk) → HandsOn told (served_by wire (record one { member = member })) three → HandsOn told (served_by wire one) three
-  of_any one member hands = record { log = hands.log; sent = hands.sent; told = hands.told; seats = hands.seats; heard = hands.heard; guests = hands.guests; hears = hands.hears; asked = hands.asked; carried = hands.carried }
+  pub of_any : {told : Told} {three : Served (Node D)} (one : Desk D W disk) (member : LocalNode D disk) → HandsOn disk told (served_by wire (record one { member = member })) three → HandsOn disk told (served_by wire one) three
+  of_any one member hands = record { log = hands.log; sent = hands.sent; bots = hands.bots; seats = hands.seats; heard = hands.heard; guests = hands.guests; hears = hands.hears; asked = hands.asked; carried = hands.carried }
 
   -- nothing was made
-  hands_nothing : {old new : Desk D W disk} → IsKept wire old new → HandsOn nothing_told (served_by wire old) (served_by wire new)
+  hands_nothing : {old new : Desk D W disk} → IsKept wire old new → HandsOn disk nothing_told (served_by wire old) (served_by wire new)
   hands_nothing {old} {new} is =
       hands_kept (record {
         log = nothing_shown old.log_failed (logged_in (wire.passed old.wire));
         sent = sym (append-nil (frames_of old.company.peers));
-        told = sym (append-nil (lines_of old.seats));
+        bots = λ are. are;
         seats = refl;
         heard = refl;
         guests = refl;
@@ -323,7 +338,7 @@ module _ {D W : Type 0} {disk : Ghosts D} (wire : OfWire W) where
   -- the node was called, but not given what the event is made of, and then its bot was let go of
   pub unstepped_then : (e : Event) (told : Told) (result : Option (Result (Unit {0}) NodeFault)) (old : Served (Node D)) (mid new : Desk D W disk) → IsGivenBy false result
       → IfSome result (λ answer. Acts disk e told answer old.look (look_of mid.member.station)) → (IsNone result → look_of mid.member.station ≡ old.look) → (IsNone result → told ≡ nothing_told)
-      → HandsOn told old (served_by wire mid) → mid.sittings ≡ old.sittings → IsKept wire mid new → Refuses e mid.sittings new.sittings → (old.started ≡ true → mid.member.is_started ≡ true)
+      → HandsOn disk told old (served_by wire mid) → mid.sittings ≡ old.sittings → IsKept wire mid new → Refuses e mid.sittings new.sittings → (old.started ≡ true → mid.member.is_started ≡ true)
       → mid.member.terms ≡ old.terms → Does disk (taken_for e) old (served_by wire new)
   unstepped_then e told result old mid new given acts same unmade hands sittings is refuses started terms =
       let look : look_of new.member.station ≡ look_of mid.member.station = ap (λ (m : LocalNode D disk). look_of m.station) is.member in

@@ -1,3 +1,5 @@
+pub mod Bots
+pub mod Owing
 pub mod Members
 pub mod Parts
 pub mod Showing
@@ -26,4 +28,5 @@ pub mod Others
 pub mod Counting
 pub mod Acting
 pub mod Coming
+pub mod Timing
 mod Examples

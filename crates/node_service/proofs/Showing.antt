@@ -5,7 +5,7 @@ use Rattle.stations.specs.Deeds.{Deed}
 use Rattle.node_wires.specs.Passages.{Passage, Began, Came, Wrote, Gave, Logged, logged_in, of_seat, seats_in}
 use Rattle.node_service.specs.Showing.{shown_log, LogGains}
 use Rattle.node_wires.specs.declared.line.Line.TheVariants.{Peer}
-use Rattle.node_service.specs.Handed.{frames_by, lines_by}
+use Rattle.node_service.specs.Handed.{frames_by}
 use Rattle.node_service.specs.Arriving.{Incoming, OfSeat, OfPeer, OfJoined, seats_of, peers_of, came_by}
 
 -- ---- what deeds showed and what came by them, those of earlier deeds first
@@ -21,10 +21,6 @@ came_by_both (deed ∷ later) earlier = simp (came_by_both later earlier, append
 pub frames_by_both : (later earlier : List Deed) → frames_by (later ++ earlier) ≡ frames_by earlier ++ frames_by later
 frames_by_both [] earlier = sym (append-nil (frames_by earlier))
 frames_by_both (deed ∷ later) earlier = simp (frames_by_both later earlier, append_assoc)
-
-pub lines_by_both : (later earlier : List Deed) → lines_by (later ++ earlier) ≡ lines_by earlier ++ lines_by later
-lines_by_both [] earlier = sym (append-nil (lines_by earlier))
-lines_by_both (deed ∷ later) earlier = simp (lines_by_both later earlier, append_assoc)
 
 pub seats_of_more : (xs ys : List Incoming) → seats_of (xs ++ ys) ≡ seats_of xs ++ seats_of ys
 seats_of_more [] ys = refl

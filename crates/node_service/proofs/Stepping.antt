@@ -18,7 +18,7 @@ use Rattle.stations.specs.Deeds.{Deed}
 use Rattle.stations.specs.Stations.{Look, Acts, deed_by, nothing, call}
 use Rattle.node_service.specs.Parts.{IsPartOf}
 use Rattle.node_service.specs.Showing.{added, LogGains}
-use Rattle.node_service.specs.Handed.{frame_handed, mark_handed, lines_handed}
+use Rattle.node_service.specs.Handed.{frame_handed, mark_handed}
 use Rattle.node_service.specs.Arriving.{incoming_in, seats_of, taken_for}
 use Rattle.node_service.specs.Calling.{MayBeGiven}
 use Rattle.node_service.specs.Logging.{StartedOnce}
@@ -28,6 +28,7 @@ use Rattle.node_service.specs.Fitting.{FitsFor}
 use Rattle.node_service.specs.Handing.{HandsOn}
 use Rattle.node_service.specs.Going.{Does}
 use Rattle.node_service.proofs.Asking.{none_gives}
+use Rattle.node_service.proofs.Bots.{had_then, bots_then}
 use Rattle.node_service.proofs.Welcoming.{hosts_none}
 use Rattle.node_service.proofs.Fitting.{fits_given, fits_refused}
 
@@ -71,7 +72,7 @@ same_frames node (frame ∷ frames) = ap (λ (m : List Passage). mark_handed fra
 module _ {D : Type 0} {g : Ghosts D} where
   -- an event was given to the node, and what it made of it was handed on
   stepped : (e : Event) (told : Told) (answer : Result (Unit {0}) NodeFault) (old new : Served (Node D)) → (answer ≡ Err OutOfMemory → ⊥) → Acts g e told answer old.look new.look
-      → HandsOn told old new
+      → HandsOn g told old new
       → Admits (runs old.look.node) e old.sittings → Settles e old.sittings new.sittings → MayBeGiven old.started e → (old.started ≡ true → new.started ≡ true) → new.terms ≡ old.terms → Does g (taken_for e) old new
   stepped e told answer old new was_given acts hands admitted settled may started terms =
       elim acts.gains as (λ _. Does g (taken_for e) old new) [
@@ -86,7 +87,7 @@ module _ {D : Type 0} {g : Ghosts D} where
             deeds = is;
             log = hands.log;
             sent = hands.sent ∙ ap (λ (m : List Passage). old.sent ++ m) (sym (same_frames _ told.frames));
-            told = hands.told;
+            bots = λ are. hands.bots (bots_then old.look new.look (had_then old.look new.look acts.config acts.number acts.given.stays.begun (deed_by (runs old.look.node) (front_in old.look.node) e told answer ∷ []) is) old.bots are);
             gained = [];
             seats = hands.seats ∙ sym (append-nil (seats_in old.passed));
             heard = hands.heard ∙ sym (append-nil old.heard);
@@ -115,7 +116,7 @@ module _ {D : Type 0} {g : Ghosts D} where
   -- none was given, and nothing made
   pub unstepped : (e : Event) (told : Told) (old new : Served (Node D)) → new.look.config ≡ old.look.config → new.look.number ≡ old.look.number
       → begun_of g new.look.node ≡ begun_of g old.look.node → new.look.deeds ≡ old.look.deeds → told ≡ nothing_told
-      → HandsOn told old new
+      → HandsOn g told old new
       → Refuses e old.sittings new.sittings → (old.started ≡ true → new.started ≡ true) → new.terms ≡ old.terms → Does g (taken_for e) old new
   unstepped e told old new config number begun deeds unmade hands refused started terms = (
     record {
@@ -127,7 +128,7 @@ module _ {D : Type 0} {g : Ghosts D} where
       deeds = deeds;
       log = subst (λ (t : Told). LogGains old.log_failed new.log_failed (added (map text_by t.shown)) (logged_in old.passed) (logged_in new.passed)) unmade hands.log;
       sent = subst (λ (t : Told). new.sent ≡ old.sent ++ map mark_handed t.frames) unmade hands.sent;
-      told = subst (λ (t : Told). new.told ≡ old.told ++ lines_handed (map text_by t.shown)) unmade hands.told;
+      bots = λ are. hands.bots (bots_then old.look new.look (had_then old.look new.look config number begun [] deeds) old.bots are);
       gained = [];
       seats = hands.seats ∙ sym (append-nil (seats_in old.passed));
       heard = hands.heard ∙ sym (append-nil old.heard);
@@ -150,7 +151,7 @@ module _ {D : Type 0} {g : Ghosts D} where
   -- by whether it was
   pub stepped_if_given : (e : Event) (told : Told) (result : Option (Result (Unit {0}) NodeFault)) (old new : Served (Node D)) → IsGivenBy true result
       → IfSome result (λ answer. Acts g e told answer old.look new.look)
-      → HandsOn told old new
+      → HandsOn g told old new
       → Admits (runs old.look.node) e old.sittings → Settles e old.sittings new.sittings → MayBeGiven old.started e → (old.started ≡ true → new.started ≡ true) → new.terms ≡ old.terms → Does g (taken_for e) old new
   stepped_if_given e told None old new given acts hands admitted settled may started terms = absurd given
   stepped_if_given e told (Some answer) old new given acts hands admitted settled may started terms =
@@ -158,7 +159,7 @@ module _ {D : Type 0} {g : Ghosts D} where
 
   pub unstepped_if_not : (e : Event) (told : Told) (result : Option (Result (Unit {0}) NodeFault)) (old new : Served (Node D)) → IsGivenBy false result
       → IfSome result (λ answer. Acts g e told answer old.look new.look) → (IsNone result → new.look ≡ old.look) → (IsNone result → told ≡ nothing_told)
-      → HandsOn told old new
+      → HandsOn g told old new
       → Refuses e old.sittings new.sittings → (old.started ≡ true → new.started ≡ true) → new.terms ≡ old.terms → Does g (taken_for e) old new
   unstepped_if_not e told None old new given acts same unmade hands refused started terms =
       let look : new.look ≡ old.look = same refl in

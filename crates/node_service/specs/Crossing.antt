@@ -22,20 +22,20 @@ use Rattle.node_service.specs.Served.{Served}
 abbrev pub AreCarried : (passed lines : List Passage) → Type 0
 AreCarried passed lines = (line : Line) → IsPeers line → (wrote_over passed line ≡ wrote_over lines line) × (came_over passed line ≡ came_over lines line)
 
--- so it is; what was written to each seat, with what waits for it, is made of whole lines that were told to it; to a guest of a seat nothing was written; and
+-- so it is; what was written to each seat, with what waits for it, is what its bot was told; to a guest of a seat nothing was written; and
 -- what was written to one who asks is a beginning of the line that he was given
-pub record IsCarried (passed lines told : List Passage) (bots : List Seat) (askers : List Asker) : Type 0 where
+pub record IsCarried (passed lines : List Passage) (bots : List Seat) (askers : List Asker) : Type 0 where
   pub peers : AreCarried passed lines
-  pub said : AreSaid passed told bots
+  pub said : AreSaid passed bots
   pub guests : (place : ℕ) → wrote_over passed (Guest place) ≡ []
   pub answered : AreAnswered passed askers
 
 abbrev pub Carries : {N : Type 0} → Served N → Type 0
-Carries served = IsCarried served.passed served.lines served.told served.bots served.askers
+Carries served = IsCarried served.passed served.lines served.bots served.askers
 
 -- so it is over wires over which nothing passed, where nothing was told, with seats and askers as they are made
 abbrev pub NewWiresCarry : Type 0
-NewWiresCarry = (bots : List Seat) (askers : List Asker) → AreSaid [] [] bots → AreAnswered [] askers → IsCarried [] [] [] bots askers
+NewWiresCarry = (bots : List Seat) (askers : List Asker) → AreSaid [] bots → AreAnswered [] askers → IsCarried [] [] bots askers
 
 -- over all lines the same came and was written
 pub record KeepsLines (old new : List Passage) : Type 0 where

@@ -7,7 +7,7 @@ use Rattle.dealer_node.specs.Nodes.{Node}
 use Rattle.stations.specs.Looking.{look_of}
 use Rattle.node_service.specs.declared.desk.Desk.{Desk}
 use Rattle.node_peers.specs.Peering.{own_of, passed_of, frames_of, heard_of}
-use Rattle.node_seats.specs.Telling.{lines_of}
+use Rattle.node_service.specs.Bots.{AreBotsOf}
 use Rattle.node_service.specs.Asking.{GivesOnly, IsNoLine}
 use Rattle.node_service.specs.Crossing.{Carries}
 use Rattle.node_service.specs.Company.{HearsOn}
@@ -23,7 +23,6 @@ module _ {D W : Type 0} {disk : Ghosts D} (wire : OfWire W) where
     passed = wire.passed desk.wire;
     log_failed = desk.log_failed;
     sent = frames_of desk.company.peers;
-    told = lines_of desk.seats;
     heard = heard_of desk.company.peers;
     sittings = desk.sittings;
     own = own_of desk.company.peers;
@@ -37,13 +36,13 @@ module _ {D W : Type 0} {disk : Ghosts D} (wire : OfWire W) where
   abbrev pub IsUntouched : Desk D W disk → Desk D W disk → Type 0
   IsUntouched old new = (wire.passed new.wire ≡ wire.passed old.wire) × ((passed_of new.company.peers ≡ passed_of old.company.peers) × ((new.seats ≡ old.seats) × (new.askers ≡ old.askers)))
 
-  -- the node isn't called, the log stays, nothing is handed to peers and told to seats, and nothing is taken of either; bots of seats may be let go of, and
+  -- the node isn't called, the log stays, nothing is handed to peers, and nothing is taken of them or of seats; bots of seats may be let go of, or told lines off tables of the node, and
   -- those who ask are given nothing but such lines; what crosses the wires goes by all of them as before
   pub record IsKeptWith (such : List ℕ → Type 0) (old new : Desk D W disk) : Type 0 where
     pub member : new.member ≡ old.member
     pub log_failed : new.log_failed ≡ old.log_failed
     pub sent : frames_of new.company.peers ≡ frames_of old.company.peers
-    pub told : lines_of new.seats ≡ lines_of old.seats
+    pub bots : AreBotsOf disk (look_of old.member.station) old.seats.seats.items → AreBotsOf disk (look_of new.member.station) new.seats.seats.items
     pub guests : new.seats.guests ≡ old.seats.guests
     pub heard : heard_of new.company.peers ≡ heard_of old.company.peers
     pub log : logged_in (wire.passed new.wire) ≡ logged_in (wire.passed old.wire)

@@ -1,11 +1,13 @@
 -- What a process knows of its peers and of the seat to act, and what is due by that.
-use Rattle.std.specs.Prelude.{◌≡◌, ℕ, zero, suc, ◌+◌, ◌-◌, ◌*◌, ◌%◌, ◌^◌, ◌==◌, ◌&&◌, not, min, max, nat_lt, nat_le, if◌then◌else◌, bit_and, slice_get, Bool, false, List, [], ◌∷◌, ◌++◌, length, Option, Some, None}
+use Rattle.std.specs.Prelude.{◌≡◌, ℕ, zero, suc, ◌+◌, ◌-◌, ◌*◌, ◌%◌, ◌^◌, ◌==◌, ◌&&◌, not, min, max, nat_lt, nat_le, if◌then◌else◌, bit_and, slice_get, Bool, true, false, List, [], ◌∷◌, ◌++◌, length, Option, Some, None}
 use Rattle.std.specs.Borrow.{Bor}
 use Rattle.promise_store.specs.declared.disk.Disk.{Ghosts}
 use Rattle.paxos_wire.specs.declared.ballot.Ballot.{Ballot}
 use Rattle.betting.specs.Rounds.{to_act, turns}
 use Rattle.game_def.specs.Game.{Game}
 use Rattle.slot_log.specs.Hand.{Hand, Match}
+use Rattle.slot_log.specs.declared.command.Command.{Command}
+use Rattle.slot_log.specs.declared.command.Command.TheVariants as command
 use Rattle.slot_log.specs.Dealer.{hand_at}
 use Rattle.node_rules.specs.Standings.{Standing, applied}
 use Rattle.dealer_node.specs.Nodes.{Node}
@@ -35,10 +37,11 @@ use Rattle.node_links.specs.Owing.{serves}
 use Rattle.node_links.specs.declared.owed.Question.{Question}
 use Rattle.node_peers.specs.Viewing.{view_of}
 use Rattle.node_peers.specs.declared.view.View.{View}
-use Rattle.node_seats.specs.Seating.{sits_at}
+use Rattle.node_seats.specs.Seating.{is_here_at}
 use Rattle.node_wires.specs.declared.wire.Wire.{Ghosts as OfWire}
 use Rattle.stations.specs.Looking.{look_of}
-use Rattle.node_service.specs.Serving.{nodes_of}
+use Rattle.node_service.specs.Serving.{nodes_of, ending_in}
+use Rattle.node_service.specs.declared.outcome.Outcome.TheVariants.{GoesOn}
 use Rattle.node_service.specs.Watching.{watch_at, was_taken, here_of, there_of}
 use Rattle.node_service.specs.declared.limits.TheConstants.{SEATS}
 use Rattle.node_service.specs.declared.peer_reports.LastReport.{LastReport}
@@ -111,6 +114,19 @@ pub record IsToAct {D : Type 0} (g : Ghosts D) (node : Node D) (seat : ℕ) : Ty
   pub is : (s : Standing) → IsSeen g node s → IsTableOf (member_in node).setting (applied s) table
   pub acts : seat_to_act table ≡ Some seat
 
+-- no seat is
+pub record IsNobodyToAct {D : Type 0} (g : Ghosts D) (node : Node D) : Type 0 where
+  pub table : Match
+  pub is : (s : Standing) → IsSeen g node s → IsTableOf (member_in node).setting (applied s) table
+  pub none : seat_to_act table ≡ None
+
+-- whether what waits is an act that a seat said itself
+abbrev pub is_own : Option Command → Bool
+is_own None = false
+is_own (Some (command.Deal hand deal)) = false
+is_own (Some (command.Act hand index action)) = true
+is_own (Some (command.Away hand index)) = false
+
 -- ---- what is due
 
 module _ {D W : Type 0} {disk : Ghosts D} {wire : OfWire W} where
@@ -144,9 +160,13 @@ module _ {D W : Type 0} {disk : Ghosts D} {wire : OfWire W} where
     pub all : others.now ≡ others_of server
     pub due : due_of (known_of server.watch (number_of server) others (moment_of server)) ≡ Now
 
-  -- whether a bot sits here at a seat
+  -- how many seats the match has
+  abbrev pub players_of : NodeServer D W disk wire → ℕ
+  players_of server = (look_of server.desk.member.station).config.setting.game.players
+
+  -- whether a bot sits here at a seat, that doesn't still wait for the line that it named
   abbrev pub sits_here : NodeServer D W disk wire → ℕ → Bool
-  sits_here server seat = nat_lt seat SEATS && sits_at server.desk.seats.seats.items seat
+  sits_here server seat = nat_lt seat SEATS && is_here_at server.desk.seats.seats.items seat
 
   -- whether one does at a peer, as far as that is there and has told
   abbrev pub sits_at_peer : NodeServer D W disk wire → ℕ → ℕ → ℕ → Bool
@@ -201,12 +221,25 @@ module _ {D W : Type 0} {disk : Ghosts D} {wire : OfWire W} where
     nodes = nodes_of server;
   }
 
-  -- this is what it knows of this seat, which is to act, in a match in which one that does nothing is played for
+  -- this is what it knows of this seat, which is to act, in a match in which one that does nothing is played for, in a turn in which it read what came of seats
   pub record IsExpected (server : NodeServer D W disk wire) (seat : ℕ) (expected : Expected) : Type 0 where
     pub patience : ℕ
     pub most : server.desk.member.terms.patience ≡ Some patience
     pub acts : IsToAct disk (look_of server.desk.member.station).node seat
+    pub heard : server.has_read_seats ≡ true
     pub is : expected ≡ expected_of server seat patience
+
+  -- an act that a seat said itself waits at its node
+  abbrev pub HasOwnAct : NodeServer D W disk wire → Type 0
+  HasOwnAct server = (s : Standing) → IsSeen disk (look_of server.desk.member.station).node s → is_own s.pending ≡ true
+
+  -- nobody is played for: the process is to end, what came of seats wasn't read, an own act waits, nobody is in this match, or no seat is to act
+  pub data IsNobodyExpected (server : NodeServer D W disk wire) : Type 0 where
+    ends : (ending_in server ≡ GoesOn → ⊥) → IsNobodyExpected server
+    unread : server.has_read_seats ≡ false → IsNobodyExpected server
+    acted : HasOwnAct server → IsNobodyExpected server
+    patient : server.desk.member.terms.patience ≡ None → IsNobodyExpected server
+    idle : IsNobodyToAct disk (look_of server.desk.member.station).node → IsNobodyExpected server
 
   -- that the seat to act is played for is due by what it knows
   pub record IsAwayDue (server : NodeServer D W disk wire) : Type 0 where

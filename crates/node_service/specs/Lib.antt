@@ -8,6 +8,7 @@ pub mod Sittings
 pub mod Sessions
 pub mod Calling
 pub mod Served
+pub mod Bots
 pub mod Called
 pub mod Ending
 pub mod Logging
@@ -24,8 +25,10 @@ pub mod Desks
 pub mod Serving
 pub mod WrongTokens
 pub mod Others
+pub mod Awaiting
 pub mod Acts
 pub mod Watching
 pub mod Following
 pub mod Knowing
+pub mod Timing
 pub mod Meaning

@@ -10,7 +10,7 @@ use Rattle.node_service.specs.declared.sitting.Sittings.{Sittings}
 use Rattle.node_service.specs.declared.terms.Terms.{Terms}
 
 -- its station, whether that was started, and the terms of its match; what passed over its wires, whether its log couldn't be written; the frames that were handed
--- to its peers, the lines that were told to its seats, and what was told of its peers, each in order; how the bots of its seats are; whose peers it has, and
+-- to its peers, and what was told of its peers, each in order; how the bots of its seats are; whose peers it has, and
 -- what passed over their lines, as they put it down; and its seats, who came to their ports and hasn't shown a token yet, and those who ask how it is
 pub record Served (N : Type 0) : Type 0 where
   pub look : Look N
@@ -19,7 +19,6 @@ pub record Served (N : Type 0) : Type 0 where
   pub passed : List Passage
   pub log_failed : Bool
   pub sent : List Passage
-  pub told : List Passage
   pub heard : List Passage
   pub sittings : Sittings
   pub own : Own

@@ -1,30 +1,31 @@
 //! A node's process at its wires: each call of the node, and what it made handed on.
 
-ghost use Rattle.std.specs.Prelude.{◌≡◌, ◌<◌, List, [], ◌∷◌, ◌++◌, map, IfSome};
+ghost use Rattle.std.specs.Prelude.{◌≡◌, [], ◌∷◌, ◌++◌, true, false, map, IfSome};
 ghost use Rattle.dealer_world.specs.Calls.{added_by};
 ghost use Rattle.dealer_world.specs.KeptShown.{reader_by};
 ghost use Rattle.dealer_world.specs.Recordings.{text_by};
 ghost use Rattle.node_peers.specs.Hearing.{IsTold};
 ghost use Rattle.node_peers.specs.Peering.{own_of, passed_of, frames_of, heard_of, Keeps};
 ghost use Rattle.node_peers.specs.Sending.{Sends};
-ghost use Rattle.node_seats.specs.Seating.{Tells};
 ghost use Rattle.node_seats.specs.Pieces.{IsPieceOf};
 ghost use Rattle.node_seats.specs.declared.limits.TheConstants.{PIECE};
-ghost use Rattle.node_seats.specs.Telling.{lines_of, AreSaid};
+ghost use Rattle.node_seats.specs.Seating.{bot_at, waits_at, sits_at, KeepsOtherBots};
+ghost use Rattle.stations.specs.Looking.{look_of};
 ghost use Rattle.node_wires.specs.declared.line.Line.TheVariants.{Peer};
-ghost use Rattle.node_wires.specs.Passages.{Passage, Wrote, logged_in, seats_in};
-ghost use Rattle.protocol_model.specs.Dealers.{Seat as OfSeat};
+ghost use Rattle.node_wires.specs.Passages.{Wrote, logged_in, seats_in};
 ghost use Rattle.node_service.specs.Showing.{added, LogGains};
 ghost use Rattle.node_service.specs.Telling.{told_by, incoming_by};
 ghost use Rattle.node_service.specs.Company.{HearsOn};
 ghost use Rattle.node_service.specs.Sittings.{seat_in, Loosens, Frees, Refuses};
-ghost use Rattle.node_service.specs.Handed.{mark_handed, line_handed, lines_handed};
+ghost use Rattle.node_service.specs.Handed.{mark_handed};
 ghost use Rattle.node_service.specs.Crossing.{KeepsLines};
 ghost use Rattle.node_service.specs.Handing.{HandsOn};
+ghost use Rattle.node_service.specs.Bots.{IsServedAt, AreServed};
 
 use crate::company::Company;
 use crate::limits::{LONG, SEATS};
 use crate::local_node::LocalNode;
+use crate::seat_lines::{bit_of, owes, refuse, tell_all, tell_bot};
 use crate::sitting::Sittings;
 use dealer_node::{Out, Reader};
 use dealer_world::Event;
@@ -63,19 +64,17 @@ impl<D: Disk + Drop, W: Wire + Drop> Drop for Desk<D, W> {
     }
 }
 
-/// The bit of a seat; none of a number that no seat has.
-fn bit_of(seat: u8) -> u16 {
-    if seat < SEATS { 1 << seat } else { 0 }
-}
-
-/// Whether a bot sits at a seat whose session is ready, and nothing waits for it.
+/// Whether a bot sits at a seat whose session is ready, and it has been told all: its lines up to the newest, or why there are
+/// none; and nothing waits for it.
 pub(crate) fn has_been_told<D: Disk + Drop>(
     member: &LocalNode<D>,
     seats: &Seats,
     seat: u8,
 ) -> bool {
-    let bits = seats.bits() & bit_of(seat);
-    bits != 0 && member.is_connected(seat) && seats.backlog(seat) == 0
+    seats.sits(seat as usize)
+        && member.is_connected(seat)
+        && seats.backlog(seat) == 0
+        && !owes(member, seats, seat)
 }
 
 /// The seat whose bot is let go of where this isn't given to the node.
@@ -130,17 +129,6 @@ fn send_all(made: &Out, company: &mut Company, now: u64)
     }
 }
 
-/// Tells a line to the seats. False where who sits there is to be let go of, since he reads too little: then the line isn't
-/// kept for him.
-fn tell(seat: usize, line: &[u8], seats: &mut Seats) -> bool
-    ensures told { lines_of seats.new ≡ lines_of seats.old ++ line_handed (OfSeat seat) line.now }
-    ensures guests { seats.new.guests ≡ seats.old.guests }
-    ensures tells { seat < SEATS → Tells seat line.now result seats.old.seats.items seats.new.seats.items }
-    ensures said { (passed : List Passage) → AreSaid passed (lines_of seats.old) seats.old.seats.items → AreSaid passed (lines_of seats.new) seats.new.seats.items }
-{
-    seat >= SEATS as usize || seats.tell(seat as u8, line)
-}
-
 /// Puts text into the log, unless that has failed before.
 fn log<W: Wire>(wire: &mut W, log_failed: &mut bool, text: &[u8])
     ensures log { LogGains log_failed.old log_failed.new text.now (logged_in (W.passed wire.old)) (logged_in (W.passed wire.new)) }
@@ -159,51 +147,27 @@ fn log<W: Wire>(wire: &mut W, log_failed: &mut bool, text: &[u8])
     }
 }
 
-/// Hands a text on to its reader. It says which seat is to be let go of for it.
-fn show<W: Wire>(
-    reader: Reader,
-    text: &[u8],
-    wire: &mut W,
-    seats: &mut Seats,
-    log_failed: &mut bool,
-) -> u16
+/// Hands a text on that is for the log. What a seat is shown it is told off the table.
+fn show<W: Wire>(reader: Reader, text: &[u8], wire: &mut W, log_failed: &mut bool)
     ensures log { LogGains log_failed.old log_failed.new (added_by (reader_by reader) text.now) (logged_in (W.passed wire.old)) (logged_in (W.passed wire.new)) }
     ensures seats { seats_in (W.passed wire.new) ≡ seats_in (W.passed wire.old) }
-    ensures told { lines_of seats.new ≡ lines_of seats.old ++ line_handed (reader_by reader) text.now }
-    ensures guests { seats.new.guests ≡ seats.old.guests }
     ensures lines { KeepsLines (W.passed wire.old) (W.passed wire.new) }
-    ensures said { AreSaid (W.passed wire.old) (lines_of seats.old) seats.old.seats.items → AreSaid (W.passed wire.new) (lines_of seats.new) seats.new.seats.items }
 {
     match reader {
-        Reader::Seat(seat) => {
-            if tell(seat, text, seats) || seat >= SEATS as usize {
-                0
-            } else {
-                bit_of(seat as u8)
-            }
-        }
-        Reader::Log => {
-            log(wire, log_failed, text);
-            0
-        }
+        Reader::Seat(_) => (),
+        Reader::Log => log(wire, log_failed, text),
     }
 }
 
-/// Hands on what a call showed, in order: text into the log, unless that has failed, and lines to seats. It says which
-/// seats are to be let go of.
-fn show_all<W: Wire>(made: &Out, wire: &mut W, seats: &mut Seats, log_failed: &mut bool) -> u16
+/// Hands on what a call showed to the log, in order, unless that has failed.
+fn show_all<W: Wire>(made: &Out, wire: &mut W, log_failed: &mut bool)
     ensures log { LogGains log_failed.old log_failed.new (added (map text_by made.now.shown)) (logged_in (W.passed wire.old)) (logged_in (W.passed wire.new)) }
     ensures seats { seats_in (W.passed wire.new) ≡ seats_in (W.passed wire.old) }
-    ensures told { lines_of seats.new ≡ lines_of seats.old ++ lines_handed (map text_by made.now.shown) }
-    ensures guests { seats.new.guests ≡ seats.old.guests }
     ensures lines { KeepsLines (W.passed wire.old) (W.passed wire.new) }
-    ensures said { AreSaid (W.passed wire.old) (lines_of seats.old) seats.old.seats.items → AreSaid (W.passed wire.new) (lines_of seats.new) seats.new.seats.items }
 {
-    let mut deaf = 0u16;
     for (reader, text) in made.shown() {
-        deaf |= show(reader, text, wire, seats, log_failed);
+        show(reader, text, wire, log_failed);
     }
-    deaf
 }
 
 impl<D: Disk + Drop, W: Wire + Drop> Desk<D, W> {
@@ -221,21 +185,17 @@ impl<D: Disk + Drop, W: Wire + Drop> Desk<D, W> {
         }
     }
 
-    /// Hands on what the last call made, in order. It says which seats are to be let go of, a bit each: those that read too
-    /// little.
+    /// Hands on what the last call made, in order, and tells seats what there is to tell since. It says which seats are to be let
+    /// go of, a bit each: those that something couldn't be told, for want of memory.
     pub(crate) fn hand_on(&mut self) -> u16
         ensures member { self.new.member ≡ self.old.member }
         ensures sittings { self.new.sittings ≡ self.old.sittings }
-        ensures hands { HandsOn self.old.member.made (served_by W.Wire self.old) (served_by W.Wire self.new) }
+        ensures hands { HandsOn D.Disk self.old.member.made (served_by W.Wire self.old) (served_by W.Wire self.new) }
     {
         let now = self.wire.now();
         send_all(self.member.made(), &mut self.company, now);
-        show_all(
-            self.member.made(),
-            &mut self.wire,
-            &mut self.seats,
-            &mut self.log_failed,
-        )
+        show_all(self.member.made(), &mut self.wire, &mut self.log_failed);
+        tell_all(&self.member, &mut self.seats)
     }
 
     /// Peers are told from now on what the node has promised.
@@ -312,6 +272,8 @@ impl<D: Disk + Drop, W: Wire + Drop> Desk<D, W> {
     pub(crate) fn hang_up(&mut self, seat: u8)
         ensures kept { IsKept W.Wire self.old self.new }
         ensures freed { Frees seat self.old.sittings self.new.sittings }
+        ensures gone { sits_at self.new.seats.seats.items seat ≡ false }
+        ensures others { KeepsOtherBots seat self.old.seats.seats.items self.new.seats.seats.items }
     {
         let _ = self.seats.hang_up(&mut self.wire, seat);
         self.sittings.let_go(seat);
@@ -337,6 +299,43 @@ impl<D: Disk + Drop, W: Wire + Drop> Desk<D, W> {
         for seat in 0..SEATS {
             self.hang_up_of(bits, seat);
         }
+    }
+
+    /// Tells the bot of a seat what there is to tell. False without memory for that.
+    fn tell_bot(&mut self, seat: u8) -> bool
+        ensures kept { IsKept W.Wire self.old self.new }
+        ensures served { result ≡ true → IsServedAt D.Disk (look_of self.old.member.station) seat (bot_at self.new.seats.seats.items seat) (waits_at self.new.seats.seats.items seat) }
+        ensures others { KeepsOtherBots seat self.old.seats.seats.items self.new.seats.seats.items }
+    {
+        tell_bot(&self.member, &mut self.seats, seat)
+    }
+
+    /// The same. A bot that something can't be told, for want of memory, is let go of.
+    fn tell_seat(&mut self, seat: u8)
+        ensures kept { IsKept W.Wire self.old self.new }
+        ensures served { IsServedAt D.Disk (look_of self.old.member.station) seat (bot_at self.new.seats.seats.items seat) (waits_at self.new.seats.seats.items seat) }
+        ensures others { KeepsOtherBots seat self.old.seats.seats.items self.new.seats.seats.items }
+    {
+        if !self.tell_bot(seat) {
+            self.hang_up(seat);
+        }
+    }
+
+    /// Tells seats what there is to tell. A bot that something can't be told, for want of memory, is let go of.
+    pub(crate) fn tell_seats(&mut self)
+        ensures kept { IsKept W.Wire self.old self.new }
+        ensures served { AreServed D.Disk (look_of self.new.member.station) self.new.seats.seats.items }
+    {
+        for seat in 0..self.member.players() {
+            self.tell_seat(seat);
+        }
+    }
+
+    /// Tells the bot of a seat to which no line was told that the line that it named is none, where the table still hasn't it.
+    pub(crate) fn refuse_line(&mut self, seat: u8)
+        ensures { IsKept W.Wire self.old self.new }
+    {
+        let _ = refuse(&self.member, &mut self.seats, seat);
     }
 
     /// Writes what waits for seats. It says whether there are more whose connection may have ended.
@@ -387,10 +386,12 @@ impl<D: Disk + Drop, W: Wire + Drop> Desk<D, W> {
         self.wire.flush();
     }
 
-    /// Writes what waits for peers, seats and those who asked, and first tells peers how the node is, where that is due.
+    /// Writes what waits for peers, seats and those who asked, and first tells seats what there is to tell, and peers how the node
+    /// is, where that is due.
     pub(crate) fn speak(&mut self, told: OwnReport, now: u64)
         ensures { IsKept W.Wire self.old self.new }
     {
+        self.tell_seats();
         self.write_to_peers(told, now);
         self.flush();
         self.write_to_askers(now);

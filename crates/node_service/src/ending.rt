@@ -82,7 +82,7 @@ impl<D: Disk + Drop, W: Wire + Drop> NodeServer<D, W> {
             return false;
         };
         let are_seats_done = passed >= END_READ
-            || (self.desk.seats.bits() == 0 && self.desk.sittings.first_let_go().is_none());
+            || (!self.desk.seats.is_any_taken() && self.desk.sittings.first_let_go().is_none());
         passed >= TOLD
             && are_seats_done
             && self.desk.member.is_over()

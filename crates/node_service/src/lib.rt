@@ -3,7 +3,8 @@
 //! `NodeServer::new` takes a station, the wires of the process, its peers, seats and askers; `start` starts the node; then
 //! `turn` again and again, until it answers that the match is over or that the process is to end. A turn waits once, and
 //! reads what peers sent; then each thing that came is one call of the station, in order, and what a call made is handed on
-//! before the next: frames to peers, text into the log, lines to seats. Calls are made for 20 ms at most; the rest is kept.
+//! before the next: frames to peers, text into the log. Seats are told the lines of their seats off the table of the node, each
+//! from the line on from which its bot asked to be. Calls are made for 20 ms at most; the rest is kept.
 //! Then the node ticks where `clockwork` says so, and the seat to act is played for; whoever asks how the node is gets one
 //! line. Between turns `notice` tells what a note is to be made of.
 //!
@@ -11,6 +12,7 @@
 //! log has is what the node showed to it.
 #![tactic(auto)]
 
+mod awaited_lines;
 mod company;
 mod deals;
 mod desk;
@@ -25,6 +27,7 @@ mod outcome;
 mod peer_reports;
 mod rate;
 mod seat_acts;
+mod seat_lines;
 mod seat_watches;
 mod server;
 mod server_notice;

@@ -23,6 +23,19 @@ pub const WAITING: u64 = 5_000_000;
 /// and again each time that so long has passed.
 pub const WAITING_AGAIN: u64 = 60_000_000;
 
+/// A bot may wait so long for the line that it named, to which the match hasn't come here.
+pub const LINE_WAIT: u64 = 256_000_000;
+
+/// So long after a bot came, a node has heard of its peers how many commands they had applied when it came.
+pub const SETTLED: u64 = 2_000_000;
+
+/// So long after a node got a quorum, its match may still be replayed: it learns again what was chosen before.
+pub const REPLAYED: u64 = 30_000_000;
+
+/// A line that some node has shown is one of so many commands at most behind those that a node of each quorum has applied: a
+/// ballot proposes no command further ahead.
+pub const LINE_AHEAD: u32 = 64;
+
 /// Once so long has passed it is told which seats haven't come yet, and again each time that so long has passed.
 pub const MISSING: u64 = 60_000_000;
 

@@ -1,8 +1,14 @@
 //! The node of a process, and what its last call made.
 
-ghost use Rattle.std.specs.Prelude.{◌≡◌, true, false, Some, None, IfSome, IsSome, IsNone};
+ghost use Rattle.std.specs.Prelude.{◌≡◌, ◌<◌, ◌≤◌, true, false, Some, None, IfSome, IsSome, IsNone};
 ghost use Rattle.dealer_node.specs.Outs.{nothing_told};
+ghost use Rattle.dealer_node.specs.Seeing.{IsSeen, member_in};
+ghost use Rattle.node_rules.specs.Standings.{Standing};
+ghost use Rattle.node_rules.specs.Showing.{is_connected as is_talk_ready};
+ghost use Rattle.node_rules.specs.Seats.{session_at};
 ghost use Rattle.stations.specs.Stations.{Acts};
+ghost use Rattle.node_service.specs.Bots.{OfTable};
+ghost use Rattle.node_service.specs.declared.limits.TheConstants.{SEATS as COUNT};
 ghost use Rattle.node_service.specs.Calling.{MayBeGiven};
 ghost use Rattle.node_service.specs.Called.{started_by, started_after, Calls};
 ghost use Rattle.node_service.specs.Sittings.{IsGivenBy};
@@ -245,10 +251,22 @@ impl<D: Disk + Drop> LocalNode<D> {
     }
 
     /// Whether a seat's session is ready.
-    pub fn is_connected(&self, seat: u8) -> bool {
+    pub fn is_connected(&self, seat: u8) -> bool
+        ensures { (s : Standing) → IsSeen D.Disk (look_of self.now.station).node s → seat < (member_in (look_of self.now.station).node).setting.game.players → is_talk_ready (session_at s.sessions seat) ≡ true → result ≡ true }
+    {
         self.station.limits();
         let players = self.station.config().game().players();
         (seat as usize) < players && self.station.node().connected(seat as usize)
+    }
+
+    /// How many seats the match has.
+    pub(crate) fn players(&self) -> u8
+        ensures all { OfTable D.Disk (look_of self.now.station) (λ table. table.game.players ≤ result) }
+        ensures most { result ≤ COUNT }
+    {
+        let game = self.node().table().game();
+        game.limits();
+        game.players() as u8
     }
 
     /// Its number, counted from 0.

@@ -1,6 +1,6 @@
 //! What is kept of each seat: where it sits, since when it is waited for, and whether it is given up.
 
-ghost use Rattle.std.specs.Prelude.{◌≡◌, ◌<◌, ℕ};
+ghost use Rattle.std.specs.Prelude.{◌≡◌, ◌<◌, ℕ, false};
 ghost use Rattle.clockwork.specs.SeatWatches.{seat_of, looked_at};
 ghost use Rattle.node_service.specs.declared.limits.TheConstants.{SEATS as COUNT};
 ghost use Rattle.node_service.specs.Watching.{watch_at, was_taken, here_of, there_of, seen_at_node, IsOfSeat, IsTakenAt, have_come_below};
@@ -104,7 +104,8 @@ impl SeatWatches {
 
     /// Who took a seat before was looked at.
     pub(crate) fn end_look(&mut self)
-        ensures { self.new ≡ record self.old { taken = self.new.taken } }
+        ensures same { self.new ≡ record self.old { taken = self.new.taken } }
+        ensures taken { (seat : ℕ) → was_taken self.new seat ≡ false }
     {
         self.taken = [false; PLACES];
     }

@@ -1,14 +1,15 @@
 //! The turns of a node's process.
 
-ghost use Rattle.std.specs.Prelude.{◌≡◌, ◌≤◌, ◌∷◌, [], true, false, None, IfSome, IsNone};
+ghost use Rattle.std.specs.Prelude.{◌≡◌, ◌≤◌, ◌∷◌, ℕ, [], true, false, None, IfSome, IsNone};
 ghost use Rattle.dealer_node.specs.Seeing.{runs};
 ghost use Rattle.clockwork.specs.declared.limits.TheConstants.{MOST_SILENT as MOST};
 ghost use Rattle.node_links.specs.declared.limits.TheConstants.{LOOK};
 ghost use Rattle.node_service.specs.Arriving.{taken_for};
 ghost use Rattle.node_service.specs.declared.limits.TheConstants.{SEATS as COUNT};
 ghost use Rattle.node_peers.specs.Peering.{own_of, passed_of, frames_of, heard_of};
-ghost use Rattle.node_seats.specs.Telling.{lines_of};
+ghost use Rattle.node_seats.specs.Seating.{bot_at, no_bot};
 ghost use Rattle.node_service.specs.Crossing.{IsCarried, Carries};
+ghost use Rattle.node_service.specs.Bots.{AreBotsOf, AreServed};
 ghost use Rattle.node_service.specs.Company.{IsShown};
 ghost use Rattle.node_service.specs.Called.{Calls};
 ghost use Rattle.node_service.specs.Ending.{is_well, IsFault, IsOverAt};
@@ -16,11 +17,12 @@ ghost use Rattle.node_service.specs.Logging.{IsFresh, IsBegun, HasOneLog, IsAcce
 ghost use Rattle.node_service.specs.Fitting.{Fits};
 ghost use Rattle.node_service.specs.declared.outcome.Outcome.TheVariants.{GoesOn as Further, Over as IsOver};
 
+use crate::awaited_lines::AwaitedLines;
 use crate::company::Company;
 use crate::deals::read_deals;
 use crate::desk::Desk;
 use crate::lasting::Lasting;
-use crate::limits::{NODES, SEATS};
+use crate::limits::NODES;
 use crate::local_node::LocalNode;
 use crate::noting::seen_of;
 use crate::outcome::Outcome;
@@ -64,6 +66,8 @@ pub struct NodeServer<D: Disk + Drop, W: Wire + Drop> {
     pub(crate) opening: Opening,
     pub(crate) waking: Waking,
     pub(crate) rate: Rate,
+    /// What came of seats was read in this turn.
+    pub(crate) has_read_seats: bool,
     /// How long a peer may be silent and still counts as present.
     pub(crate) silence: u64,
     /// When it was last looked at what is due; and by what was known then: whether the node learns what was chosen before, and
@@ -81,6 +85,7 @@ pub struct NodeServer<D: Disk + Drop, W: Wire + Drop> {
     pub(crate) leader: Option<Ballot>,
     pub(crate) is_started: bool,
     pub(crate) wrong_tokens: WrongTokens,
+    pub(crate) awaited_lines: AwaitedLines,
     /// The peers are those of another node: nothing is done.
     is_foreign: bool,
     /// The match was over here, and each peer knew or was gone: the process ends well.
@@ -102,6 +107,7 @@ impl<D: Disk + Drop, W: Wire + Drop> Drop for NodeServer<D, W> {
             opening: _,
             waking: _,
             rate: _,
+            has_read_seats: _,
             silence: _,
             looked: _,
             replays: _,
@@ -113,6 +119,7 @@ impl<D: Disk + Drop, W: Wire + Drop> Drop for NodeServer<D, W> {
             leader: _,
             is_started: _,
             wrong_tokens: _,
+            awaited_lines: _,
             is_foreign: _,
             is_over: _,
         } = self;
@@ -125,7 +132,8 @@ impl<D: Disk + Drop, W: Wire + Drop> NodeServer<D, W> {
     ghost use Rattle.node_service.specs.Turns.{IsTurn};
     ghost use Rattle.node_service.specs.Serving.{served_of, told_in, station_of, outcome_in, ending_in, fault_in, look_in, nodes_of};
     ghost use Rattle.node_service.specs.Meaning.{IsMeant, IsKnownEverywhere};
-    ghost use Rattle.node_service.specs.Knowing.{MayCall};
+    ghost use Rattle.node_service.specs.Knowing.{MayCall, players_of};
+    ghost use Rattle.node_service.specs.Timing.{marked_at};
 
     /// The process of this member, by these terms. Nothing is done yet. Where the peers are those of another node nothing ever
     /// is.
@@ -146,9 +154,9 @@ impl<D: Disk + Drop, W: Wire + Drop> NodeServer<D, W> {
         ensures own { (served_of result).own ≡ own_of peers }
         ensures lines { (served_of result).lines ≡ passed_of peers }
         ensures sent { (served_of result).sent ≡ frames_of peers }
-        ensures lines_told { (served_of result).told ≡ lines_of seats }
         ensures heard { (served_of result).heard ≡ heard_of peers }
-        ensures carried { IsCarried (W.passed wire) (passed_of peers) (lines_of seats) seats.seats.items askers.askers.items → Carries (served_of result) }
+        ensures carried { IsCarried (W.passed wire) (passed_of peers) seats.seats.items askers.askers.items → Carries (served_of result) }
+        ensures bots { ((seat : ℕ) → bot_at seats.seats.items seat ≡ no_bot) → AreBotsOf D.Disk (look_in result) (served_of result).bots }
         ensures peers { outcome_in result ≡ Further → (own_of peers).number ≡ (look_in result).number }
         ensures further { (own_of peers).number ≡ (look_in result).number → member.fault ≡ None → outcome_in result ≡ Further }
         ensures started { (served_of result).started ≡ member.is_started }
@@ -179,6 +187,7 @@ impl<D: Disk + Drop, W: Wire + Drop> NodeServer<D, W> {
             opening: Opening::new(),
             waking: Waking::new(),
             rate: Rate::new(seen.front, now),
+            has_read_seats: false,
             silence: SHORTEST,
             looked: now,
             replays: false,
@@ -190,6 +199,7 @@ impl<D: Disk + Drop, W: Wire + Drop> NodeServer<D, W> {
             leader: None,
             is_started: false,
             wrong_tokens: WrongTokens::new(),
+            awaited_lines: AwaitedLines::new(),
             is_foreign,
             is_over: false,
         }
@@ -240,10 +250,12 @@ impl<D: Disk + Drop, W: Wire + Drop> NodeServer<D, W> {
 
     /// How many seats the match has, as many as there may be at most.
     pub(crate) fn players(&self) -> u8
-        ensures { result ≤ COUNT }
+        ensures value { result ≡ players_of self.now }
+        ensures most { result ≤ COUNT }
     {
-        let players = self.desk.member.station().config().game().players();
-        players.min(SEATS as usize) as u8
+        let game = self.desk.member.station().config().game();
+        game.limits();
+        game.players() as u8
     }
 
     /// The wires of the process.
@@ -389,13 +401,18 @@ impl<D: Disk + Drop, W: Wire + Drop> NodeServer<D, W> {
         answer
     }
 
-    /// What went by since the last mark beyond calls of the node and a wait of so long: where that is long the process slept. So
-    /// every moment of a process lies between two marks.
+    /// What went by since the last mark beyond calls of the node and a wait of so long: where that is long the process slept. It
+    /// counts for the table as it stands now. So every moment of a process lies between two marks.
     pub(crate) fn mark(&mut self, now: u64, most: u64)
-        ensures { self.new.desk ≡ self.old.desk }
+        ensures kept { self.new.desk ≡ self.old.desk }
+        ensures waking { self.new.waking ≡ marked_at self.old now most }
+        ensures marked { self.new.marked ≡ now }
+        ensures in_calls { self.new.in_calls ≡ 0 }
     {
         let went_by = now.saturating_sub(self.marked);
         let lost = went_by.saturating_sub(self.in_calls).saturating_sub(most);
+        let stood = self.stood();
+        self.waking.stand(stood);
         self.waking.pass(lost);
         self.marked = now;
         self.in_calls = 0;
@@ -404,7 +421,8 @@ impl<D: Disk + Drop, W: Wire + Drop> NodeServer<D, W> {
     /// Waits for so long at most. What goes by beyond that since the last turn isn't counted as silence.
     /// Where it is long the process slept.
     pub(crate) fn wait(&mut self, most: u64) -> u64
-        ensures { IsKept W.Wire self.old.desk self.new.desk }
+        ensures kept { IsKept W.Wire self.old.desk self.new.desk }
+        ensures waking { self.new.waking ≡ marked_at self.old result most }
     {
         self.desk.wait(most);
         let now = self.desk.now();
@@ -427,8 +445,8 @@ impl<D: Disk + Drop, W: Wire + Drop> NodeServer<D, W> {
             .min(self.lasting.wait(now))
     }
 
-    /// The process ends in the middle of a turn. A peer that keeps another life of the node's store is answered before.
-    pub(crate) fn part(&mut self)
+    /// A peer that keeps another life of the node's store is answered before the process ends.
+    fn answer_replaced(&mut self)
         ensures { IsKept W.Wire self.old.desk self.new.desk }
     {
         if self.desk.company.is_replaced() {
@@ -437,10 +455,21 @@ impl<D: Disk + Drop, W: Wire + Drop> NodeServer<D, W> {
         }
     }
 
+    /// The process ends in the middle of a turn.
+    pub(crate) fn part(&mut self)
+        ensures kept { IsKept W.Wire self.old.desk self.new.desk }
+        ensures served { AreServed D.Disk (look_in self.new) (served_of self.new).bots }
+    {
+        self.answer_replaced();
+        self.desk.tell_seats();
+    }
+
     /// One turn: waits for so many microseconds at most, takes what came, and does what is due. It answers what is left to
     /// do, and how long the next turn may wait. Once the process is to end nothing is done.
     ///
-    /// What peers told is taken first, and then of each seat one piece of 512 bytes at most.
+    /// What peers told is taken first, and then of each seat one piece of 512 bytes at most. Behind a turn that goes on each bot
+    /// whose session is ready was told all lines to which the node's table has come, or 64 KiB wait for it; or it waits for the
+    /// line that it named.
     pub fn turn(&mut self, alloc: Global, most: u64) -> (Outcome, u64)
         ensures goes { GoesOn D.Disk [] (served_of self.old) (served_of self.new) }
         ensures lives { GoesOnToLife D.Disk (served_of self.old) (served_of self.new) }
@@ -452,6 +481,7 @@ impl<D: Disk + Drop, W: Wire + Drop> NodeServer<D, W> {
         ensures further { result.0 ≡ Further → outcome_in self.new ≡ Further }
         ensures fault { outcome_in self.old ≡ Further → IsFault result.0 → IsMeant self.new result.0 }
         ensures wait { result.1 ≤ LOOK }
+        ensures served { result.0 ≡ Further → AreServed D.Disk (look_in self.new) (served_of self.new).bots }
         ensures ended { (outcome_in self.old ≡ Further → ⊥) → self.new ≡ self.old }
     {
         let outcome = self.outcome();
@@ -470,6 +500,7 @@ impl<D: Disk + Drop, W: Wire + Drop> NodeServer<D, W> {
         ensures over { result.0 ≡ true → IsOverAt D.Disk (look_in self.new).node }
         ensures known { result.0 ≡ true → IsKnownEverywhere self.new self.new.left }
         ensures wait { result.1 ≤ LOOK }
+        ensures served { AreServed D.Disk (look_in self.new) (served_of self.new).bots }
     {
         let begun = self.wait(most);
         self.desk.hear(begun);
@@ -485,12 +516,19 @@ impl<D: Disk + Drop, W: Wire + Drop> NodeServer<D, W> {
         let now = self.desk.now();
         self.note_waiting(now);
         self.note_missing(now);
+        self.look_at_lines(now);
         let is_asked = self.answer_askers(alloc, now);
         let over = self.finish(is_all, now);
         self.speak(now);
+        // Whoever was behind has room for more now.
+        let owes_lines = self.owes_lines();
+        self.desk.tell_seats();
         self.note_read(is_all, now);
         self.left = now;
         let is_over = self.is_done(over, now);
-        (is_over, self.rest(is_all & !is_asked, until_due, now))
+        (
+            is_over,
+            self.rest(is_all & !is_asked & !owes_lines, until_due, now),
+        )
     }
 }

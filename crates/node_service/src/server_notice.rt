@@ -78,6 +78,10 @@ pub enum ServerNotice {
         count: u32,
         source: Option<IpAddr>,
     },
+    /// The bot of a seat named a line that is none of this seat in this match: it is told so, and let go of.
+    OtherLine {
+        seat: u8,
+    },
     /// It was ordered that this seat, which is to act, is played for, and a default action waits for it since.
     Ordered {
         seat: u8,

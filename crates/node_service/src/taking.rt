@@ -48,7 +48,8 @@ impl<D: Disk + Drop, W: Wire + Drop> NodeServer<D, W> {
     pub(crate) fn take_all(&mut self, alloc: Global, begun: u64) -> bool
         ensures { GoesOnWith D.Disk IsTurn (served_of self.old) (served_of self.new) }
     {
-        if !self.take_all_of_peers(alloc, begun) {
+        self.has_read_seats = self.take_all_of_peers(alloc, begun);
+        if !self.has_read_seats {
             return false;
         }
         self.take_all_of_seats()

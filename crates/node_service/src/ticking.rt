@@ -1,6 +1,6 @@
 //! When the node ticks, and when the seat to act is played for.
 
-ghost use Rattle.std.specs.Prelude.{◌≡◌, ◌≤◌, ◌<◌, [], IfSome};
+ghost use Rattle.std.specs.Prelude.{◌≡◌, ◌≤◌, ◌<◌, [], None, IfSome, true};
 ghost use Rattle.clockwork.specs.declared.limits.TheConstants.{LATEST as LAST, LONGEST_PATIENCE as LONGEST, MOST_PEERS as MOST, MOST_NODES as ALL};
 ghost use Rattle.node_service.specs.declared.limits.TheConstants.{SEATS as COUNT};
 ghost use Rattle.clockwork.specs.declared.answer.Due.TheVariants.{Now};
@@ -85,9 +85,12 @@ fn follow_list<D: Disk + Drop>(member: &LocalNode<D>, acts: &mut SeatActs)
 impl<D: Disk + Drop, W: Wire + Drop> NodeServer<D, W> {
     ghost use Rattle.node_service.specs.Desks.{IsKept};
     ghost use Rattle.node_service.specs.Going.{Does};
-    ghost use Rattle.node_service.specs.Serving.{served_of};
+    ghost use Rattle.node_service.specs.Serving.{served_of, nodes_of};
     ghost use Rattle.node_service.specs.Others.{listed};
-    ghost use Rattle.node_service.specs.Knowing.{is_owed_by, other_at, others_of, is_there, moment_of, IsTickDue, rank_for, seen_at, stood_of, awaited_of, expected_of, IsExpected, IsAwayDue};
+    ghost use Rattle.node_service.specs.Acts.{acts_at};
+    ghost use Rattle.node_service.specs.Watching.{IsOfSeat};
+    ghost use Rattle.node_service.specs.Timing.{marked_at, watch_given, timer_given, seen_below, seen_by, look_at, KeepsRest, LooksAtSeats, opened_at};
+    ghost use Rattle.node_service.specs.Knowing.{is_owed_by, other_at, others_of, is_there, moment_of, IsTickDue, rank_for, seen_at, stood_of, awaited_of, expected_of, IsExpected, HasOwnAct, IsNobodyExpected, IsAwayDue};
 
     /// Keeps what peers have told by beats.
     pub(crate) fn look(&mut self, now: u64)
@@ -202,11 +205,12 @@ impl<D: Disk + Drop, W: Wire + Drop> NodeServer<D, W> {
     /// Looks at a seat at each node.
     fn look_at_nodes(&mut self, seat: u8, now: u64)
         requires { seat < COUNT }
-        ensures { self.new.desk ≡ self.old.desk }
+        ensures same { KeepsRest self.old self.new }
+        ensures seen { IsOfSeat seat (seen_below self.old seat now (nodes_of self.old)) self.old.seat_watches self.new.seat_watches }
     {
-        let moved = self.watch.moved;
         for number in 0..self.nodes() {
             let at = self.seen_at(seat, number, now);
+            let moved = self.watch.moved;
             self.seat_watches.look_at(seat, number, at, moved, now);
         }
     }
@@ -214,40 +218,58 @@ impl<D: Disk + Drop, W: Wire + Drop> NodeServer<D, W> {
     /// Looks at a seat.
     fn look_at_seat(&mut self, seat: u8, seen: SeatLook)
         requires { seat < COUNT }
-        ensures { self.new.desk ≡ self.old.desk }
+        ensures same { KeepsRest self.old self.new }
+        ensures seen { IsOfSeat seat (seen_by self.old seat (acts_at self.old.acts.all seat) seen) self.old.seat_watches self.new.seat_watches }
     {
         self.look_at_nodes(seat, seen.now);
         self.seat_watches.look(seat, self.acts.at(seat), seen);
+    }
+
+    /// Looks at all seats.
+    fn look_at_each(&mut self, seen: SeatLook)
+        ensures { LooksAtSeats seen self.old self.new }
+    {
+        for seat in 0..self.players() {
+            self.look_at_seat(seat, seen);
+        }
+        self.seat_watches.end_look();
+    }
+
+    /// Seats are played for once each has come, or was waited for long enough.
+    fn open(&mut self, now: u64)
+        ensures kept { self.new.desk ≡ self.old.desk }
+        ensures opening { self.new.opening ≡ opened_at self.old now }
+    {
+        let all_came = self.seat_watches.have_come(self.players());
+        let start = self.desk.member.terms().start;
+        let is_quorate = self.turn_timer.is_quorate;
+        self.opening.look(is_quorate, all_came, start, now);
     }
 
     /// Looks at all seats, by the commands that the node has applied.
     fn look_at_seats(&mut self, now: u64)
         ensures { self.new.desk ≡ self.old.desk }
     {
-        let member = &self.desk.member;
-        follow_list(member, &mut self.acts);
-        let terms = self.desk.member.terms();
-        let quorate = self.turn_timer.is_quorate;
-        let nodes = self.nodes();
-        let is_awake = self.waking.is_awake(nodes);
-        let seen = SeatLook {
-            quorate: quorate && is_awake,
-            gives_up: terms.gives_up,
-            patience: terms
-                .patience
-                .unwrap_or(LONGEST_PATIENCE)
-                .min(LONGEST_PATIENCE),
-            now,
-        };
-        let players = self.players();
-        for seat in 0..players {
-            self.look_at_seat(seat, seen);
-        }
-        self.seat_watches.end_look();
-        let all_came = self.seat_watches.have_come(players);
-        self.opening.look(quorate, all_came, terms.start, now);
+        follow_list(&self.desk.member, &mut self.acts);
+        let seen = self.seat_look(now);
+        self.look_at_each(seen);
+        self.open(now);
         let stood = self.stood();
         self.waking.stand(stood);
+    }
+
+    /// What a look at seats has beside at this moment.
+    fn seat_look(&self, now: u64) -> SeatLook
+        ensures { result ≡ look_at self.now now }
+    {
+        let terms = self.desk.member.terms();
+        let patience = terms.patience.unwrap_or(LONGEST_PATIENCE);
+        SeatLook {
+            quorate: self.turn_timer.is_quorate && self.waking.is_awake(self.nodes()),
+            gives_up: terms.gives_up,
+            patience: patience.min(LONGEST_PATIENCE),
+            now,
+        }
     }
 
     /// A turn ends: nothing is left to read, unless something is left of what came, or at a connection.
@@ -261,7 +283,8 @@ impl<D: Disk + Drop, W: Wire + Drop> NodeServer<D, W> {
 
     /// What went by in this turn beyond what calls of the node took: where that is long the process slept.
     fn note_sleep(&mut self)
-        ensures { IsKept W.Wire self.old.desk self.new.desk }
+        ensures kept { IsKept W.Wire self.old.desk self.new.desk }
+        ensures waking { self.new.waking ≡ marked_at self.old self.new.marked 0 }
     {
         let now = self.desk.now();
         self.mark(now, 0);
@@ -325,7 +348,7 @@ impl<D: Disk + Drop, W: Wire + Drop> NodeServer<D, W> {
     }
 
     /// Since when the table has stood: its front moved, the node became quorate, and seats began to be played for.
-    fn stood(&self) -> u64
+    pub(crate) fn stood(&self) -> u64
         ensures { result ≡ stood_of self.now }
     {
         self.opening.stood(self.turn_timer.stood(self.watch.moved))
@@ -351,23 +374,26 @@ impl<D: Disk + Drop, W: Wire + Drop> NodeServer<D, W> {
     }
 
     /// Whether an act that a seat said itself waits at the node.
-    fn has_own_act(&self) -> bool {
+    fn has_own_act(&self) -> bool
+        ensures { result ≡ true → HasOwnAct self.now }
+    {
         matches!(self.desk.member.node().pending(), Some(Command::Act { .. }))
     }
 
-    /// The seat to act, and what is known of it; none where no hand runs, nobody is played for, its own act waits here, or the
-    /// process is to end.
+    /// The seat to act, and what is known of it; none where no hand runs, nobody is played for, its own act waits here, the
+    /// process is to end, or seats weren't read in this turn: what came of them during a long call is read first.
     fn expected(&self) -> Option<(u8, Expected)>
         ensures time { IfSome result (λ found. found.1.awaited.time ≤ LAST) }
         ensures patience { IfSome result (λ found. found.1.awaited.patience ≤ LONGEST) }
         ensures rank { IfSome result (λ found. found.1.awaited.rank ≤ MOST) }
         ensures nodes { IfSome result (λ found. found.1.nodes ≤ ALL) }
         ensures is { IfSome result (λ found. IsExpected self.now found.0 found.1) }
+        ensures none { result ≡ None → IsNobodyExpected self.now }
     {
         if self.ending() != Outcome::GoesOn {
             return None;
         }
-        if self.has_own_act() {
+        if !self.has_read_seats || self.has_own_act() {
             return None;
         }
         let patience = self.desk.member.terms().patience?;
@@ -424,7 +450,9 @@ impl<D: Disk + Drop, W: Wire + Drop> NodeServer<D, W> {
 
     /// The node is given this: a tick and an order that a seat is played for are of the moment at which they were due.
     pub(crate) fn note_given(&mut self, event: &Event)
-        ensures { self.new.desk ≡ self.old.desk }
+        ensures kept { self.new.desk ≡ self.old.desk }
+        ensures watch { self.new.watch ≡ watch_given self.old event.now }
+        ensures timer { self.new.turn_timer ≡ timer_given self.old event.now }
     {
         let moment = self.moment();
         match event {

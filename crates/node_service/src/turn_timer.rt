@@ -1,6 +1,9 @@
 //! Since when a node has a quorum, and when it last ordered that a seat is played for.
 
-ghost use Rattle.std.specs.Prelude.{◌≡◌, max};
+ghost use Rattle.std.specs.Prelude.{◌≡◌, ◌-◌, ◌&&◌, max, nat_le, Some};
+ghost use Rattle.node_service.specs.declared.limits.TheConstants.{REPLAYED as REPLAYED_FOR};
+
+use crate::limits::REPLAYED;
 
 /// Since when a node has a quorum, and when it last ordered that a seat is played for. Moments are whole microseconds since one
 /// that stays the same as long as the process lives.
@@ -15,9 +18,12 @@ pub(crate) struct TurnTimer {
 
 impl TurnTimer {
     ghost use Rattle.node_service.specs.Knowing.{ordered_since};
+    ghost use Rattle.node_service.specs.Timing.{timer_of, stood_at};
 
     /// The process begins.
-    pub(crate) fn new(now: u64) -> TurnTimer {
+    pub(crate) fn new(now: u64) -> TurnTimer
+        ensures { result ≡ timer_of now }
+    {
         TurnTimer {
             is_quorate: false,
             quorate_since: now,
@@ -26,15 +32,26 @@ impl TurnTimer {
     }
 
     /// The node has a quorum at this moment, or hasn't.
-    pub(crate) fn stand(&mut self, is_quorate: bool, now: u64) {
+    pub(crate) fn stand(&mut self, is_quorate: bool, now: u64)
+        ensures { self.new ≡ stood_at self.old is_quorate now }
+    {
         if is_quorate && !self.is_quorate {
             self.quorate_since = now;
         }
         self.is_quorate = is_quorate;
     }
 
+    /// At this moment the node has had a quorum for so long that its match isn't replayed any more.
+    pub(crate) fn is_steady(&self, now: u64) -> bool
+        ensures { result ≡ (self.now.is_quorate && nat_le REPLAYED_FOR (now - self.now.quorate_since)) }
+    {
+        self.is_quorate && now.saturating_sub(self.quorate_since) >= REPLAYED
+    }
+
     /// It is ordered that a seat is played for.
-    pub(crate) fn order(&mut self, now: u64) {
+    pub(crate) fn order(&mut self, now: u64)
+        ensures { self.new ≡ record self.old { ordered = Some now } }
+    {
         self.ordered = Some(now);
     }
 

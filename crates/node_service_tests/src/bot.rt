@@ -3,7 +3,7 @@
 use node_wires::{Line, MemoryWire, Wire};
 use std::alloc::{AllocError, Global};
 
-/// What a bot sends first.
+/// What a bot sends last before it is told lines.
 const VERSION: &[u8] = b"VERSION:2.0.0\r\n";
 
 /// A bot: it dials one node after another until one keeps it, and answers each line by one action, whether it is to act or
@@ -17,10 +17,20 @@ pub(crate) struct Bot {
     sits: bool,
     /// For so many more turns of the world it doesn't dial.
     pause: u64,
-    /// What was told to it and is no whole line yet.
+    /// What was told to it and isn't answered yet.
     told: Vec<u8>,
     /// What it does.
     action: u8,
+    /// What it says before the version; where it goes on from the last line it says that in place of this, once it has one.
+    pub(crate) asks: Vec<u8>,
+    pub(crate) goes_on_from_last: bool,
+    /// All lines that it was told, but not again the one that it named.
+    pub(crate) heard: Vec<u8>,
+    last: Vec<u8>,
+    /// It named its last line, and wasn't told it again yet.
+    is_again: bool,
+    /// It was told that the match is over: it does nothing more.
+    is_over: bool,
 }
 
 /// The last whole line of a text, without its end.
@@ -50,6 +60,12 @@ impl Bot {
             pause: 0,
             told: Vec::new(alloc),
             action,
+            asks: Vec::new(alloc),
+            goes_on_from_last: false,
+            heard: Vec::new(alloc),
+            last: Vec::new(alloc),
+            is_again: false,
+            is_over: false,
         }
     }
 
@@ -68,6 +84,9 @@ impl Bot {
     /// What it does at the wires of its node.
     pub(crate) fn act(&mut self, wire: &mut MemoryWire, nodes: u8) -> Result<(), AllocError> {
         let line = Line::Seat(self.seat);
+        if self.is_over {
+            return Ok(());
+        }
         if !self.sits {
             return self.dial(wire);
         }
@@ -89,14 +108,53 @@ impl Bot {
         let line = Line::Seat(self.seat);
         if wire.is_open(line) {
             self.sits = true;
+            self.ask(wire)?;
             return wire.come(line, VERSION);
         }
         wire.come_to_seat(self.seat);
         Ok(())
     }
 
+    /// Says what it asks for before it names the version.
+    fn ask(&mut self, wire: &mut MemoryWire) -> Result<(), AllocError> {
+        let line = Line::Seat(self.seat);
+        self.is_again = self.goes_on_from_last && !self.last.is_empty();
+        if self.is_again {
+            wire.come(line, b"#RESUME ")?;
+            wire.come(line, &self.last)?;
+            return wire.come(line, b"\r\n");
+        }
+        wire.come(line, &self.asks)
+    }
+
+    /// Keeps what was told, up to the end of its last whole line.
+    fn keep(&mut self) -> Result<(), AllocError> {
+        let Some(last) = last_line(&self.told) else {
+            return Ok(());
+        };
+        let skip = if self.is_again {
+            self.last.len() + 2
+        } else {
+            0
+        };
+        self.is_again = false;
+        self.heard
+            .extend_from_slice(self.told.get(skip..).unwrap_or(b"? "))?;
+        self.is_over = last == b"#OVER".as_slice();
+        let is_line = last.starts_with(b"MATCHSTATE");
+        if is_line {
+            self.last.clear();
+            self.last.extend_from_slice(last)?;
+        }
+        Ok(())
+    }
+
     /// Answers the last line that came.
     fn answer(&mut self, wire: &mut MemoryWire) -> Result<(), AllocError> {
+        if !self.told.ends_with(b"\n") {
+            return Ok(());
+        }
+        self.keep()?;
         let Some(last) = last_line(&self.told) else {
             return Ok(());
         };

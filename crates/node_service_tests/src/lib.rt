@@ -5,6 +5,7 @@
 //! - `bot`: the bot of a seat, which dials one node after another.
 //! - `place`: a node, with its process or without; `world`: all of them, turn after turn; `carrying`: what goes between them.
 //! - `match_tests`: a match to its end, also where processes die; `fault_tests`: each call of a wire failing once.
+//! - `resume_tests`: what a bot is told that asks for lines from one on.
 //! - `away_tests`: a match at which nobody sits, and what is told to one who asks.
 #![tactic(auto)]
 
@@ -20,6 +21,8 @@ mod fault_tests;
 mod match_tests;
 #[cfg(test)]
 mod place;
+#[cfg(test)]
+mod resume_tests;
 #[cfg(test)]
 mod samples;
 #[cfg(test)]

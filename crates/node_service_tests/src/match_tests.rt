@@ -33,7 +33,7 @@ pub(crate) fn assert_whole(rt: &impl Abort, world: &World) {
 }
 
 /// All processes have ended, and told the same log, which ends with the score.
-fn assert_alike(rt: &impl Abort, world: &World) {
+pub(crate) fn assert_alike(rt: &impl Abort, world: &World) {
     assert!(rt; world.is_over());
     let Some(first) = world.places.first() else {
         panic!(rt; "no nodes");
@@ -47,7 +47,7 @@ fn assert_alike(rt: &impl Abort, world: &World) {
 }
 
 /// How many lines a log has.
-fn count_of(log: &[u8]) -> usize {
+pub(crate) fn count_of(log: &[u8]) -> usize {
     log.iter().filter(|byte| **byte == b'\n').count()
 }
 
@@ -60,7 +60,7 @@ fn drawn(seed: &mut u64) -> u64 {
 }
 
 /// Lets a match go on, while so many processes at a time die every so many commands, each to begin again after a while.
-fn run_with_deaths(
+pub(crate) fn run_with_deaths(
     rt: &impl Abort,
     world: &mut World,
     seed: u64,

@@ -52,6 +52,8 @@ pub(crate) struct Counts {
     pub(crate) left: u64,
     /// Of each seat that it was ordered to play for.
     pub(crate) ordered: [u64; 2],
+    /// That a seat named a line that is none of it.
+    pub(crate) other: u64,
 }
 
 impl Counts {
@@ -63,6 +65,7 @@ impl Counts {
             ServerNotice::Seated { seat: 0 } => self.seated = self.seated.saturating_add(1),
             ServerNotice::Left { seat: 0 } => self.left = self.left.saturating_add(1),
             ServerNotice::Ordered { seat } => self.count_order(seat),
+            ServerNotice::OtherLine { .. } => self.other = self.other.saturating_add(1),
             _ => (),
         }
     }
@@ -92,6 +95,7 @@ impl Place {
                 seated: 0,
                 left: 0,
                 ordered: [0, 0],
+                other: 0,
             },
             call: 0,
             has_failed: false,

@@ -11,25 +11,10 @@ use node_status::Askers;
 use node_wires::MemoryWire;
 use peer_codes::{Life, MatchDigest};
 use promise_store::{Disk, MemoryDisk};
+use sample_games::L2;
 use stations::Station;
 use std::alloc::{AllocError, Global};
 use std::process::Abort;
-
-/// Two players, limit.
-const L2: &[u8] = b"GAMEDEF
-limit
-numPlayers = 2
-numRounds = 4
-blind = 10 5
-raiseSize = 10 10 20 20
-firstPlayer = 2 1 1 1
-maxRaises = 3 4 4 4
-numSuits = 4
-numRanks = 13
-numHoleCards = 2
-numBoardCards = 0 3 1 1
-END GAMEDEF
-";
 
 /// The process of a node over a disk and wires in memory.
 pub(crate) type Server = NodeServer<MemoryDisk, MemoryWire>;

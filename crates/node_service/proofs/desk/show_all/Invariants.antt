@@ -1,10 +1,8 @@
-use Rattle.std.proofs.Common.{◌≡◌, ℕ, Bool, List, ◌++◌, map}
+use Rattle.std.proofs.Common.{◌≡◌, ℕ, Bool, List, map}
 use Rattle.dealer_world.specs.Recordings.{text_by}
 use Rattle.node_wires.specs.Passages.{logged_in, seats_in}
 use Rattle.node_service.specs.Showing.{added, LogGains}
-use Rattle.node_seats.specs.Telling.{lines_of, AreSaid}
 use Rattle.node_service.specs.Crossing.{KeepsLines}
-use Rattle.node_service.specs.Handed.{lines_handed}
 use Rattle.node_service.proofs.desk.show_all.Given as goal
 
 -- what the log gains from here on of the texts that are left makes up what it is to gain of all
@@ -15,8 +13,5 @@ invariant-loop-reader g l = record {
   log : (failed : Bool) (log : List ℕ) → LogGains l.log_failed failed (added (map text_by l.reader-iterator)) (logged_in (g.W.Wire.passed l.wire)) log
       → LogGains l.fn.log_failed failed (added (map text_by l.fn.made.shown)) (logged_in (g.W.Wire.passed l.fn.wire)) log;
   seats : seats_in (g.W.Wire.passed l.wire) ≡ seats_in (g.W.Wire.passed l.fn.wire);
-  told : lines_of l.seats ++ lines_handed (map text_by l.reader-iterator) ≡ lines_of l.fn.seats ++ lines_handed (map text_by l.fn.made.shown);
-  guests : l.seats.guests ≡ l.fn.seats.guests;
   lines : KeepsLines (g.W.Wire.passed l.fn.wire) (g.W.Wire.passed l.wire);
-  said : AreSaid (g.W.Wire.passed l.fn.wire) (lines_of l.fn.seats) l.fn.seats.seats.items → AreSaid (g.W.Wire.passed l.wire) (lines_of l.seats) l.seats.seats.items;
 }

@@ -4,36 +4,34 @@ use Rattle.node_wires.specs.Passages.{Passage, logged_in, seats_in}
 use Rattle.dealer_world.specs.Recordings.{text_by}
 use Rattle.dealer_node.specs.Outs.{Told}
 use Rattle.node_peers.specs.Peering.{passed_of, frames_of}
-use Rattle.node_seats.specs.Telling.{lines_of, AreSaid}
 use Rattle.node_service.specs.Crossing.{IsCarried}
-use Rattle.node_service.specs.Handed.{mark_handed, lines_handed}
+use Rattle.node_service.specs.Handed.{mark_handed}
 use Rattle.node_service.specs.Showing.{added, LogGains}
-use Rattle.node_service.proofs.Crossing.{carried_shown, lines_on, lines_same}
+use Rattle.node_service.proofs.Crossing.{carried_shown, lines_on, lines_same, said_along}
 use Rattle.node_service.proofs.desk.Desk.hand_on.Goals as goal
 
 pub returns-clause-hands : goal.returns-clause-hands
 returns-clause-hands g c =
     let old = c.args.self.now in
     let shows = c.show_all.new in
+    let bots = c.tell_all.new.seats.seats.items in
     let same : g.W.Wire.passed c.now-now.new.self ≡ g.W.Wire.passed old.wire = c.now-now.ensures in
     let lines : passed_of c.send_all.new.company.peers ≡ passed_of old.company.peers = ap (λ (p : Passages). p.items) c.send_all.ensures.keeps.1 in
+    let kept = lines_on (g.W.Wire.passed old.wire) (g.W.Wire.passed c.now-now.new.self) (g.W.Wire.passed shows.wire) (lines_same (g.W.Wire.passed old.wire) (g.W.Wire.passed c.now-now.new.self) same) c.show_all.ensures.lines in
     let sent : frames_of c.send_all.new.company.peers ≡ frames_of old.company.peers ++ map mark_handed old.member.made.frames =
     subst (λ (t : Told). frames_of c.send_all.new.company.peers ≡ frames_of old.company.peers ++ map mark_handed t.frames) c.made.ensures c.send_all.ensures.frames in
-    let told : lines_of shows.seats ≡ lines_of old.seats ++ lines_handed (map text_by old.member.made.shown) =
-    subst (λ (t : Told). lines_of shows.seats ≡ lines_of old.seats ++ lines_handed (map text_by t.shown)) c.made-2.ensures c.show_all.ensures.told in
     record {
       log = subst (λ (m : List Passage). LogGains old.log_failed shows.log_failed (added (map text_by old.member.made.shown)) (logged_in m) (logged_in (g.W.Wire.passed shows.wire))) same
           (subst (λ (t : Told). LogGains old.log_failed shows.log_failed (added (map text_by t.shown)) (logged_in (g.W.Wire.passed c.now-now.new.self)) (logged_in (g.W.Wire.passed shows.wire))) c.made-2.ensures c.show_all.ensures.log);
       sent = sent;
-      told = told;
+      bots = c.tell_all.ensures.bots;
       seats = c.show_all.ensures.seats ∙ ap seats_in same;
       heard = c.send_all.ensures.heard;
-      guests = c.show_all.ensures.guests;
+      guests = c.tell_all.ensures.guests;
       hears = c.send_all.ensures.hears;
       asked = λ place within. inl refl;
       carried = λ is.
-          subst (λ (m : List Passage). IsCarried (g.W.Wire.passed shows.wire) m (lines_of shows.seats) shows.seats.seats.items old.askers.askers.items) (sym lines)
-          (carried_shown (g.W.Wire.passed old.wire) (g.W.Wire.passed shows.wire) (passed_of old.company.peers) (lines_of old.seats) (lines_of shows.seats) old.seats.seats.items shows.seats.seats.items old.askers.askers.items
-          (lines_on (g.W.Wire.passed old.wire) (g.W.Wire.passed c.now-now.new.self) (g.W.Wire.passed shows.wire) (lines_same (g.W.Wire.passed old.wire) (g.W.Wire.passed c.now-now.new.self) same) c.show_all.ensures.lines)
-          (λ are. c.show_all.ensures.said (subst (λ (m : List Passage). AreSaid m (lines_of old.seats) old.seats.seats.items) (sym same) are)) is);
+          subst (λ (m : List Passage). IsCarried (g.W.Wire.passed shows.wire) m bots old.askers.askers.items) (sym lines)
+          (carried_shown (g.W.Wire.passed old.wire) (g.W.Wire.passed shows.wire) (passed_of old.company.peers) old.seats.seats.items bots old.askers.askers.items kept
+          (λ are. c.tell_all.ensures.said (g.W.Wire.passed shows.wire) (said_along (g.W.Wire.passed old.wire) (g.W.Wire.passed shows.wire) old.seats.seats.items kept are)) is);
     }

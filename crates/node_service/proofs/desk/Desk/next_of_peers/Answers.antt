@@ -2,7 +2,6 @@ use Rattle.std.proofs.Common.{◌≡◌, List, ◌++◌, inl, refl, sym, ap, sub
 use Rattle.node_wires.specs.declared.passages.Passages.{Passages}
 use Rattle.node_wires.specs.Passages.{Passage, seats_in}
 use Rattle.node_peers.specs.Peering.{own_of, passed_of, heard_of}
-use Rattle.node_seats.specs.Telling.{lines_of}
 use Rattle.node_service.specs.Crossing.{IsCarried}
 use Rattle.node_service.proofs.Crossing.{heard_now}
 use Rattle.node_service.proofs.Telling.{no_seat_told, told_is_heard}
@@ -19,7 +18,7 @@ returns-clause-takes g c =
       terms = refl;
       log_failed = refl;
       sent = c.next.ensures.frames;
-      told = refl;
+      bots = λ are. are;
       log = refl;
       seats = sym (ap (λ (m : List Passage). seats_in (g.W.Wire.passed old.wire) ++ m) (no_seat_told c.next.result) ∙ append-nil (seats_in (g.W.Wire.passed old.wire)));
       heard = c.next.ensures.heard ∙ ap (λ (m : List Passage). heard_of old.company.peers ++ m) (told_is_heard c.next.result);
@@ -29,5 +28,5 @@ returns-clause-takes g c =
       sittings = λ seat. inl refl;
       hears = c.next.ensures.hears;
       asked = λ place within. inl refl;
-      carried = λ is. subst (λ (m : List Passage). IsCarried (g.W.Wire.passed old.wire) m (lines_of old.seats) old.seats.seats.items old.askers.askers.items) (sym lines) is;
+      carried = λ is. subst (λ (m : List Passage). IsCarried (g.W.Wire.passed old.wire) m old.seats.seats.items old.askers.askers.items) (sym lines) is;
     }

@@ -1,9 +1,8 @@
 use Rattle.std.proofs.Common.{◌≡◌, List, ◌++◌, inl, refl, sym, ◌∙◌, ap, subst, append-nil}
-use Rattle.node_wires.specs.declared.passages.Passages.{Passages}
 use Rattle.node_wires.specs.Passages.{Passage, seats_in}
 use Rattle.node_peers.specs.Peering.{own_of, passed_of, heard_of}
-use Rattle.node_seats.specs.Telling.{lines_of}
-use Rattle.node_service.specs.Crossing.{IsCarried}
+use Rattle.stations.specs.Looking.{look_of}
+use Rattle.node_service.proofs.Bots.{bots_changed}
 use Rattle.node_service.proofs.Hearing.{hears_none}
 use Rattle.node_service.proofs.Crossing.{carried_seated}
 use Rattle.node_service.proofs.Incoming.{passed_is_incoming, no_peer_told, none_of_peers}
@@ -13,14 +12,13 @@ use Rattle.node_service.proofs.desk.Desk.next_of_seats.Goals as goal
 pub returns-clause-takes : goal.returns-clause-takes
 returns-clause-takes g c =
     let old = c.args.self.now in
-    let told : lines_of c.next-notice.new.self ≡ lines_of old.seats = ap (λ (p : Passages). p.items) c.next-notice.ensures.comes.told in
     record {
       look = refl;
       started = refl;
       terms = refl;
       log_failed = refl;
       sent = refl;
-      told = told;
+      bots = bots_changed (look_of old.member.station) c.next-notice.result old.seats.seats.items c.next-notice.new.self.seats.items c.next-notice.ensures.comes.sits;
       log = c.next-notice.ensures.log;
       seats = c.next-notice.ensures.seats ∙ ap (λ (m : List Passage). seats_in (g.W.Wire.passed old.wire) ++ m) (passed_is_incoming c.next-notice.result);
       heard = sym (ap (λ (m : List Passage). heard_of old.company.peers ++ m) (no_peer_told c.next-notice.result) ∙ append-nil (heard_of old.company.peers));
@@ -31,7 +29,6 @@ returns-clause-takes g c =
       hears = hears_none _ _ _ _ refl refl;
       asked = λ place within. inl refl;
       carried = λ is.
-          subst (λ (m : List Passage). IsCarried (g.W.Wire.passed c.next-notice.new.wire) (passed_of old.company.peers) m c.next-notice.new.self.seats.items old.askers.askers.items) (sym told)
-          (carried_seated (g.W.Wire.passed old.wire) (g.W.Wire.passed c.next-notice.new.wire) (passed_of old.company.peers) (lines_of old.seats) old.seats.seats.items c.next-notice.new.self.seats.items old.askers.askers.items c.next-notice.ensures.others
-          c.next-notice.ensures.unsaid c.next-notice.ensures.said is);
+          carried_seated (g.W.Wire.passed old.wire) (g.W.Wire.passed c.next-notice.new.wire) (passed_of old.company.peers) old.seats.seats.items c.next-notice.new.self.seats.items old.askers.askers.items c.next-notice.ensures.others
+          c.next-notice.ensures.unsaid c.next-notice.ensures.said is;
     }

@@ -1,13 +1,5 @@
-use Rattle.std.proofs.Common.{refl}
-use Rattle.node_service.specs.Desks.{IsKept}
-use Rattle.node_service.proofs.Keeping.{kept_on, as_it_was}
+use Rattle.node_service.proofs.Keeping.{kept_on}
 use Rattle.node_service.proofs.server.NodeServer.part.Goals as goal
 
-pub returns-then-is_replaced : goal.returns-then-is_replaced
-returns-then-is_replaced g c = kept_on g.W.Wire c.now-now.ensures c.speak.ensures
-
-pub returns-else-is_replaced : goal.returns-else-is_replaced
-returns-else-is_replaced g c =
-    let desk = c.args.self.now.desk in
-    let kept : IsKept g.W.Wire desk desk = as_it_was g.W.Wire refl in
-    kept
+pub returns-clause-kept : goal.returns-clause-kept
+returns-clause-kept g c = kept_on g.W.Wire c.answer_replaced.ensures c.tell_seats.ensures.kept

@@ -1,0 +1,142 @@
+-- What the bots of a process's seats are told: the lines of their seats, off the tables that its node had.
+use Rattle.std.specs.Prelude.{◌≡◌, ℕ, ◌<◌, Bool, true, List, [], ◌∷◌, ◌++◌, length, Option, Some, None, IfSome, IsSome}
+use Rattle.promise_store.specs.declared.disk.Disk.{Ghosts}
+use Rattle.slot_log.specs.Hand.{Hand, Match}
+use Rattle.slot_log.specs.Dealer.{is_match_over}
+use Rattle.line_cursor.specs.declared.cursor.Cursor.{Cursor}
+use Rattle.line_cursor.specs.declared.named_line.NamedLine.TheVariants as named_lines
+use Rattle.line_cursor.specs.Past.{seat_line_at}
+use Rattle.line_cursor.specs.Naming.{IsNamed}
+use Rattle.line_cursor.specs.Cursors.{cursor_at}
+use Rattle.node_rules.specs.Standings.{Standing, applied}
+use Rattle.node_rules.specs.Showing.{is_connected as is_talk_ready}
+use Rattle.node_rules.specs.Seats.{session_at}
+use Rattle.dealer_node.specs.Nodes.{Node}
+use Rattle.dealer_node.specs.Scenes.{IsTableOf}
+use Rattle.dealer_node.specs.Seeing.{member_in, IsSeen, begun_of}
+use Rattle.stations.specs.Deeds.{Deed}
+use Rattle.stations.specs.Stations.{Look, Has}
+use Rattle.node_seats.specs.declared.bot.Bot.{Bot}
+use Rattle.node_seats.specs.declared.bot.Parting.{Parting}
+use Rattle.node_seats.specs.declared.bot.Parting.TheVariants.{Over, Other}
+use Rattle.node_seats.specs.declared.bot.Telling.{Telling}
+use Rattle.node_seats.specs.declared.seat.Seat.{Seat}
+use Rattle.node_seats.specs.declared.words.Asked.{Asked}
+use Rattle.node_seats.specs.declared.words.Asked.TheVariants as asks
+use Rattle.node_seats.specs.Words.{Reading}
+use Rattle.node_seats.specs.Seating.{bot_at, waits_at}
+use Rattle.node_seats.specs.Telling.{lines_of, TellsFrom, IsToldAll}
+use Rattle.node_service.specs.declared.seat_lines.Start.{Start}
+use Rattle.node_service.specs.declared.seat_lines.Start.TheVariants.{At, Later, Never}
+
+-- ---- off one table
+
+-- the place of the newest line, or of the first one that will come
+abbrev pub newest_place : List Hand → Cursor
+newest_place [] = cursor_at 0 0
+newest_place (newest ∷ before) = cursor_at (length before) (length newest.past)
+
+-- the lines of a bot that asked so begin here: at the newest line, at the first, or at the line that it named
+abbrev pub StartsBy : Match → ℕ → Asked → List ℕ → Cursor → Type 0
+StartsBy table seat asks.Nothing named at = at ≡ newest_place table.hands
+StartsBy table seat asks.First named at = at ≡ cursor_at 0 0
+StartsBy table seat asks.Newest named at = at ≡ newest_place table.hands
+StartsBy table seat asks.Line named at = seat_line_at table.game table.hands seat at.hand at.actions ≡ Some named
+StartsBy table seat asks.Other named at = ⊥
+
+-- none of the lines of this table is this one
+abbrev pub HasNoLine : Match → ℕ → List ℕ → Type 0
+HasNoLine table seat line = (at : Cursor) → seat_line_at table.game table.hands seat at.hand at.actions ≡ Some line → ⊥
+
+-- a bot is told that its line is none where it asked for no line, or none of the lines of this table is the one that it named
+abbrev pub IsRefusedBy : Match → ℕ → Asked → List ℕ → Type 0
+IsRefusedBy table seat asks.Nothing named = ⊥
+IsRefusedBy table seat asks.First named = ⊥
+IsRefusedBy table seat asks.Newest named = ⊥
+IsRefusedBy table seat asks.Line named = HasNoLine table seat named
+IsRefusedBy table seat asks.Other named = Unit {0}
+
+-- it waits for the line that it named, to whose place this match may still come
+abbrev pub Awaits : Match → ℕ → Asked → List ℕ → Type 0
+Awaits table seat asked named = (asked ≡ asks.Line) × ((at : Cursor) × IsNamed table.game table.count table.hands seat named (named_lines.Ahead at))
+
+abbrev pub IsStart : Match → ℕ → Asked → List ℕ → Start → Type 0
+IsStart table seat asked named (At at) = StartsBy table seat asked named at
+IsStart table seat asked named Later = Awaits table seat asked named
+IsStart table seat asked named Never = IsRefusedBy table seat asked named × (asked ≡ asks.Line → IsNamed table.game table.count table.hands seat named named_lines.Other)
+
+-- the match is over, and this is behind its last line
+pub record IsBehindAll (table : Match) (seat : ℕ) (at : Cursor) : Type 0 where
+  pub over : is_match_over table.game table.count table.hands ≡ true
+  pub behind : seat_line_at table.game table.hands seat at.hand at.actions ≡ None
+
+-- a bot that sits there and has named the version, where it is told no line, nor parted from, waits for the one that it named
+abbrev pub HasBegun : Match → ℕ → Bot → Type 0
+HasBegun table seat bot = bot.sits ≡ true → bot.words.is_over ≡ true → bot.parting ≡ None → bot.telling ≡ None → Awaits table seat bot.words.asked bot.words.named
+
+-- one that asked, and was told all lines of a match that is over, was told so
+abbrev pub IsToldOver : Match → ℕ → Bot → Type 0
+IsToldOver table seat bot = bot.sits ≡ true → (bot.words.asked ≡ asks.Nothing → ⊥) → IfSome bot.telling (λ telling. IsBehindAll table seat telling.next → IsSome bot.parting)
+
+-- there is nothing left to tell: a bot that is told lines was told all of this table's, or so many bytes wait for it
+abbrev pub IsServed : Match → ℕ → Bot → (waits : List ℕ) → Type 0
+IsServed table seat bot waits = HasBegun table seat bot × IsToldAll table seat bot waits × IsToldOver table seat bot
+
+-- ---- off the tables of a node
+
+module _ {D : Type 0} (g : Ghosts D) where
+  -- the table of a process's node at some moment: as the node was once it had done so much of what it has done now
+  pub record HadTable (look : Look (Node D)) (table : Match) : Type 0 where
+    pub then_is : Look (Node D)
+    pub has : Has g then_is
+    pub config : then_is.config ≡ look.config
+    pub number : then_is.number ≡ look.number
+    pub begun : begun_of g then_is.node ≡ begun_of g look.node
+    pub since : List Deed
+    pub deeds : look.deeds ≡ since ++ then_is.deeds
+    pub table_is : (s : Standing) → IsSeen g then_is.node s → IsTableOf (member_in then_is.node).setting (applied s) table
+
+  -- a bot was told lines from one on, one after another, each off such a table
+  abbrev pub IsToldBy : Look (Node D) → ℕ → Option Telling → Type 0
+  IsToldBy look seat None = Unit {0}
+  IsToldBy look seat (Some telling) = TellsFrom (HadTable look) seat telling.start (lines_of telling) telling.next
+
+  -- and the first of them goes by what it asked before it named the version
+  abbrev pub IsStarted : Look (Node D) → ℕ → Reading → Option Telling → Type 0
+  IsStarted look seat words None = Unit {0}
+  IsStarted look seat words (Some telling) = (words.is_over ≡ true) × ((table : Match) × (HadTable look table × StartsBy table seat words.asked words.named telling.start))
+
+  -- that the match is over is told behind its last line, to one who asked; that a line is none, where no line was told and a table of the node then hadn't it
+  abbrev pub IsOverFor : Look (Node D) → ℕ → Reading → Option Telling → Type 0
+  IsOverFor look seat words None = ⊥
+  IsOverFor look seat words (Some telling) = (words.asked ≡ asks.Nothing → ⊥) × ((table : Match) × (HadTable look table × IsBehindAll table seat telling.next))
+
+  abbrev pub IsParted : Look (Node D) → ℕ → Bot → Option Parting → Type 0
+  IsParted look seat bot None = Unit {0}
+  IsParted look seat bot (Some Over) = IsOverFor look seat bot.words bot.telling
+  IsParted look seat bot (Some Other) =
+      (bot.telling ≡ None) × ((bot.words.is_over ≡ true) × ((table : Match) × (HadTable look table × IsRefusedBy table seat bot.words.asked bot.words.named)))
+
+  pub record IsBotOf (look : Look (Node D)) (seat : ℕ) (bot : Bot) : Type 0 where
+    pub told : IsToldBy look seat bot.telling
+    pub started : IsStarted look seat bot.words bot.telling
+    pub parted : IsParted look seat bot bot.parting
+
+  -- so it is at each seat
+  abbrev pub AreBotsOf : Look (Node D) → List Seat → Type 0
+  AreBotsOf look seats = (seat : ℕ) → IsBotOf look seat (bot_at seats seat)
+
+  -- ---- all that there is to tell
+
+  -- this holds of the table that the node has now
+  abbrev pub OfTable : Look (Node D) → (Match → Type 0) → Type 0
+  OfTable look such = (s : Standing) (table : Match) → IsSeen g look.node s → IsTableOf (member_in look.node).setting (applied s) table → such table
+
+  -- the bot of a seat whose session is ready was told all that there is to tell, by the table that the node has now
+  abbrev pub IsServedAt : Look (Node D) → ℕ → Bot → (waits : List ℕ) → Type 0
+  IsServedAt look seat bot waits =
+      (s : Standing) (table : Match) → IsSeen g look.node s → IsTableOf (member_in look.node).setting (applied s) table → seat < table.game.players → is_talk_ready (session_at s.sessions seat) ≡ true → IsServed table seat bot waits
+
+  -- so it is at each seat
+  abbrev pub AreServed : Look (Node D) → List Seat → Type 0
+  AreServed look seats = (seat : ℕ) → IsServedAt look seat (bot_at seats seat) (waits_at seats seat)
