@@ -5,7 +5,7 @@ use Rattle.std.specs.Prelude.{nat_lt}
 use Rattle.std.proofs.lemmas.Bool.{and_parts, ltb-true, lt-ltb, eqb-true, eq-eqb, ne_eqb, cases_eq, cond-true, cond-false, cond_both}
 use Rattle.std.proofs.lemmas.List.Elements.{filter-append}
 use Rattle.std.proofs.lemmas.List.Sums.{sum_by_push, count_by-le-length}
-use Rattle.node_runs.specs.NoteGroups.{most_of, room_of}
+use Rattle.node_runs.specs.NoteGroups.{is_outside, most_of, room_of}
 use Rattle.node_runs.specs.NoteLimits.{IsAccount, is_of, is_low, is_recent, sum_of, waiting_at, has_room, has_due, counted_at, second}
 use Rattle.node_runs.specs.declared.note_limits.Count.{Count}
 use Rattle.node_runs.specs.declared.note_limits.NoteLimits.{NoteLimits}
@@ -40,7 +40,7 @@ passed came told limits next account later kept waits = record {
 
 -- of no group more lines find room than of any
 pub room_at_most : (group : ℕ) → room_of group ≤ 50
-room_at_most group = cond_both (nat_lt group 173) 40 50 (λ (n : ℕ). n ≤ 50) (λ is. omega arith) (λ is. omega arith)
+room_at_most group = cond_both (is_outside group) 40 50 (λ (n : ℕ). n ≤ 50) (λ is. omega arith) (λ is. omega arith)
 
 pub sum_pushed : (group : ℕ) (counts : List Count) (one : Count) → sum_of group (counts ++ one ∷ []) ≡ sum_of group counts + cond (one.group == group) one.count 0
 sum_pushed group counts one = sum_by_push (λ (x : Count). cond (is_of group x) x.count 0) counts one
@@ -63,7 +63,7 @@ told_line came came_then told limits next one account room time same more least 
           omega (arith, short, most, in_all));
       low = at_most_more 40 is_low limits.clock limits.recent.items told one account.recent time account.low (λ is.
           let short = count_by-le-length is_low limits.recent.items in
-          let most : room_of one.group ≡ 40 = cond-true (nat_lt one.group 173) 40 50 is in
+          let most : room_of one.group ≡ 40 = cond-true (is_outside one.group) 40 50 is in
           omega (arith, short, most, in_all));
       each = λ group. at_most_more (most_of group) (is_of group) limits.clock limits.recent.items told one account.recent time (account.each group) (λ is.
           subst (λ (g : ℕ). count_by (is_of g) limits.recent.items < most_of g) (eqb-true one.group group is) of_group);

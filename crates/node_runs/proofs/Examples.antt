@@ -160,11 +160,11 @@ many_wrong_lines : group_lines names 1 7010 (Some (told.Faulty 0 LineTooLong Non
 unfolding digits
 many_wrong_lines = refl
 
-eleven_others : group_lines names 1 7010 (Some told.Quorum) 187 11 ≡ (codes "11 notes left out" ++ 10 ∷ []) ∷ []
+eleven_others : group_lines names 1 7010 (Some told.Quorum) 197 11 ≡ (codes "11 notes left out" ++ 10 ∷ []) ∷ []
 unfolding digits
 eleven_others = refl
 
-one_other : group_lines names 1 7010 (Some told.Quorum) 187 1 ≡ (codes "quorum: more than half of the nodes are connected" ++ 10 ∷ []) ∷ []
+one_other : group_lines names 1 7010 (Some told.Quorum) 197 1 ≡ (codes "quorum: more than half of the nodes are connected" ++ 10 ∷ []) ∷ []
 one_other = refl
 
 seven_without_a_place : group_lines names 1 7010 None 109 7 ≡ (codes "inbound connection refused: no place (7 times)" ++ 10 ∷ []) ∷ []
@@ -324,6 +324,10 @@ many_others_came_for_alice = refl
 one_came_from_an_address : (address : Ipv4Addr) → ipv4_octets address ≡ 10 ∷ 0 ∷ 0 ∷ 7 ∷ [] → notice_lines names 1 7010 (told.WrongToken 0 37 (Some (V4 address))) ≡ (codes "seat 0 (alice) at node 1: wrong token (from 10.0.0.7) (37 times)" ++ 10 ∷ []) ∷ []
 unfolding digits
 one_came_from_an_address address octets = rw octets refl
+
+bob_has_another_match : notice_lines names 1 7010 (told.OtherLine 1) ≡ (codes "seat 1 (bob) at node 1: 86 OtherLine" ++ 10 ∷ []) ∷ []
+unfolding digits
+bob_has_another_match = refl
 
 bob_has_not_come : notice_lines names 1 7010 (told.Missing 1) ≡ (codes "seat 1 (bob): not connected yet, the match waits" ++ 10 ∷ []) ∷ []
 unfolding digits

@@ -1,7 +1,7 @@
 -- How many notes a process writes in a second: what came, what was told of it, and what waits to be told.
 use Rattle.std.specs.Prelude.{◌≡◌, ℕ, ◌+◌, ◌-◌, ◌^◌, ◌<◌, ◌≤◌, ◌==◌, ◌&&◌, max, nat_lt, nat_le, Bool, true, false, cond, List, length, get_or}
 use Rattle.std.specs.List.{sum_by, count_by, filter, fold}
-use Rattle.node_runs.specs.NoteGroups.{most_of, room_of}
+use Rattle.node_runs.specs.NoteGroups.{is_outside, most_of, room_of}
 use Rattle.node_runs.specs.declared.note_limits.Count.{Count}
 use Rattle.node_runs.specs.declared.note_limits.NoteLimits.{NoteLimits}
 
@@ -19,7 +19,7 @@ is_of group one = one.group == group
 
 -- whether it is of a group of which fewer than 50 lines may be told in a second
 abbrev pub is_low : Count → Bool
-is_low one = nat_lt one.group 173
+is_low one = is_outside one.group
 
 -- how many they are of a group, in all
 abbrev pub sum_of : ℕ → List Count → ℕ

@@ -54,6 +54,7 @@ notice_text names node first (told.Seated seat) = seat_said names seat (about_te
 notice_text names node first (told.Left seat) = seat_said names seat (about_text (about.Gone node))
 notice_text names node first (told.Faulty seat fault hand) = seat_said names seat (fault_said node fault hand)
 notice_text names node first (told.WrongToken seat count source) = seat_said names seat (about_text (about.WrongToken node source))
+notice_text names node first (told.OtherLine seat) = seat_said names seat (about_text (about.OtherLine node))
 notice_text names node first (told.Ordered seat) = seat_said names seat (about_text (about.Ordered node))
 notice_text names node first (told.Missing seat) = seat_said names seat (about_text about.Missing)
 notice_text names node first (told.Waits seat) = awaited_text names node (first + seat) seat

@@ -1,19 +1,20 @@
 //! In which groups the notes of a turn are limited, and how many lines a group may have.
 
 ghost use Rattle.std.specs.Prelude.{◌≡◌, ◌<◌, ◌≤◌};
-ghost use Rattle.node_runs.specs.NoteGroups.{seat_group, caller_group, peer_group, group_of, weight_of, most_of, room_of};
+ghost use Rattle.node_runs.specs.NoteGroups.{seat_group, caller_group, peer_group, other_line_group, group_of, weight_of, most_of, room_of};
 
 use node_service::ServerNotice;
 
 /// How many groups there are: ten of each of ten seats, those of callers by their faults and for want of a place, those of
-/// callers from the addresses of seven peers by their faults, two of each of seven peers, and one of all other notes.
-pub const GROUPS: usize = 188;
+/// callers from the addresses of seven peers by their faults, two of each of seven peers, one of each of ten
+/// seats for lines of another match, and one of all other notes.
+pub const GROUPS: usize = 198;
 
 /// The group of callers for whom there was no place.
 pub const NO_PLACE: usize = 109;
 
 /// The group of notes that have no group of their own.
-pub const OTHERS: usize = 187;
+pub const OTHERS: usize = 197;
 
 /// The groups of callers by their faults begin here, less the number of the first fault.
 const CALLERS: usize = 20;
@@ -28,6 +29,9 @@ const JOINED: usize = 173;
 
 const GONE: usize = 180;
 
+/// The groups of bots that name a line of another match begin here, seat by seat.
+const OTHER_LINES: usize = 187;
+
 /// How many faults callers have.
 const FAULTS: usize = 9;
 
@@ -37,7 +41,7 @@ const SEVERAL: usize = 10;
 /// A seat's notes of one kind.
 fn seat_group(seat: u8, kind: u8) -> usize
     ensures value { result ≡ seat_group seat kind }
-    ensures within { result < 188 }
+    ensures within { result < 198 }
 {
     if seat < 10 && kind < 10 {
         10 * seat as usize + kind as usize
@@ -49,7 +53,7 @@ fn seat_group(seat: u8, kind: u8) -> usize
 /// The notes of callers by a fault, from an address of this peer or from others.
 fn caller_group(peer: Option<u8>, code: u8) -> usize
     ensures value { result ≡ caller_group peer code }
-    ensures within { result < 188 }
+    ensures within { result < 198 }
 {
     if code < 120 || 128 < code {
         return OTHERS;
@@ -65,7 +69,7 @@ fn caller_group(peer: Option<u8>, code: u8) -> usize
 fn peer_group(first: usize, peer: u8) -> usize
     requires { first ≤ 180 }
     ensures value { result ≡ peer_group first peer }
-    ensures within { result < 188 }
+    ensures within { result < 198 }
 {
     if peer < 7 {
         first + peer as usize
@@ -74,10 +78,22 @@ fn peer_group(first: usize, peer: u8) -> usize
     }
 }
 
+/// The notes of bots of a seat that name a line of another match.
+fn other_line_group(seat: u8) -> usize
+    ensures value { result ≡ other_line_group seat }
+    ensures within { result < 198 }
+{
+    if seat < 10 {
+        OTHER_LINES + seat as usize
+    } else {
+        OTHERS
+    }
+}
+
 /// The group of a notice.
 pub fn group_of(notice: &ServerNotice) -> usize
     ensures value { result ≡ group_of notice.now }
-    ensures within { result < 188 }
+    ensures within { result < 198 }
 {
     match notice {
         ServerNotice::Faulty { seat, fault, .. } => {
@@ -86,6 +102,7 @@ pub fn group_of(notice: &ServerNotice) -> usize
         ServerNotice::Seated { seat } => seat_group(*seat, 6),
         ServerNotice::Left { seat } => seat_group(*seat, 7),
         ServerNotice::WrongToken { seat, .. } => seat_group(*seat, 8),
+        ServerNotice::OtherLine { seat } => other_line_group(*seat),
         ServerNotice::Ordered { seat } => seat_group(*seat, 9),
         ServerNotice::Callers { peer, fault, .. } => caller_group(*peer, fault.code()),
         ServerNotice::Joined { peer, life: _ } => peer_group(JOINED, *peer),
@@ -118,8 +135,10 @@ pub fn most_of(group: usize) -> usize
         }
     } else if group < LOW {
         1
-    } else if group < OTHERS {
+    } else if group < OTHER_LINES {
         SEVERAL
+    } else if group < OTHERS {
+        1
     } else {
         50
     }
@@ -129,5 +148,9 @@ pub fn most_of(group: usize) -> usize
 pub fn room_of(group: usize) -> usize
     ensures { result ≡ room_of group }
 {
-    if group < LOW { 40 } else { 50 }
+    if group < LOW || OTHER_LINES <= group && group < OTHERS {
+        40
+    } else {
+        50
+    }
 }

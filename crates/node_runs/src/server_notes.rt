@@ -101,6 +101,7 @@ fn note_of(config: &Config, node: u8, port: u16, told: &ServerNotice) -> Option<
             let source = *source;
             of_seat(config, *seat, About::WrongToken { node, source })
         }
+        ServerNotice::OtherLine { seat } => of_seat(config, *seat, About::OtherLine(node)),
         ServerNotice::Ordered { seat } => of_seat(config, *seat, About::Ordered(node)),
         ServerNotice::Missing { seat } => of_seat(config, *seat, About::Missing),
         ServerNotice::Waits { seat } => awaited(config, node, port, *seat),

@@ -48,7 +48,7 @@ abbrev pub note_text : NodeNote → List ℕ
 note_text (note.Begins name node front) = match_text name node ++ started_text front
 note_text (note.PassedOver key) = codes "key " ++ key.now ++ codes " is for serve only, ignored"
 note_text (note.NotCopied path) = shown path.now ++ codes ": not found: copy it from the machine of node 0"
-note_text (note.NotMade path) = shown path.now ++ codes ": not found: run init here first"
+note_text (note.NotMade path) = shown path.now ++ codes ": not found: run init only if this node never ran"
 note_text (note.NotReplaced path) = shown path.now ++ codes ": left by an earlier store: a lost store can't be replaced"
 note_text (note.LogDiffers log hand kept) = shown log.now ++ codes ": hand " ++ decimal hand ++ codes " differs from that of " ++ shown kept.now
 note_text note.NoKey = codes "no key: connections between nodes are neither authenticated nor encrypted"
@@ -70,6 +70,7 @@ note_text note.Quorum = codes "quorum: more than half of the nodes are connected
 note_text note.QuorumLost = codes "quorum lost: bots are disconnected until it returns"
 note_text (note.Campaigns ballot) = codes "campaigns in ballot " ++ ballot_line ballot
 note_text (note.LeftOut count) = decimal count ++ codes " notes left out"
+note_text note.Over = codes "the match is over"
 
 -- and its line feed
 abbrev pub note_line : NodeNote → List ℕ

@@ -100,6 +100,8 @@ pub enum NodeNote<'a> {
     Campaigns(Ballot),
     /// So many notes were left out, since there were too many in a second.
     LeftOut(u64),
+    /// The match is over, and the other nodes know it, or are away.
+    Over,
 }
 
 /// Writes a note in one piece, and flushes. One that can't be made or written is left out, or a beginning of it stands
@@ -131,7 +133,13 @@ pub fn put_node_note(out: &mut Vec<u8>, note: &NodeNote<'_>) -> Result<(), Alloc
         NodeNote::NotCopied(path) => {
             put_path(out, path, ": not found: copy it from the machine of node 0")
         }
-        NodeNote::NotMade(path) => put_path(out, path, ": not found: run init here first"),
+        NodeNote::NotMade(path) => {
+            put_path(
+                out,
+                path,
+                ": not found: run init only if this node never ran",
+            )
+        },
         NodeNote::NotReplaced(path) => {
             put_path(
                 out,
@@ -190,6 +198,7 @@ pub fn put_node_note(out: &mut Vec<u8>, note: &NodeNote<'_>) -> Result<(), Alloc
         ),
         NodeNote::Campaigns(ballot) => put_campaign(out, ballot),
         NodeNote::LeftOut(count) => put_left_out(out, *count),
+        NodeNote::Over => out.extend_from_slice(b"the match is over"),
     }
 }
 
