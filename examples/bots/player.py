@@ -30,6 +30,11 @@ LOOK = 0.05
 # The most bytes of a dealer's line, and its form.
 LONGEST = 4096
 LINE = re.compile(rb"MATCHSTATE:[0-9]{1,9}:[0-9]{1,9}:[!-9;-~]*:[!-9;-~]*")
+# What a node of `node` says behind the last line of a match, and if it has another match than the bot.
+OVER, OTHER = "#OVER", "#OTHER"
+# For how long all nodes that are reached say that they have another match until a bot gives up, in seconds; and how long it
+# then pauses before it dials.
+OTHER_TIME, OTHER_PAUSE = 10.0, 1.0
 
 
 class Address(NamedTuple):
@@ -62,9 +67,9 @@ def ignore(line):
 def play(places, choose, see=ignore, token=None, give_up=None, record=Record(), first=0):
     """Plays a match at the seat that has these places, one at each node. Returns whether any line came.
 
-    `see` gets each line. `choose` returns an action for the newest line, or none if the bot isn't to act there. The match is
-    over, or the nodes are lost, when all of them have turned the bot away for `give_up` seconds: 10 for ports, while an
-    `Address` is dialled without end. `first` is the node of `serve` at which the bot begins."""
+    `see` gets each line. `choose` returns an action for the newest line, or none if the bot isn't to act there. A node of `node`
+    says when the match is over. Else it is over, or the nodes are lost, when all of them have turned the bot away for `give_up`
+    seconds: 10 for ports, while an `Address` is dialled without end. `first` is the node of `serve` at which the bot begins."""
     if isinstance(places[0], Address):
         return play_at_all(places, choose, see, token, give_up, record)
     return play_at_one(places, choose, see, GIVE_UP if give_up is None else give_up, record, first)
@@ -114,44 +119,68 @@ def sit(port, choose, see, record):
 def play_at_all(addresses, choose, see, token, give_up, record):
     """Plays where each node takes the seat and sends it every line."""
     came, seat = queue.Queue(), Seat(see, record)
-    nodes = [Node(address, token, came) for address in addresses]
-    while not all(node.turns_away(give_up) for node in nodes):
+    nodes = [Node(address, token, came, seat) for address in addresses]
+    while not (all(node.turns_away(give_up) for node in nodes) or have_another_match(nodes)):
         newest = seat.line
         seat.take(came, 0.0 if seat.is_due() else LOOK)
         if seat.line != newest:
             # While it chooses further lines may come: they are read before the answer is sent.
             action = choose(seat.line)
             seat.answer = None if action is None else f"{seat.line}:{action}"
+        elif seat.line is not None and any(node.last == seat.line for node in nodes):
+            return True
         elif seat.is_due():
             seat.send_answer()
     return seat.line is not None
 
 
+def have_another_match(nodes):
+    """Whether each node that is reached has said for a while that it has another match than the bot, and some node has."""
+    others = [node.has_another_match() for node in nodes]
+    if not any(others) or not all(other or node.turns_away(OTHER_TIME) for other, node in zip(others, nodes)):
+        return False
+    print("the nodes have another match than the bot", file=sys.stderr)
+    return True
+
+
 class Node(threading.Thread):
     """Stays connected to a node: dials it, hands on what comes, and dials it again when the connection has ended."""
 
-    def __init__(self, address, token, came):
+    def __init__(self, address, token, came, seat):
         super().__init__(daemon=True)
-        self.address, self.token, self.came = address, token, came
+        self.address, self.token, self.came, self.seat = address, token, came, seat
         # Since when the node turns the bot away; none while the bot is connected to it.
         self.since = time.monotonic()
+        # The last line of the match, if the node has said so; and since when it says that it has another match.
+        self.last, self.other_since = None, None
         self.start()
 
     def run(self):
         while True:
             connection = dial(self.address, REACHED)
-            if connection is not None:
+            if connection is None:
+                self.other_since = None
+            else:
                 with connection:
                     self.hand_on(connection)
-            time.sleep(PAUSE)
+            time.sleep(PAUSE if self.other_since is None else OTHER_PAUSE)
 
     def hand_on(self, connection):
-        """Hands on the lines of a connection, with whether they are its first ones, and at last that it has ended."""
+        """Hands on the lines of a connection, with whether they are its first ones, and at last that it has ended.
+
+        The node is asked for the bot's newest line and all behind it. If the bot has none, it is asked for the newest one."""
         since, self.since = self.since, None
-        send(connection, *([f"#TOKEN {self.token}"] if self.token else []), "VERSION:2.0.0")
-        for lines in batches(connection):
-            self.came.put((connection, lines, since is not None))
-            since = None
+        asked = "NEWEST" if self.seat.line is None else self.seat.line
+        send(connection, *([f"#TOKEN {self.token}"] if self.token else []), f"#RESUME {asked}", "VERSION:2.0.0")
+        for words in batches(connection, (OVER, OTHER)):
+            lines = [word for word in words if word not in (OVER, OTHER)]
+            if lines:
+                self.came.put((connection, lines, since is not None))
+                since, self.other_since, newest = None, None, lines[-1]
+            if OVER in words and since is None:
+                self.last = newest
+            if OTHER in words and self.other_since is None:
+                self.other_since = time.monotonic()
         self.came.put((connection, [], False))
         self.since = time.monotonic() if since is None else since
 
@@ -159,6 +188,11 @@ class Node(threading.Thread):
         """Whether the node has turned the bot away for so long, by refusing it or closing its connections before any line."""
         since = self.since
         return seconds is not None and since is not None and time.monotonic() - since >= seconds
+
+    def has_another_match(self):
+        """Whether it has said so for a while, and has told no line since."""
+        since = self.other_since
+        return since is not None and self.since is not None and time.monotonic() - since >= OTHER_TIME
 
 
 class Seat:
@@ -293,8 +327,9 @@ def send(connection, *lines):
         pass
 
 
-def batches(connection):
-    """Yields the lines that have come, all of them at a time and without their ends, until the connection ends."""
+def batches(connection, words=()):
+    """Yields the lines that have come, all of them at a time and without their ends, until the connection ends. These words
+    count as lines."""
     rest, lines = b"", []
     while True:
         try:
@@ -302,9 +337,10 @@ def batches(connection):
         except OSError:
             piece = b""
         *whole, rest = (rest + piece).split(b"\n")
-        lines += [line.strip().decode() for line in whole if LINE.fullmatch(line.strip())]
+        found = [line.strip() for line in whole]
+        lines += [line.decode() for line in found if LINE.fullmatch(line) or line in [word.encode() for word in words]]
         has_ended = not piece or len(rest) > LONGEST
-        if lines and (has_ended or not (rest or select.select([connection], [], [], 0)[0])):
+        if lines and (has_ended or lines[-1] in words or not (rest or select.select([connection], [], [], 0)[0])):
             yield lines
             lines = []
         if has_ended:

@@ -372,8 +372,13 @@ class NodeMatch:
             if time.monotonic() > prompt.heard + self.settings.limits.response / THOUSAND:
                 self.end_by(seat, self.fail_late)
         for seat, at in self.gone_at.items():
-            is_last = self.course.hand >= self.settings.hands - 1 and self.relays[seat].has_left()
-            if not is_last or time.monotonic() > at + GRACE:
+            if self.relays[seat].is_over():
+                # All that the player was to be told he was told: other traces, and the logs, may come to the end later.
+                is_lost = time.monotonic() > self.heard_at + UNTOLD
+            else:
+                is_last = self.course.hand >= self.settings.hands - 1 and self.relays[seat].has_left()
+                is_lost = not is_last or time.monotonic() > at + GRACE
+            if is_lost:
                 self.end_by(seat, self.relays[seat].fail)
 
     def fail_late(self):

@@ -10,8 +10,9 @@ from .seats import SHOWN, VERSION, Seat, printable
 # A relay waits for nodes as long as it can, eleven days: it is for the dealer to say when there is nothing to wait for.
 GIVE_UP = 1_000_000
 TRACED = re.compile(rb"(\d+)\.(\d{6}) (TO|FROM) (.*)", re.A | re.S)
-# The relay's last notes that are the player's fault, and how the first note begins.
-LEFT, WRONG_VERSION, CAME = "the bot ended its connection", "the bot's first line isn't VERSION:2.0.0", b"bot: connected"
+# The relay's last notes that are the player's fault, its last note once the match is over, and how the first note begins.
+LEFT, WRONG_VERSION = "the bot ended its connection", "the bot's first line isn't VERSION:2.0.0"
+OVER, CAME = "the match is over", b"bot: connected"
 # The most bytes of notes that are kept.
 NOTES = 4096
 
@@ -32,7 +33,7 @@ class Relay:
 
     def __init__(self, program, folder, slot, seat, listen, port):
         host = f"[{listen}]" if ":" in listen else listen
-        words = ["relay", "--port", port, "--listen", host, "--mend", "game", "--trace", "-", "--token-file", f"token{seat}"]
+        words = ["relay", "--newest", "--port", port, "--listen", host, "--mend", "game", "--trace", "-", "--token-file", f"token{seat}"]
         words += ["--give-up", GIVE_UP, *(slot.seat(node, seat) for node in range(slot.nodes))]
         self.process = start(program, words, folder.path, stdout=subprocess.PIPE, stderr=subprocess.PIPE)
         self.seat, self.version, self.status = seat, None, None
@@ -106,6 +107,10 @@ class Relay:
     def has_left(self):
         """Whether it has ended since the player ended the connection."""
         return self.status is not None and last_line(self.said) == LEFT
+
+    def is_over(self):
+        """Whether it has ended since the match is over."""
+        return self.status is not None and last_line(self.said) == OVER
 
     def fail(self):
         """Says why it has ended: Failed where that is the player's fault."""

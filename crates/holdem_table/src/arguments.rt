@@ -187,6 +187,7 @@ impl Verb {
                 Place::TokenFile,
                 Place::Mend,
                 Place::Trace,
+                Place::Newest,
                 Place::Stay,
                 Place::GiveUp,
                 Place::Times,
@@ -235,6 +236,8 @@ enum Place {
     Trace,
     /// `--stay`.
     Stay,
+    /// `--newest`.
+    Newest,
     /// `--give-up S`.
     GiveUp,
     /// HOST:PORT, once or more.
@@ -338,6 +341,7 @@ fn argument_at<'a>(alloc: Global, place: Place) -> Result<Arg<'a>, AllocError> {
             "FILE",
             "Traces the bot's lines; -: to standard output",
         ),
+        Place::Newest => newest_option(alloc),
         Place::Stay => stay_option(alloc),
         Place::GiveUp => give_up_option(alloc),
         Place::Nodes => nodes_at(alloc),
@@ -479,6 +483,15 @@ fn give_up_option<'a>(alloc: Global) -> Arg<'a> {
 /// What reads the S of `--give-up`.
 fn seconds_parser<'a>() -> ValueParser<'a> {
     value_parser!(u32).range(1..=1_000_000)
+}
+
+/// `--newest`.
+fn newest_option<'a>(alloc: Global) -> Arg<'a> {
+    flag(
+        alloc,
+        "newest",
+        "Begins with the newest line, not the first deal",
+    )
 }
 
 /// `--stay`.

@@ -297,6 +297,10 @@ Takes one connection of a bot at its port, sits for it at all nodes at once,
 and gives it each line of the dealer once and in order, whichever node tells
 it first. An answer goes to one node, and to another where no line follows.
 
+The bot gets all lines from the first deal on, also where it starts late; with
+--newest, and with --stay each further bot, those from the newest on. After a
+loss of all nodes it goes on behind its last line once they are back.
+
 HOST:PORT is where the seat is at a node of `node`, an IP address and a port;
 never give those of `serve`.
 
@@ -311,7 +315,7 @@ competition's dealer does: a raise by the nearest end of its range, anything
 else by a call. A note says so.
 
 Exit status:
-  3  each node has refused for ten seconds: the match is over, or lost
-  1  the bot left or named no version 2.0, no node was reached, or the port
-     can't be had
+  0  the match is over, and the bot has all its lines
+  1  the bot left or named no version 2.0, no node was reached, each node has
+     had another match for ten seconds, or the port can't be had
   2  the command line is wrong, or a file that it names";

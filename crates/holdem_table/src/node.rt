@@ -126,6 +126,7 @@ fn run_entries(
         .begin(config, opened, KeptLog::new(&kept.text), notes)
         .map_err(end_by)?;
     let Err(end) = node_run(rt.alloc(), &mut server, &mut lives, port, notes) else {
+        notes.tell_node(&NodeNote::Over);
         return Ok(());
     };
     match (end, server.wire().differing_hand()) {

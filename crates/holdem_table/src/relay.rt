@@ -112,8 +112,8 @@ enum TraceEnd {
     File(File),
 }
 
-/// Runs a relay until its bot has left or the match is over, and answers the exit status: 3 where each node has refused for
-/// ten seconds (over or lost), 1 where the bot left or no node was reached, 2 for wrong words or files.
+/// Runs a relay until its bot has left or the match is over, and answers the exit status: 0 where the match is over, 1 where the
+/// bot left, no node was reached or the nodes have another match, 2 for wrong words or files.
 pub(crate) fn relay(rt: &HostRuntime, matches: &ArgMatches<'_>) -> ExitCode {
     let Some((_, matches)) = matches.subcommand() else {
         return ExitCode::from(2);
@@ -178,6 +178,7 @@ fn run<'a>(
         nodes: count,
         token,
         mended,
+        newest: matches.get_flag("newest"),
         stays: matches.get_flag("stay"),
         give_up: (number(matches, "give-up", 600) as u64).saturating_mul(1_000_000),
         traces: match trace {
@@ -213,7 +214,7 @@ fn serve(
             return end;
         }
     }
-    RelayEnd::OverOrLost
+    RelayEnd::NotReached
 }
 
 /// Writes what there is to tell. Without memory for it a note is left out.

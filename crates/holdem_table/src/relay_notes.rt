@@ -10,6 +10,12 @@ const NO_LINE: &str = "disconnected, it sent what is no dealer's line";
 /// A node sent a line that is too long.
 const LONG_LINE: &str = "disconnected, it sent a line of more than 4096 bytes";
 
+/// A node began with a line before which lines may be missing.
+const AHEAD: &str = "disconnected, it began with a line that wasn't asked for";
+
+/// A node has another match than the bot.
+const OTHER_MATCH: &str = "it has another match: the bot's last line isn't one of it";
+
 /// The bot's first line that is passed over.
 const UNFIT: &str =
     "bot: passed over a line that is no answer to the newest line (further ones are counted)";
@@ -88,6 +94,9 @@ fn put_text(alloc: Global, line: &mut Vec<u8>, notice: &RelayNotice) -> Result<(
         RelayNotice::BotGone { unfit, too_long } => put_gone(alloc, line, *unfit, *too_long),
         RelayNotice::Sits { node } => put_node(alloc, line, *node, "seated"),
         RelayNotice::Lost { node } => put_node(alloc, line, *node, "connection lost"),
+        RelayNotice::Ahead { node } => put_node(alloc, line, *node, AHEAD),
+        RelayNotice::Over { node } => put_node(alloc, line, *node, "the match is over"),
+        RelayNotice::OtherMatch { node } => put_node(alloc, line, *node, OTHER_MATCH),
         RelayNotice::NotLine { node } => put_node(alloc, line, *node, NO_LINE),
         RelayNotice::TooLong { node } => put_node(alloc, line, *node, LONG_LINE),
         RelayNotice::Unfit => put(line, UNFIT),

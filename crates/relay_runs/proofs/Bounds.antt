@@ -1,13 +1,14 @@
 -- Few bytes wait to be written, call by call.
-use Rattle.std.proofs.Common.{◌≡◌, ◌⊎◌, ℕ, ◌+◌, ◌<◌, ◌≤◌, Bool, true, false, if◌then◌else◌, List, [], ◌∷◌, ◌++◌, append_assoc, append-nil, length, inl, inr, refl, ap, sym, subst, ◌∙◌, arith}
+use Rattle.std.proofs.Common.{◌≡◌, ◌⊎◌, ℕ, ◌+◌, ◌<◌, ◌≤◌, Bool, true, false, if◌then◌else◌, List, [], ◌∷◌, ◌++◌, append_assoc, append-nil, length, inl, inr, None, refl, ap, sym, subst, ◌∙◌, arith}
 use Rattle.byte_queue.specs.Queued.{Queued}
 use Rattle.seat_relay.specs.Relaying.{Standing, Event, Story, after, with_event}
 use Rattle.seat_relay.specs.Laws.{fresh}
 use Rattle.relay_runs.specs.declared.desk.Desk.{Desk}
-use Rattle.relay_runs.specs.Said.{ended, said_over, begins_at, has_begun, over_by, over_behind, waits_at, AreEmpty, first_over}
+use Rattle.relay_runs.specs.declared.opening.Opening.{Opening}
+use Rattle.relay_runs.specs.Said.{ended, greeting, asks, asked_by, asked_over, first_of, said_over, begins_at, over_by, over_behind, waits_at, AreEmpty, first_over}
 use Rattle.relay_runs.specs.Few.{last_said, IsTail, IsFew}
 use Rattle.relay_runs.proofs.Hearing.{joined_len}
-use Rattle.relay_runs.proofs.Happening.{begun_now, begun_before, more_over, over_more, over_is, over_begins}
+use Rattle.relay_runs.proofs.Happening.{asked_more, asked_begins, asked_stays, more_over, over_more, over_is, over_begins}
 
 -- ---- ends of what was said
 
@@ -32,14 +33,14 @@ last_more first (one ∷ before) answer = last_more (ended one) before answer
 shorter : (n m : ℕ) → m ≤ n → n < 65536 + 4098 → m < 65536 + 4098
 shorter n m less few = omega arith
 
-pub few_alike : (a b : Desk) → b.hello.items ≡ a.hello.items → b.relay ≡ a.relay → length b.to_bot.waiting ≤ length a.to_bot.waiting
+pub few_alike : (a b : Desk) → b.opening ≡ a.opening → b.relay ≡ a.relay → length b.to_bot.waiting ≤ length a.to_bot.waiting
     → ((node : ℕ) → IsTail (waits_at b.to_nodes.items node) (waits_at a.to_nodes.items node)) → IsFew a → IsFew b
 few_alike a b hello relay bot tails f = record {
   bot = shorter (length a.to_bot.waiting) (length b.to_bot.waiting) bot f.bot;
   nodes = λ node.
-      let same : last_said (first_over node a) (said_over a.relay.nodes node a.relay.events) ≡ last_said (first_over node b) (said_over b.relay.nodes node b.relay.events) =
-      ap (λ (h : List ℕ). last_said (if has_begun node a.relay.events then h else []) (said_over a.relay.nodes node a.relay.events)) (sym hello)
-      ∙ ap (λ (r : Story). last_said (if has_begun node r.events then b.hello.items else []) (said_over r.nodes node r.events)) (sym relay) in
+      let same : last_said (first_over node a) (said_over node a.relay) ≡ last_said (first_over node b) (said_over node b.relay) =
+      ap (λ (o : Opening). last_said (first_of o.token.items (asked_over node a.relay)) (said_over node a.relay)) (sym hello)
+      ∙ ap (λ (r : Story). last_said (first_of b.opening.token.items (asked_over node r)) (said_over node r)) (sym relay) in
       subst (IsTail (waits_at b.to_nodes.items node)) same (tail_on _ _ _ (tails node) (f.nodes node));
 }
 
@@ -54,21 +55,30 @@ behind_piece v w (byte ∷ piece) same =
 
 -- ---- an event
 
--- the first lines that are said over the connection of a node, after one event more
-pub first_then : (a b : Desk) (node : ℕ) (e : Event) → b.relay.events ≡ a.relay.events ++ e ∷ [] → b.hello.items ≡ a.hello.items → begins_at node e ≡ false → first_over node b ≡ first_over node a
-first_then a b node e story hello isnt =
-    ap (λ (es : List Event). if has_begun node es then b.hello.items else []) story
-    ∙ (ap (λ (t : Bool). if t then b.hello.items else []) (begun_before node a.relay.events e isnt) ∙ ap (λ (h : List ℕ). if has_begun node a.relay.events then h else []) hello)
+-- from where on a node is asked to tell over its connection, after one event more
+asked_now : (a b : Desk) (node : ℕ) (e : Event) → b.relay ≡ with_event a.relay e → a.relay.standing ≡ after (fresh a.relay.newest a.relay.nodes) a.relay.events
+    → asked_over node b.relay ≡ asked_by node a.relay.standing (asked_over node a.relay) e
+asked_now a b node e story follows =
+    ap (asked_over node) story
+    ∙ (asked_more node (fresh a.relay.newest a.relay.nodes) None a.relay.events e ∙ ap (λ (n : Standing). asked_by node n (asked_over node a.relay) e) (sym follows))
 
-pub first_now : (a b : Desk) (node : ℕ) (e : Event) → b.relay.events ≡ a.relay.events ++ e ∷ [] → begins_at node e ≡ true → first_over node b ≡ b.hello.items
-first_now a b node e story is =
-    ap (λ (es : List Event). if has_begun node es then b.hello.items else []) story ∙ ap (λ (t : Bool). if t then b.hello.items else []) (begun_now node a.relay.events e is)
+-- the first lines that are said over it
+pub first_then : (a b : Desk) (node : ℕ) (e : Event) → b.relay ≡ with_event a.relay e → a.relay.standing ≡ after (fresh a.relay.newest a.relay.nodes) a.relay.events → b.opening ≡ a.opening → begins_at node e ≡ false
+    → first_over node b ≡ first_over node a
+first_then a b node e story follows hello isnt =
+    ap (λ (o : Opening). first_of o.token.items (asked_over node b.relay)) hello
+    ∙ ap (first_of a.opening.token.items) (asked_now a b node e story follows ∙ asked_stays node a.relay.standing (asked_over node a.relay) e isnt)
 
-said_now : (a b : Desk) (node : ℕ) (e : Event) → b.relay ≡ with_event a.relay e → a.relay.standing ≡ after (fresh a.relay.nodes) a.relay.events
-    → said_over b.relay.nodes node b.relay.events ≡ over_by node a.relay.standing (said_over a.relay.nodes node a.relay.events) e
+pub first_now : (a b : Desk) (node : ℕ) (e : Event) → b.relay ≡ with_event a.relay e → a.relay.standing ≡ after (fresh a.relay.newest a.relay.nodes) a.relay.events → begins_at node e ≡ true
+    → first_over node b ≡ greeting b.opening.token.items (asks a.relay.standing)
+first_now a b node e story follows is =
+    ap (first_of b.opening.token.items) (asked_now a b node e story follows ∙ asked_begins node a.relay.standing (asked_over node a.relay) e is)
+
+pub said_now : (a b : Desk) (node : ℕ) (e : Event) → b.relay ≡ with_event a.relay e → a.relay.standing ≡ after (fresh a.relay.newest a.relay.nodes) a.relay.events
+    → said_over node b.relay ≡ over_by node a.relay.standing (said_over node a.relay) e
 said_now a b node e story follows =
-    ap (λ (r : Story). said_over r.nodes node r.events) story
-    ∙ (over_more node (fresh a.relay.nodes) [] a.relay.events e ∙ ap (λ (n : Standing). over_by node n (said_over a.relay.nodes node a.relay.events) e) (sym follows))
+    ap (said_over node) story
+    ∙ (over_more node (fresh a.relay.newest a.relay.nodes) [] a.relay.events e ∙ ap (λ (n : Standing). over_by node n (said_over node a.relay) e) (sym follows))
 
 -- nothing is said to the node, and what waits for it is what waited; or an answer is, and waits
 abbrev pub SaysFew : Desk → Desk → ℕ → Event → Type 0
@@ -76,26 +86,25 @@ SaysFew a b node e =
     ((more_over node a.relay.standing e ≡ []) × (waits_at b.to_nodes.items node ≡ waits_at a.to_nodes.items node))
     ⊎ ((answer : List ℕ) × (more_over node a.relay.standing e ≡ answer ∷ []) × (waits_at b.to_nodes.items node ≡ ended answer))
 
-pub few_event : (a b : Desk) (e : Event) → b.relay ≡ with_event a.relay e → a.relay.standing ≡ after (fresh a.relay.nodes) a.relay.events → b.hello.items ≡ a.hello.items → length b.to_bot.waiting < 65536 + 4098
-    → ((node : ℕ) → begins_at node e ≡ false → SaysFew a b node e) → ((node : ℕ) → begins_at node e ≡ true → waits_at b.to_nodes.items node ≡ b.hello.items) → IsFew a → IsFew b
+pub few_event : (a b : Desk) (e : Event) → b.relay ≡ with_event a.relay e → a.relay.standing ≡ after (fresh a.relay.newest a.relay.nodes) a.relay.events → b.opening ≡ a.opening → length b.to_bot.waiting < 65536 + 4098
+    → ((node : ℕ) → begins_at node e ≡ false → SaysFew a b node e) → ((node : ℕ) → begins_at node e ≡ true → waits_at b.to_nodes.items node ≡ greeting b.opening.token.items (asks a.relay.standing)) → IsFew a → IsFew b
 few_event a b e story follows hello bot others first f = record {
   bot = bot;
   nodes = λ node.
-      let happened : b.relay.events ≡ a.relay.events ++ e ∷ [] = ap (λ (r : Story). r.events) story in
-      let before : List (List ℕ) = said_over a.relay.nodes node a.relay.events in
-      let said : said_over b.relay.nodes node b.relay.events ≡ over_by node a.relay.standing before e = said_now a b node e story follows in
+      let before : List (List ℕ) = said_over node a.relay in
+      let said : said_over node b.relay ≡ over_by node a.relay.standing before e = said_now a b node e story follows in
       let waits : List ℕ = waits_at b.to_nodes.items node in
-      let P : Bool → Type 0 = λ t. begins_at node e ≡ t → IsTail waits (last_said (first_over node b) (said_over b.relay.nodes node b.relay.events)) in
+      let P : Bool → Type 0 = λ t. begins_at node e ≡ t → IsTail waits (last_said (first_over node b) (said_over node b.relay)) in
       let step : P (begins_at node e) = elim (begins_at node e) as P [
         | true ↦ λ is.
-            let none : said_over b.relay.nodes node b.relay.events ≡ [] = said ∙ over_begins node a.relay.standing before e is in
-            tail_same waits _ (first node is ∙ (sym (first_now a b node e happened is) ∙ ap (last_said (first_over node b)) (sym none)))
+            let none : said_over node b.relay ≡ [] = said ∙ over_begins node a.relay.standing before e is in
+            tail_same waits _ (first node is ∙ (sym (first_now a b node e story follows is) ∙ ap (last_said (first_over node b)) (sym none)))
         | false ↦ λ isnt.
-            let more : said_over b.relay.nodes node b.relay.events ≡ before ++ more_over node a.relay.standing e = said ∙ over_is node a.relay.standing before e isnt in
-            let start : first_over node b ≡ first_over node a = first_then a b node e happened hello isnt in
+            let more : said_over node b.relay ≡ before ++ more_over node a.relay.standing e = said ∙ over_is node a.relay.standing before e isnt in
+            let start : first_over node b ≡ first_over node a = first_then a b node e story follows hello isnt in
             elim (others node isnt) [
               | inl none ↦
-                  let same : last_said (first_over node a) before ≡ last_said (first_over node b) (said_over b.relay.nodes node b.relay.events) =
+                  let same : last_said (first_over node a) before ≡ last_said (first_over node b) (said_over node b.relay) =
                   ap (λ (h : List ℕ). last_said h before) (sym start)
                   ∙ ap (last_said (first_over node b)) (sym (more ∙ (ap (λ (l : List (List ℕ)). before ++ l) none.0 ∙ append-nil before))) in
                   subst (IsTail waits) same (tail_on _ _ _ (tail_same _ _ none.1) (f.nodes node))

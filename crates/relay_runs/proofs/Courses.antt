@@ -1,18 +1,18 @@
 -- What follows of how a relay came to where it stands.
-use Rattle.std.proofs.Common.{◌≡◌, ℕ, zero, suc, ◌<◌, Bool, true, false, if◌then◌else◌, List, [], ◌∷◌, ◌++◌, append_assoc, append-nil, inl, inr, Option, Some, None, option_to_list, refl, ap, sym, subst, ◌∙◌, arith}
+use Rattle.std.proofs.Common.{◌≡◌, ℕ, zero, suc, ◌<◌, Bool, true, false, if◌then◌else◌, List, [], ◌∷◌, ◌++◌, append_assoc, append-nil, Option, Some, None, option_to_list, refl, ap, sym, subst, ◌∙◌, arith}
 use Rattle.std.specs.List.{AllByRecursion}
 use Rattle.std.proofs.lemmas.Bool.{eq-eqb}
 use Rattle.matchstate.specs.Free.{IsFreeOf}
 use Rattle.node_wires.specs.declared.line.Line.TheVariants.{Peer}
 use Rattle.node_wires.specs.Passages.{Passage, came_over}
-use Rattle.seat_relay.specs.Relaying.{Line, Event, Begins, Ends, Tells, Says, Pushes, after, given, all_given, is_news}
-use Rattle.seat_relay.specs.Laws.{fresh}
+use Rattle.seat_relay.specs.Relaying.{Line, Standing, Event, Begins, Ends, Tells, Closes, Says, Pushes, after, given, all_given, is_given}
+use Rattle.seat_relay.specs.Laws.{fresh, Word, Shows, Over, words_over}
 use Rattle.relay_runs.specs.declared.desk.Desk.{Desk}
 use Rattle.relay_runs.specs.Since.{begun_over}
-use Rattle.relay_runs.specs.Said.{waits_at}
-use Rattle.relay_runs.specs.Heard.{with_feeds, IsLineOf, AreHeard, IsHeardOf, told_over}
+use Rattle.relay_runs.specs.Said.{waits_at, lines_given}
+use Rattle.relay_runs.specs.Heard.{with_feeds, IsLineOf, Adds, AreHeard, IsHeardOf}
 use Rattle.relay_runs.specs.Course.{Explains, Course, CoursesExplain, CameFrom, LinesCame}
-use Rattle.relay_runs.proofs.Hearing.{told_more}
+use Rattle.relay_runs.proofs.Hearing.{words_more}
 use Rattle.relay_runs.proofs.Happening.{given_more}
 
 pub courses_explain : CoursesExplain
@@ -21,17 +21,17 @@ courses_explain desk passed (Course.step old new passed_old passed_new before ne
 
 -- ---- all of a list
 
-all_joined : (P : Line → Type 0) (first second : List Line) → AllByRecursion P first → AllByRecursion P second → AllByRecursion P (first ++ second)
+all_joined : {A : Type 0} (P : A → Type 0) (first second : List A) → AllByRecursion P first → AllByRecursion P second → AllByRecursion P (first ++ second)
 all_joined P [] second one two = two
-all_joined P (line ∷ first) second one two = (one.0, all_joined P first second one.1 two)
+all_joined P (x ∷ first) second one two = (one.0, all_joined P first second one.1 two)
 
-all_so : (P Q : Line → Type 0) → ((line : Line) → P line → Q line) → (lines : List Line) → AllByRecursion P lines → AllByRecursion Q lines
+all_so : {A : Type 0} (P Q : A → Type 0) → ((x : A) → P x → Q x) → (items : List A) → AllByRecursion P items → AllByRecursion Q items
 all_so P Q so [] all = tt
-all_so P Q so (line ∷ lines) all = (so line all.0, all_so P Q so lines all.1)
+all_so P Q so (x ∷ items) all = (so x all.0, all_so P Q so items all.1)
 
-last_of : (P : Line → Type 0) (lines : List Line) (line : Line) → AllByRecursion P (lines ++ line ∷ []) → P line
-last_of P [] line all = all.0
-last_of P (one ∷ lines) line all = last_of P lines line all.1
+last_of : {A : Type 0} (P : A → Type 0) (items : List A) (x : A) → AllByRecursion P (items ++ x ∷ []) → P x
+last_of P [] x all = all.0
+last_of P (one ∷ items) x all = last_of P items x all.1
 
 -- ---- a line that was told
 
@@ -44,17 +44,25 @@ record IsOf (raws : List (List ℕ)) (line : Line) : Type 0 where
   free : IsFreeOf 10 raw
   is_line : IsLineOf raw line
 
-all_heard : (raws : List (List ℕ)) (told : List Line) → AreHeard raws told → AllByRecursion (IsOf raws) told
-all_heard [] told none = subst (AllByRecursion (IsOf [])) (sym none) tt
+abbrev WordIsOf : List (List ℕ) → Word → Type 0
+WordIsOf raws (Shows line) = IsOf raws line
+WordIsOf raws Over = Unit {0}
+
+word_later : (raw : List ℕ) (more : List (List ℕ)) (word : Word) → WordIsOf more word → WordIsOf (raw ∷ more) word
+word_later raw more (Shows line) is = record { before = raw ∷ is.before; raw = is.raw; behind = is.behind; parts = ap (λ (l : List (List ℕ)). raw ∷ l) is.parts; free = is.free; is_line = is.is_line }
+word_later raw more Over is = tt
+
+own_heard : (raw : List ℕ) (more : List (List ℕ)) (own : List Word) → IsFreeOf 10 raw → Adds raw own → AllByRecursion (WordIsOf (raw ∷ more)) own
+own_heard raw more own free (Adds.shows line is) = (record { before = []; raw = raw; behind = more; parts = refl; free = free; is_line = is }, tt)
+own_heard raw more own free (Adds.closes text is_text is) = (tt, tt)
+own_heard raw more own free (Adds.nothing text is_text none not_over) = tt
+
+all_heard : (raws : List (List ℕ)) (told : List Word) → AreHeard raws told → AllByRecursion (WordIsOf raws) told
+all_heard [] told none = subst (AllByRecursion (WordIsOf [])) (sym none) tt
 all_heard (raw ∷ more) told h =
-    let P : Line → Type 0 = IsOf (raw ∷ more) in
-    let later : AllByRecursion P h.1 =
-    all_so (IsOf more) P (λ line is. record { before = raw ∷ is.before; raw = is.raw; behind = is.behind; parts = ap (λ (l : List (List ℕ)). raw ∷ l) is.parts; free = is.free; is_line = is.is_line }) h.1 (all_heard more h.1 h.5) in
-    let own : AllByRecursion P h.0 = elim h.4 [
-      | inl is ↦ subst (AllByRecursion P) (sym is.1) (record { before = []; raw = raw; behind = more; parts = refl; free = h.3; is_line = is.2 }, tt)
-      | inr isnt ↦ subst (AllByRecursion P) (sym isnt.0) tt
-    ] in
-    subst (AllByRecursion P) (sym h.2) (all_joined P h.0 h.1 own later)
+    let P : Word → Type 0 = WordIsOf (raw ∷ more) in
+    let later : AllByRecursion P h.1 = all_so (WordIsOf more) P (word_later raw more) h.1 (all_heard more h.1 h.5) in
+    subst (AllByRecursion P) (sym h.2) (all_joined P h.0 h.1 (own_heard raw more h.0 h.3 h.4) later)
 
 pub feeds_joined : (first second : List (List ℕ)) → with_feeds (first ++ second) ≡ with_feeds first ++ with_feeds second
 feeds_joined [] second = refl
@@ -76,10 +84,11 @@ some_begun (suc n) isnt = omega arith
 
 came_of : (new : Desk) (passed : List Passage) (events : List Event) (node : ℕ) (line : Line) → new.relay.events ≡ events ++ Tells node line ∷ [] → Explains new passed → CameFrom passed line
 came_of new passed events node line story explains =
-    let h : IsHeardOf (came_over passed (Peer node)) (waits_at new.from_nodes.items node) (told_over node new.relay.events) = explains.heard.nodes node in
-    let told : told_over node new.relay.events ≡ told_over node events ++ line ∷ [] =
-    ap (told_over node) story ∙ (told_more node [] events (Tells node line) ∙ ap (λ (t : Bool). if t then told_over node events ++ line ∷ [] else told_over node events) (eq-eqb node node refl)) in
-    let is : IsOf h.raws line = last_of (IsOf h.raws) (told_over node events) line (all_heard h.raws (told_over node events ++ line ∷ []) (subst (AreHeard h.raws) told h.heard)) in
+    let h : IsHeardOf (came_over passed (Peer node)) (waits_at new.from_nodes.items node) (words_over node new.relay.events) = explains.heard.nodes node in
+    let told : words_over node new.relay.events ≡ words_over node events ++ Shows line ∷ [] =
+    ap (words_over node) story ∙ (words_more node [] events (Tells node line) ∙ ap (λ (t : Bool). if t then words_over node events ++ Shows line ∷ [] else words_over node events) (eq-eqb node node refl)) in
+    let is : IsOf h.raws line =
+    last_of (WordIsOf h.raws) (words_over node events) (Shows line) (all_heard h.raws (words_over node events ++ Shows line ∷ []) (subst (AreHeard h.raws) told h.heard)) in
     let rest : List ℕ = with_feeds is.behind ++ waits_at new.from_nodes.items node in
     let came : came_over passed (Peer node) ≡ with_feeds (is.before ++ is.raw ∷ []) ++ rest =
     h.whole ∙ (ap (λ (l : List ℕ). l ++ waits_at new.from_nodes.items node)
@@ -116,24 +125,50 @@ came_still x y more f line c = record {
   is_line = c.is_line;
 }
 
-came_by : (old new : Desk) (y : List Passage) (e : Event) → new.relay.events ≡ old.relay.events ++ e ∷ [] → AllByRecursion (CameFrom y) (all_given None old.relay.events)
-    → AllByRecursion (CameFrom y) (given (after (fresh 0) old.relay.events).last e) → AllByRecursion (CameFrom y) (all_given None new.relay.events)
-came_by old new y e story all own =
-    subst (AllByRecursion (CameFrom y)) (sym (ap (all_given None) story ∙ given_more (fresh 0) old.relay.events e)) (all_joined (CameFrom y) _ _ all own)
+-- the lines that were given, by one step
+given_next : (old new : Desk) (es : List Event) → new.relay.newest ≡ old.relay.newest → new.relay.nodes ≡ old.relay.nodes → new.relay.events ≡ old.relay.events ++ es
+    → lines_given new.relay ≡ all_given (fresh old.relay.newest old.relay.nodes) (old.relay.events ++ es)
+given_next old new es mode nodes story =
+    ap (all_given (fresh new.relay.newest new.relay.nodes)) story
+    ∙ (ap (λ (b : Bool). all_given (fresh b new.relay.nodes) (old.relay.events ++ es)) mode ∙ ap (λ (n : ℕ). all_given (fresh old.relay.newest n) (old.relay.events ++ es)) nodes)
 
-came_on : (old new : Desk) (y : List Passage) (event : Option Event) → new.relay.events ≡ old.relay.events ++ option_to_list event → Explains new y → AllByRecursion (CameFrom y) (all_given None old.relay.events)
-    → AllByRecursion (CameFrom y) (all_given None new.relay.events)
-came_on old new y None story explains all = subst (λ (es : List Event). AllByRecursion (CameFrom y) (all_given None es)) (sym (story ∙ append-nil old.relay.events)) all
-came_on old new y (Some (Begins node)) story explains all = came_by old new y (Begins node) story all tt
-came_on old new y (Some (Ends node)) story explains all = came_by old new y (Ends node) story all tt
-came_on old new y (Some (Tells node line)) story explains all =
-    came_by old new y (Tells node line) story all
-    (elim (is_news (after (fresh 0) old.relay.events).last line) as (λ (t : Bool). AllByRecursion (CameFrom y) (if t then line ∷ [] else [])) [ true ↦ (came_of new y old.relay.events node line story explains, tt) | false ↦ tt ])
-came_on old new y (Some (Says text)) story explains all = came_by old new y (Says text) story all tt
-came_on old new y (Some (Pushes node)) story explains all = came_by old new y (Pushes node) story all tt
+-- where it is no event, or one
+came_still_given : (old new : Desk) (y : List Passage) → new.relay.newest ≡ old.relay.newest → new.relay.nodes ≡ old.relay.nodes → new.relay.events ≡ old.relay.events ++ []
+    → AllByRecursion (CameFrom y) (lines_given old.relay) → AllByRecursion (CameFrom y) (lines_given new.relay)
+came_still_given old new y mode nodes story all =
+    subst (AllByRecursion (CameFrom y)) (sym (given_next old new [] mode nodes story ∙ ap (all_given (fresh old.relay.newest old.relay.nodes)) (append-nil old.relay.events))) all
+
+came_by : (old new : Desk) (y : List Passage) (e : Event) → new.relay.newest ≡ old.relay.newest → new.relay.nodes ≡ old.relay.nodes → new.relay.events ≡ old.relay.events ++ e ∷ []
+    → AllByRecursion (CameFrom y) (lines_given old.relay)
+    → AllByRecursion (CameFrom y) (given (after (fresh old.relay.newest old.relay.nodes) old.relay.events) e) → AllByRecursion (CameFrom y) (lines_given new.relay)
+came_by old new y e mode nodes story all own =
+    let start : Standing = fresh old.relay.newest old.relay.nodes in
+    subst (AllByRecursion (CameFrom y)) (sym (given_next old new (e ∷ []) mode nodes story ∙ given_more start old.relay.events e))
+    (all_joined (CameFrom y) (all_given start old.relay.events) (given (after start old.relay.events) e) all own)
+
+came_on : (old new : Desk) (y : List Passage) (event : Option Event) → new.relay.newest ≡ old.relay.newest → new.relay.nodes ≡ old.relay.nodes → new.relay.events ≡ old.relay.events ++ option_to_list event → Explains new y
+    → AllByRecursion (CameFrom y) (lines_given old.relay) → AllByRecursion (CameFrom y) (lines_given new.relay)
+came_on old new y None mode nodes story explains all = came_still_given old new y mode nodes story all
+came_on old new y (Some (Begins node)) mode nodes story explains all = came_by old new y (Begins node) mode nodes story all tt
+came_on old new y (Some (Ends node)) mode nodes story explains all = came_by old new y (Ends node) mode nodes story all tt
+came_on old new y (Some (Tells node line)) mode nodes story explains all =
+    came_by old new y (Tells node line) mode nodes story all
+    (elim (is_given (after (fresh old.relay.newest old.relay.nodes) old.relay.events) node line) as (λ (t : Bool). AllByRecursion (CameFrom y) (if t then line ∷ [] else [])) [
+      | true ↦ (came_of new y old.relay.events node line story explains, tt)
+      | false ↦ tt
+    ])
+came_on old new y (Some (Closes node)) mode nodes story explains all = came_by old new y (Closes node) mode nodes story all tt
+came_on old new y (Some (Says text)) mode nodes story explains all = came_by old new y (Says text) mode nodes story all tt
+came_on old new y (Some (Pushes node)) mode nodes story explains all = came_by old new y (Pushes node) mode nodes story all tt
+
+none_came : (P : Line → Type 0) (s : Standing) → AllByRecursion P (all_given s [])
+unfolding all_given
+none_came P s = tt
 
 pub lines_came : LinesCame
-lines_came desk passed (Course.begin at story explains) = subst (λ (es : List Event). AllByRecursion (CameFrom []) (all_given None es)) (sym story) tt
+lines_came desk passed (Course.begin at story explains) =
+    let start : Standing = fresh at.relay.newest at.relay.nodes in
+    subst (λ (es : List Event). AllByRecursion (CameFrom []) (all_given start es)) (sym story) (none_came (CameFrom []) start)
 lines_came desk passed (Course.step old new x y before next explains) =
-    came_on old new y next.event next.happened explains
-    (all_so (CameFrom x) (CameFrom y) (came_still x y (option_to_list next.passage) next.passed) (all_given None old.relay.events) (lines_came old x before))
+    came_on old new y next.event next.mode next.nodes next.happened explains
+    (all_so (CameFrom x) (CameFrom y) (came_still x y (option_to_list next.passage) next.passed) (lines_given old.relay) (lines_came old x before))

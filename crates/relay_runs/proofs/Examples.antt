@@ -2,14 +2,14 @@
 use Rattle.std.proofs.Common.{◌≡◌, ℕ, ◌==◌, ◌||◌, Bool, true, false, ◌<◌, ◌≤◌, length, get_or, append-nil, List, [], ◌∷◌, ◌++◌, drop, codes, option_to_list, Option, None, Some, inl, inr, refl, ap, sym, subst, ◌∙◌, arith}
 use Rattle.std.proofs.lemmas.Bool.{cases_eq, eq-eqb, ne_eqb, false≢true}
 use Rattle.matchstate.specs.Free.{IsFreeOf}
-use Rattle.seat_relay.specs.Relaying.{Line, Event, Begins, Ends, Tells, Says, Pushes, happens, answered}
-use Rattle.seat_relay.specs.Laws.{begun}
+use Rattle.seat_relay.specs.Relaying.{Line, Story, Event, Begins, Ends, Tells, Says, Pushes, happens, answered, all_given}
+use Rattle.seat_relay.specs.Laws.{fresh, begun, Word, Shows, Over, words_over}
 use Rattle.node_wires.specs.declared.line.Line.TheVariants.{Peer, Seat, Guest}
 use Rattle.node_wires.specs.Passages.{Passage, Began, Came, Wrote, came_over}
 use Rattle.relay_runs.specs.declared.desk.Desk.{Desk}
 use Rattle.relay_runs.specs.Since.{since_bot, bots_in, begun_over}
-use Rattle.relay_runs.specs.Said.{bytes_of_lines, hello_of, over_behind, said_over, has_begun, waits_at}
-use Rattle.relay_runs.specs.Heard.{with_feeds, IsTextOf, IsLineOf, AreHeard, IsHeardOf, told_over, is_comment, IsPassedOver, IsVersion, IsMendedBy, IsSaidFor, AddsSaid, AreSaid, IsSaidOf, sayings_in}
+use Rattle.relay_runs.specs.Said.{bytes_of_lines, token_line, greeting, asks, asked_behind, asked_over, over_behind, said_over, waits_at}
+use Rattle.relay_runs.specs.Heard.{with_feeds, IsTextOf, IsLineOf, Adds, AreHeard, IsHeardOf, is_comment, IsPassedOver, IsVersion, IsMendedBy, IsSaidFor, AddsSaid, AreSaid, IsSaidOf, sayings_in}
 use Rattle.relay_runs.specs.Few.{last_said, IsTail, IsFew}
 use Rattle.relay_runs.specs.Course.{Explains, ComesBehind, IsNext, CameFrom}
 use Rattle.relay_runs.specs.Told.{CameFromBot, WasCurrent}
@@ -71,43 +71,60 @@ abbrev line : ℕ → ℕ → Line
 line hand len = record { text = hand ∷ len ∷ []; place = record { hand = hand; len = len } }
 
 abbrev answer : List ℕ
-answer = 0 ∷ 1 ∷ 58 ∷ 99 ∷ []
+answer = 0 ∷ 0 ∷ 58 ∷ 99 ∷ []
 
 -- node 0 is dialled, tells a line and is told the answer twice; it is dialled again, and tells a further line
 abbrev events : List Event
-events = Begins 0 ∷ Tells 0 (line 0 1) ∷ Says answer ∷ Pushes 0 ∷ Pushes 0 ∷ []
+events = Begins 0 ∷ Tells 0 (line 0 0) ∷ Says answer ∷ Pushes 0 ∷ Pushes 0 ∷ []
 
 abbrev further : List Event
 further = events ++ Begins 0 ∷ Tells 0 (line 1 0) ∷ []
 
-lines_over_the_last_connection : told_over 0 further ≡ line 1 0 ∷ []
+lines_over_the_last_connection : words_over 0 further ≡ Shows (line 1 0) ∷ []
 lines_over_the_last_connection = refl
 
-no_lines_of_another : told_over 1 further ≡ []
+no_lines_of_another : words_over 1 further ≡ []
 no_lines_of_another = refl
 
 what_the_bot_says : sayings_in further ≡ answer ∷ []
 what_the_bot_says = refl
 
-an_answer_is_said_once : said_over 1 0 events ≡ answer ∷ []
+-- a relay of two nodes to which this happened
+abbrev of_two : List Event → Story
+of_two what = record { nodes = 2; newest = false; standing = fresh false 2; events = what }
+
+an_answer_is_said_once : said_over 0 (of_two events) ≡ answer ∷ []
 unfolding over_behind happens answered
 an_answer_is_said_once = refl
 
-over_the_next_connection_none : said_over 1 0 further ≡ []
+over_the_next_connection_none : said_over 0 (of_two further) ≡ []
 unfolding over_behind happens answered
 over_the_next_connection_none = refl
 
-a_connection_began : has_begun 0 events ≡ true
-a_connection_began = refl
+-- the first connection asks for the first line, the next one for the last line that the bot was given
+the_first_line_is_asked_for : asked_over 0 (of_two events) ≡ Some (codes "FIRST")
+unfolding asked_behind happens
+the_first_line_is_asked_for = refl
 
-none_began_to_another : has_begun 1 events ≡ false
-none_began_to_another = refl
+then_the_last_line : asked_over 0 (of_two further) ≡ Some (0 ∷ 0 ∷ [])
+unfolding asked_behind happens
+then_the_last_line = refl
+
+nobody_else_is_asked : asked_over 1 (of_two further) ≡ None
+unfolding asked_behind happens
+nobody_else_is_asked = refl
+
+a_late_relay_asks_for_the_newest : asks (fresh true 2) ≡ codes "NEWEST"
+a_late_relay_asks_for_the_newest = refl
 
 lines_end_so : bytes_of_lines (line 3 4 ∷ line 5 6 ∷ []) ≡ 3 ∷ 4 ∷ 13 ∷ 10 ∷ 5 ∷ 6 ∷ 13 ∷ 10 ∷ []
 lines_end_so = refl
 
-the_token_comes_first : hello_of (Some (codes "abc")) ≡ codes "#TOKEN abc\r\nVERSION:2.0.0\r\n"
+the_token_comes_first : greeting (token_line (Some (codes "abc"))) (codes "FIRST") ≡ codes "#TOKEN abc\r\n#RESUME FIRST\r\nVERSION:2.0.0\r\n"
 the_token_comes_first = refl
+
+without_a_token : greeting (token_line None) (codes "MATCHSTATE:0:0::5d5c|") ≡ codes "#RESUME MATCHSTATE:0:0::5d5c|\r\nVERSION:2.0.0\r\n"
+without_a_token = refl
 
 -- ---- texts
 
@@ -223,45 +240,55 @@ nothing_comes_behind_a_whole_line desk waits behind = (subst (IsFreeOf 10) waits
 
 -- ---- the newest line
 
-it_answers_the_newest_line : WasCurrent events 0 answer
+it_answers_the_newest_line : WasCurrent false 2 events 0 answer
+unfolding all_given happens
 it_answers_the_newest_line = record {
-  front = Begins 0 ∷ Tells 0 (line 0 1) ∷ Says answer ∷ [];
+  front = Begins 0 ∷ Tells 0 (line 0 0) ∷ Says answer ∷ [];
   behind = Pushes 0 ∷ [];
   moment = refl;
   lines = [];
-  line = line 0 1;
+  line = line 0 0;
   given_last = refl;
   field = 99 ∷ [];
   whole = refl;
 }
 
-nothing_is_said_by_no_event : (text : List ℕ) → WasCurrent [] 0 text → ⊥
+nothing_is_said_by_no_event : (text : List ℕ) → WasCurrent false 2 [] 0 text → ⊥
 nothing_is_said_by_no_event text was = no_event was.front was.behind was.moment
 
 -- ---- what is heard
 
-no_line_of_nothing : (one : Line) → AreHeard [] (one ∷ []) → ⊥
+no_line_of_nothing : (one : Line) → AreHeard [] (Shows one ∷ []) → ⊥
 no_line_of_nothing one heard = absurd cc
 
+no_word : (word : Word) (own rest : List Word) → [] ≡ (word ∷ own) ++ rest → ⊥
+no_word word own rest same = cc
+
+-- how a line would be left out
+line_left_out : (raw : List ℕ) (one : Line) (own rest : List Word) → IsLineOf raw one → [] ≡ own ++ rest → Adds raw own → ⊥
+line_left_out raw one own rest is none (Adds.shows line shown) = no_word (Shows line) [] rest none
+line_left_out raw one own rest is none (Adds.closes text is_text over) = no_word Over [] rest none
+line_left_out raw one own rest is none (Adds.nothing text is_text no_line not_over) = no_line one is
+
 no_line_is_left_out : (raw : List ℕ) (one : Line) → IsLineOf raw one → AreHeard (raw ∷ []) [] → ⊥
-no_line_is_left_out raw one is heard =
-    elim heard.4 [
-      | inl told ↦ let some : [] ≡ told.0 ∷ heard.1 = heard.2 ∙ ap (λ (own : List Line). own ++ heard.1) told.1 in absurd cc
-      | inr none ↦ none.1 one is
-    ]
+no_line_is_left_out raw one is heard = line_left_out raw one heard.0 heard.1 is heard.2 heard.4
+
+-- that the match is over is said by these bytes alone
+the_end_is_heard : Adds (codes "#OVER\r") (Over ∷ [])
+the_end_is_heard = Adds.closes (codes "#OVER") (inl refl) refl
 
 -- ---- what happened and what passed
 
 -- no line is told of a node over whose connection nothing came
-nothing_came : (raws : List (List ℕ)) (waiting : List ℕ) (one : Line) → [] ≡ with_feeds raws ++ waiting → AreHeard raws (one ∷ []) → ⊥
+nothing_came : (raws : List (List ℕ)) (waiting : List ℕ) (one : Line) → [] ≡ with_feeds raws ++ waiting → AreHeard raws (Shows one ∷ []) → ⊥
 nothing_came [] waiting one whole heard = absurd cc
 nothing_came ([] ∷ more) waiting one whole heard = absurd cc
 nothing_came ((byte ∷ raw) ∷ more) waiting one whole heard = absurd cc
 
 an_invented_line_is_refused : (desk : Desk) (one : Line) → desk.relay.events ≡ Tells 0 one ∷ [] → Explains desk [] → ⊥
 an_invented_line_is_refused desk one story explains =
-    let h : IsHeardOf [] (waits_at desk.from_nodes.items 0) (told_over 0 desk.relay.events) = explains.heard.nodes 0 in
-    nothing_came h.raws (waits_at desk.from_nodes.items 0) one h.whole (subst (AreHeard h.raws) (ap (told_over 0) story) h.heard)
+    let h : IsHeardOf [] (waits_at desk.from_nodes.items 0) (words_over 0 desk.relay.events) = explains.heard.nodes 0 in
+    nothing_came h.raws (waits_at desk.from_nodes.items 0) one h.whole (subst (AreHeard h.raws) (ap (words_over 0) story) h.heard)
 
 none_is_not_one : (n : ℕ) → n ≡ 1 → n ≡ 0 → ⊥
 none_is_not_one n one none = omega arith

@@ -5,20 +5,21 @@ use Rattle.byte_queue.specs.Queued.{Queued}
 use Rattle.node_wires.specs.declared.line.Line.{Line as Wire}
 use Rattle.node_wires.specs.declared.line.Line.TheVariants.{Peer, Seat}
 use Rattle.node_wires.specs.Passages.{Passage, Began, Came, Wrote, wrote_over}
-use Rattle.seat_relay.specs.Relaying.{Line, Standing, Event, Begins, Ends, Tells, Says, Pushes, Story, after, answered, given, all_given, with_event, is_news, is_even, link_at}
+use Rattle.seat_relay.specs.Relaying.{Line, Standing, Event, Begins, Ends, Tells, Closes, Says, Pushes, Story, after, answered, given, all_given, with_event, is_given, is_even, link_at}
 use Rattle.seat_relay.specs.Laws.{fresh, begun}
 use Rattle.relay_runs.specs.declared.desk.Desk.{Desk}
+use Rattle.relay_runs.specs.declared.opening.Opening.{Opening}
 use Rattle.relay_runs.specs.Since.{is_taken_in, since_bot, bots_in, begins_there, begun_over}
-use Rattle.relay_runs.specs.Said.{ended, bytes_of_lines, bytes_of_answers, said_over, begins_at, has_begun, over_by, over_behind, waits_at, AreEmpty, first_over, IsSaid, Reads, Writes}
+use Rattle.relay_runs.specs.Said.{ended, bytes_of_lines, bytes_of_answers, greeting, asks, asked_behind, asked_over, first_of, lines_given, said_over, begins_at, over_by, over_behind, waits_at, AreEmpty, first_over, IsSaid, Reads, Writes}
 use Rattle.relay_runs.specs.Heard.{IsHeard}
 use Rattle.relay_runs.specs.Own.{was_dialled, IsNoneDialled, IsOwned}
 use Rattle.relay_runs.specs.Few.{IsTail, IsFew}
 use Rattle.relay_runs.specs.Course.{Explains, ComesBehind, IsNext, Course}
-use Rattle.relay_runs.specs.Kept.{GoesOn, BeginsAnew, Keeps, Stays}
-use Rattle.relay_runs.proofs.Writing.{write_behind, came_more, own_line, since_more, since_taken, bots_same, bots_more, more_begun}
+use Rattle.relay_runs.specs.Kept.{GoesOn, BeginsAnew, IsMode, Keeps, Stays}
+use Rattle.relay_runs.proofs.Writing.{write_behind, came_more, own_line, since_more, since_taken, bots_same, bots_more, bots_one, more_begun}
 use Rattle.relay_runs.proofs.Waiting.{waits_here, waits_elsewhere, set_back}
 use Rattle.relay_runs.proofs.Hearing.{heard_alike, heard_still, heard_read_node, heard_read_bot, heard_fresh}
-use Rattle.relay_runs.proofs.Happening.{given_more, over_more, begun_now, begun_before, begun_more, lines_more, answers_more, more_over, over_is, over_begins}
+use Rattle.relay_runs.proofs.Happening.{given_more, over_more, begun_more, lines_more, answers_more, more_over, over_is, over_begins}
 use Rattle.relay_runs.proofs.Owning.{owned_alike, owned_more, owned_came, owned_wrote, owned_dialled, owned_fresh}
 use Rattle.relay_runs.proofs.Bounds.{tail_same, tail_behind, few_alike, as_long, behind_piece, first_then, first_now, SaysFew, few_event, few_lines, few_fresh}
 use Rattle.relay_runs.proofs.Courses.{courses_explain}
@@ -38,13 +39,24 @@ kept_on a b c x y z one two = record {
   hello = two.hello ∙ one.hello;
   mended = two.mended ∙ one.mended;
   course = λ s. two.course (one.course s);
+  mode = λ newest is. two.mode newest (one.mode newest is);
   grows = grows_on a b c x y z two.course one.grows two.grows;
+}
+
+-- where the bots' lines begin, as long as none is taken in
+mode_same : (a b : Desk) (x y : List Passage) → b.opening ≡ a.opening → b.relay.newest ≡ a.relay.newest → bots_in y ≡ bots_in x → (newest : Bool) → IsMode newest a x → IsMode newest b y
+mode_same a b x y opening relay bots newest is = record {
+  next = λ none. ap (λ (o : Opening). o.newest) opening ∙ is.next (sym bots ∙ none);
+  later = λ some. ap (λ (o : Opening). o.newest) opening ∙ is.later (subst (λ (n : ℕ). 0 < n) bots some);
+  first = λ one. relay ∙ is.first (sym bots ∙ one);
+  further = λ more. relay ∙ is.further (subst (λ (n : ℕ). 1 < n) bots more);
 }
 
 pub kept_same : (a b : Desk) (x y : List Passage) → b ≡ a → y ≡ x → Keeps a b x y
 kept_same a b x y e f = record {
-  hello = ap (λ (d : Desk). d.hello.items) e;
+  hello = ap (λ (d : Desk). d.opening.token.items) e;
   mended = ap (λ (d : Desk). d.mended) e;
+  mode = mode_same a b x y (ap (λ (d : Desk). d.opening) e) (ap (λ (d : Desk). d.relay.newest) e) (ap bots_in f);
   course = λ s. subst (λ (d : Desk). Course d (since_bot y)) (sym e) (subst (λ (ps : List Passage). Course a (since_bot ps)) (sym f) s);
   grows = inl (record { bots = ap bots_in f; more = []; happened = ap (λ (d : Desk). d.relay.events) e ∙ sym (append-nil a.relay.events) });
 }
@@ -68,8 +80,9 @@ course_on a b x y s c =
 -- nothing passes
 kept_quietly : (a b : Desk) (x : List Passage) → Steps a b (since_bot x) (since_bot x) → Keeps a b x x
 kept_quietly a b x s = record {
-  hello = s.next.hello;
+  hello = ap (λ (o : Opening). o.token.items) s.next.hello;
   mended = s.next.mended;
+  mode = mode_same a b x x s.next.hello s.next.mode refl;
   course = course_on a b (since_bot x) (since_bot x) s;
   grows = inl (record { bots = refl; more = option_to_list s.next.event; happened = s.next.happened });
 }
@@ -77,8 +90,9 @@ kept_quietly a b x s = record {
 -- something does
 kept_passing : (a b : Desk) (x y : List Passage) (p : Passage) → y ≡ x ++ p ∷ [] → is_taken_in p ≡ false → Steps a b (since_bot x) (since_bot x ++ p ∷ []) → Keeps a b x y
 kept_passing a b x y p f isnt s = record {
-  hello = s.next.hello;
+  hello = ap (λ (o : Opening). o.token.items) s.next.hello;
   mended = s.next.mended;
+  mode = mode_same a b x y s.next.hello s.next.mode (bots_same x y p f isnt);
   course = λ c. subst (Course b) (sym (since_more x y p f isnt)) (course_on a b (since_bot x) (since_bot x ++ p ∷ []) s c);
   grows = inl (record { bots = bots_same x y p f isnt; more = option_to_list s.next.event; happened = s.next.happened });
 }
@@ -89,40 +103,40 @@ kept_passing a b x y p f isnt s = record {
 joined : (w v p q : List ℕ) → v ≡ w → q ≡ p → v ++ q ≡ w ++ p
 joined w v p q f e = ap (λ (l : List ℕ). l ++ q) f ∙ ap (λ (l : List ℕ). w ++ l) e
 
-steps_by : (a b : Desk) (x y : List Passage) (p : Option Passage) → y ≡ x ++ option_to_list p → ((node : ℕ) → begun_over y (Peer node) ≡ begun_over x (Peer node)) → b.hello.items ≡ a.hello.items → b.mended ≡ a.mended
+steps_by : (a b : Desk) (x y : List Passage) (p : Option Passage) → y ≡ x ++ option_to_list p → ((node : ℕ) → begun_over y (Peer node) ≡ begun_over x (Peer node)) → b.opening ≡ a.opening → b.mended ≡ a.mended
     → b.relay ≡ a.relay → wrote_over y (Seat 0) ++ b.to_bot.waiting ≡ wrote_over x (Seat 0) ++ a.to_bot.waiting
     → ((node : ℕ) → wrote_over y (Peer node) ++ waits_at b.to_nodes.items node ≡ wrote_over x (Peer node) ++ waits_at a.to_nodes.items node) → (IsHeard a x → IsHeard b y)
     → (IsOwned a x → IsOwned b y) → IfSome p (ComesBehind a) → (IsFew a → IsFew b) → Steps a b x y
 steps_by a b x y p f counts hello mended relay bot others heard own behind few = record {
-  next = record { hello = hello; mended = mended; event = None; happened = ap (λ (r : Story). r.events) relay ∙ sym (append-nil a.relay.events); passage = p; passed = f; behind = behind };
+  next = record { hello = hello; mode = ap (λ (r : Story). r.newest) relay; nodes = ap (λ (r : Story). r.nodes) relay; mended = mended; event = None; happened = ap (λ (r : Story). r.events) relay ∙ sym (append-nil a.relay.events); passage = p; passed = f; behind = behind };
   begun = λ was node. ap (λ (r : Story). begun node r.events) relay ∙ (was node ∙ sym (counts node));
   heard = heard;
   own = own;
   few = few;
   said = λ s. record {
-    bot = bot ∙ (s.bot ∙ ap (λ (r : Story). bytes_of_lines (all_given None r.events)) (sym relay));
+    bot = bot ∙ (s.bot ∙ ap (λ (r : Story). bytes_of_lines (lines_given r)) (sym relay));
     nodes = λ node.
         others node ∙ (s.nodes node
-        ∙ (ap (λ (h : List ℕ). (if has_begun node a.relay.events then h else []) ++ bytes_of_answers (said_over a.relay.nodes node a.relay.events)) (sym hello)
-        ∙ ap (λ (r : Story). (if has_begun node r.events then b.hello.items else []) ++ bytes_of_answers (said_over r.nodes node r.events)) (sym relay)));
+        ∙ (ap (λ (o : Opening). first_of o.token.items (asked_over node a.relay) ++ bytes_of_answers (said_over node a.relay)) (sym hello)
+        ∙ ap (λ (r : Story). first_of b.opening.token.items (asked_over node r) ++ bytes_of_answers (said_over node r)) (sym relay)));
   };
 }
 
 -- what waits stays, and nothing passes
-pub kept_quiet : (a b : Desk) (x : List Passage) → b.hello.items ≡ a.hello.items → b.mended ≡ a.mended → b.dialled.items ≡ a.dialled.items → b.relay ≡ a.relay → b.to_bot.waiting ≡ a.to_bot.waiting → b.to_nodes.items ≡ a.to_nodes.items
+pub kept_quiet : (a b : Desk) (x : List Passage) → b.opening ≡ a.opening → b.mended ≡ a.mended → b.dialled.items ≡ a.dialled.items → b.relay ≡ a.relay → b.to_bot.waiting ≡ a.to_bot.waiting → b.to_nodes.items ≡ a.to_nodes.items
     → (b.is_seated ≡ false → a.is_seated ≡ false) → (IsHeard a (since_bot x) → IsHeard b (since_bot x)) → Keeps a b x x
 kept_quiet a b x hello mended dialled relay bot queues seat heard =
     kept_quietly a b x (steps_by a b (since_bot x) (since_bot x) None (sym (append-nil (since_bot x))) (λ node. refl) hello mended relay (ap (λ (l : List ℕ). wrote_over (since_bot x) (Seat 0) ++ l) bot)
     (λ node. ap (λ (qs : List Queued). wrote_over (since_bot x) (Peer node) ++ waits_at qs node) queues) heard (owned_alike a b (since_bot x) dialled seat) tt
     (few_alike a b hello relay (as_long _ _ bot) (λ node. tail_same _ _ (ap (λ (qs : List Queued). waits_at qs node) queues))))
 
-pub kept_alike : (a b : Desk) (x : List Passage) → b.hello.items ≡ a.hello.items → b.mended ≡ a.mended → b.dialled.items ≡ a.dialled.items → b.relay ≡ a.relay → b.to_bot.waiting ≡ a.to_bot.waiting → b.to_nodes.items ≡ a.to_nodes.items
+pub kept_alike : (a b : Desk) (x : List Passage) → b.opening ≡ a.opening → b.mended ≡ a.mended → b.dialled.items ≡ a.dialled.items → b.relay ≡ a.relay → b.to_bot.waiting ≡ a.to_bot.waiting → b.to_nodes.items ≡ a.to_nodes.items
     → b.from_nodes.items ≡ a.from_nodes.items → b.from_bot.waiting ≡ a.from_bot.waiting → b.passes_over ≡ a.passes_over → b.is_seated ≡ a.is_seated → Keeps a b x x
 kept_alike a b x hello mended dialled relay bot queues from_nodes from_bot over seat =
     kept_quiet a b x hello mended dialled relay bot queues (λ off. sym seat ∙ off) (heard_alike a b (since_bot x) (since_bot x) mended relay (λ at. refl) from_nodes from_bot over seat)
 
 -- the queues of nodes were taken out and put back
-pub kept_idle : (a b : Desk) (x y : List Passage) → b.hello.items ≡ a.hello.items → b.mended ≡ a.mended → b.dialled.items ≡ a.dialled.items → b.relay ≡ a.relay → b.to_bot.waiting ≡ a.to_bot.waiting
+pub kept_idle : (a b : Desk) (x y : List Passage) → b.opening ≡ a.opening → b.mended ≡ a.mended → b.dialled.items ≡ a.dialled.items → b.relay ≡ a.relay → b.to_bot.waiting ≡ a.to_bot.waiting
     → ((node : ℕ) → waits_at b.to_nodes.items node ≡ waits_at a.to_nodes.items node) → ((node : ℕ) → waits_at b.from_nodes.items node ≡ waits_at a.from_nodes.items node)
     → b.from_bot.waiting ≡ a.from_bot.waiting → b.passes_over ≡ a.passes_over → b.is_seated ≡ a.is_seated → y ≡ x → Keeps a b x y
 kept_idle a b x y hello mended dialled relay bot to_nodes from_nodes from_bot over seat f =
@@ -136,7 +150,7 @@ kept_idle a b x y hello mended dialled relay bot to_nodes from_nodes from_bot ov
 same_count : (x : List Passage) (p : Passage) (node : ℕ) → begins_there (Peer node) p ≡ false → begun_over (x ++ p ∷ []) (Peer node) ≡ begun_over x (Peer node)
 same_count x p node isnt = more_begun x (x ++ p ∷ []) p (Peer node) refl ∙ (ap (λ (t : Bool). begun_over x (Peer node) + (if t then 1 else 0)) isnt ∙ add-zero (begun_over x (Peer node)))
 
-pub kept_to_bot : (a b : Desk) (x y : List Passage) → b.hello.items ≡ a.hello.items → b.mended ≡ a.mended → b.dialled.items ≡ a.dialled.items → b.relay ≡ a.relay → b.to_nodes.items ≡ a.to_nodes.items → b.from_nodes.items ≡ a.from_nodes.items
+pub kept_to_bot : (a b : Desk) (x y : List Passage) → b.opening ≡ a.opening → b.mended ≡ a.mended → b.dialled.items ≡ a.dialled.items → b.relay ≡ a.relay → b.to_nodes.items ≡ a.to_nodes.items → b.from_nodes.items ≡ a.from_nodes.items
     → b.from_bot.waiting ≡ a.from_bot.waiting → b.passes_over ≡ a.passes_over → b.is_seated ≡ a.is_seated → Writes (Seat 0) a.to_bot.waiting b.to_bot.waiting x y → Keeps a b x y
 kept_to_bot a b x y hello mended dialled relay queues from_nodes from_bot over seat (inl wrote) =
     let z : List Passage = since_bot x in
@@ -168,7 +182,7 @@ tails_wrote a b node queue piece queues within parts other =
       | inr differs ↦ tail_same _ _ (waits_elsewhere a.to_nodes.items b.to_nodes.items node other queue queues differs)
     ]
 
-pub kept_to_node : (a b : Desk) (x y : List Passage) (node : ℕ) (queue : Queued) → was_dialled a.dialled.items node ≡ true → b.hello.items ≡ a.hello.items → b.mended ≡ a.mended → b.dialled.items ≡ a.dialled.items → b.relay ≡ a.relay → b.to_bot.waiting ≡ a.to_bot.waiting
+pub kept_to_node : (a b : Desk) (x y : List Passage) (node : ℕ) (queue : Queued) → was_dialled a.dialled.items node ≡ true → b.opening ≡ a.opening → b.mended ≡ a.mended → b.dialled.items ≡ a.dialled.items → b.relay ≡ a.relay → b.to_bot.waiting ≡ a.to_bot.waiting
     → b.to_nodes.items ≡ set a.to_nodes.items node queue → node < length a.to_nodes.items → b.from_nodes.items ≡ a.from_nodes.items → b.from_bot.waiting ≡ a.from_bot.waiting → b.passes_over ≡ a.passes_over → b.is_seated ≡ a.is_seated
     → Writes (Peer node) (waits_at a.to_nodes.items node) queue.waiting x y → Keeps a b x y
 kept_to_node a b x y node queue is hello mended dialled relay bot queues within from_nodes from_bot over seat (inl wrote) =
@@ -196,7 +210,7 @@ kept_to_node a b x y node queue is hello mended dialled relay bot queues within 
 
 -- ---- a read
 
-steps_read : (a b : Desk) (z : List Passage) (line : Wire) (piece : List ℕ) → b.hello.items ≡ a.hello.items → b.mended ≡ a.mended → b.relay ≡ a.relay → b.to_bot.waiting ≡ a.to_bot.waiting → b.to_nodes.items ≡ a.to_nodes.items
+steps_read : (a b : Desk) (z : List Passage) (line : Wire) (piece : List ℕ) → b.opening ≡ a.opening → b.mended ≡ a.mended → b.relay ≡ a.relay → b.to_bot.waiting ≡ a.to_bot.waiting → b.to_nodes.items ≡ a.to_nodes.items
     → (IsHeard a z → IsHeard b (z ++ Came line piece ∷ [])) → (IsOwned a z → IsOwned b (z ++ Came line piece ∷ [])) → ComesBehind a (Came line piece) → Steps a b z (z ++ Came line piece ∷ [])
 steps_read a b z line piece hello mended relay bot queues heard own behind =
     let p : Passage = Came line piece in
@@ -204,7 +218,7 @@ steps_read a b z line piece hello mended relay bot queues heard own behind =
     (λ node. joined _ _ _ _ (write_behind (Peer node) [] z p) (ap (λ (qs : List Queued). waits_at qs node) queues)) heard own behind
     (few_alike a b hello relay (as_long _ _ bot) (λ node. tail_same _ _ (ap (λ (qs : List Queued). waits_at qs node) queues)))
 
-pub kept_read_bot : (a b : Desk) (x y : List Passage) → b.hello.items ≡ a.hello.items → b.mended ≡ a.mended → b.dialled.items ≡ a.dialled.items → b.relay ≡ a.relay → b.to_bot.waiting ≡ a.to_bot.waiting → b.to_nodes.items ≡ a.to_nodes.items
+pub kept_read_bot : (a b : Desk) (x y : List Passage) → b.opening ≡ a.opening → b.mended ≡ a.mended → b.dialled.items ≡ a.dialled.items → b.relay ≡ a.relay → b.to_bot.waiting ≡ a.to_bot.waiting → b.to_nodes.items ≡ a.to_nodes.items
     → b.from_nodes.items ≡ a.from_nodes.items → b.passes_over ≡ a.passes_over → b.is_seated ≡ a.is_seated → Reads (Seat 0) a.from_bot.waiting b.from_bot.waiting x y → Keeps a b x y
 kept_read_bot a b x y hello mended dialled relay bot queues from_nodes over seat (inl came) =
     kept_passing a b x y (Came (Seat 0) came.0) came.2 refl
@@ -213,7 +227,7 @@ kept_read_bot a b x y hello mended dialled relay bot queues from_nodes over seat
 kept_read_bot a b x y hello mended dialled relay bot queues from_nodes over seat (inr none) =
     subst (Keeps a b x) (sym none.1) (kept_alike a b x hello mended dialled relay bot queues from_nodes none.0 over seat)
 
-pub kept_read_node : (a b : Desk) (x y : List Passage) (node : ℕ) (queue : Queued) → was_dialled a.dialled.items node ≡ true → b.hello.items ≡ a.hello.items → b.mended ≡ a.mended → b.dialled.items ≡ a.dialled.items → b.relay ≡ a.relay → b.to_bot.waiting ≡ a.to_bot.waiting
+pub kept_read_node : (a b : Desk) (x y : List Passage) (node : ℕ) (queue : Queued) → was_dialled a.dialled.items node ≡ true → b.opening ≡ a.opening → b.mended ≡ a.mended → b.dialled.items ≡ a.dialled.items → b.relay ≡ a.relay → b.to_bot.waiting ≡ a.to_bot.waiting
     → b.to_nodes.items ≡ a.to_nodes.items → b.from_nodes.items ≡ set a.from_nodes.items node queue → node < length a.from_nodes.items → b.from_bot.waiting ≡ a.from_bot.waiting → b.passes_over ≡ a.passes_over → b.is_seated ≡ a.is_seated
     → Reads (Peer node) (waits_at a.from_nodes.items node) queue.waiting x y → Keeps a b x y
 kept_read_node a b x y node queue is hello mended dialled relay bot queues from_nodes within from_bot over seat (inl came) =
@@ -227,45 +241,45 @@ kept_read_node a b x y node queue is hello mended dialled relay bot queues from_
 -- ---- an event
 
 steps_event : (a b : Desk) (x y : List Passage) (e : Event) (p : Option Passage) → y ≡ x ++ option_to_list p → ((node : ℕ) → begun_over y (Peer node) ≡ begun_over x (Peer node) + (if begins_at node e then 1 else 0))
-    → b.relay ≡ with_event a.relay e → a.relay.standing ≡ after (fresh a.relay.nodes) a.relay.events → b.hello.items ≡ a.hello.items → b.mended ≡ a.mended
-    → wrote_over y (Seat 0) ++ b.to_bot.waiting ≡ (wrote_over x (Seat 0) ++ a.to_bot.waiting) ++ bytes_of_lines (given a.relay.standing.last e)
+    → b.relay ≡ with_event a.relay e → a.relay.standing ≡ after (fresh a.relay.newest a.relay.nodes) a.relay.events → b.opening ≡ a.opening → b.mended ≡ a.mended
+    → wrote_over y (Seat 0) ++ b.to_bot.waiting ≡ (wrote_over x (Seat 0) ++ a.to_bot.waiting) ++ bytes_of_lines (given a.relay.standing e)
     → ((node : ℕ) → begins_at node e ≡ false → wrote_over y (Peer node) ++ waits_at b.to_nodes.items node ≡ (wrote_over x (Peer node) ++ waits_at a.to_nodes.items node) ++ bytes_of_answers (more_over node a.relay.standing e))
-    → ((node : ℕ) → begins_at node e ≡ true → wrote_over y (Peer node) ++ waits_at b.to_nodes.items node ≡ b.hello.items) → (IsHeard a x → IsHeard b y) → (IsOwned a x → IsOwned b y) → IfSome p (ComesBehind a) → (IsFew a → IsFew b) → Steps a b x y
+    → ((node : ℕ) → begins_at node e ≡ true → wrote_over y (Peer node) ++ waits_at b.to_nodes.items node ≡ greeting b.opening.token.items (asks a.relay.standing)) → (IsHeard a x → IsHeard b y) → (IsOwned a x → IsOwned b y) → IfSome p (ComesBehind a) → (IsFew a → IsFew b) → Steps a b x y
 steps_event a b x y e p f counts story follows hello mended bot others first heard own behind few =
     let happened : b.relay.events ≡ a.relay.events ++ e ∷ [] = ap (λ (r : Story). r.events) story in
     record {
-      next = record { hello = hello; mended = mended; event = Some e; happened = happened; passage = p; passed = f; behind = behind };
+      next = record { hello = hello; mode = ap (λ (r : Story). r.newest) story; nodes = ap (λ (r : Story). r.nodes) story; mended = mended; event = Some e; happened = happened; passage = p; passed = f; behind = behind };
       begun = λ was node. ap (λ (es : List Event). begun node es) happened
           ∙ (begun_more node a.relay.events e ∙ (ap (λ (n : ℕ). n + (if begins_at node e then 1 else 0)) (was node) ∙ sym (counts node)));
       heard = heard;
       own = own;
       few = few;
       said = λ s.
-          let events : List Event = a.relay.events ++ e ∷ [] in
-          let start : Standing = fresh a.relay.nodes in
+          let start : Standing = fresh a.relay.newest a.relay.nodes in
+          let now : Story = with_event a.relay e in
           record {
             bot =
-                let more : all_given None events ≡ all_given None a.relay.events ++ given a.relay.standing.last e =
-                given_more start a.relay.events e ∙ ap (λ (n : Standing). all_given None a.relay.events ++ given n.last e) (sym follows) in
-                bot ∙ (ap (λ (bs : List ℕ). bs ++ bytes_of_lines (given a.relay.standing.last e)) s.bot
-                ∙ (sym (lines_more (all_given None a.relay.events) (given a.relay.standing.last e))
-                ∙ (ap bytes_of_lines (sym more) ∙ ap (λ (r : Story). bytes_of_lines (all_given None r.events)) (sym story))));
+                let more : lines_given now ≡ lines_given a.relay ++ given a.relay.standing e =
+                given_more start a.relay.events e ∙ ap (λ (n : Standing). lines_given a.relay ++ given n e) (sym follows) in
+                bot ∙ (ap (λ (bs : List ℕ). bs ++ bytes_of_lines (given a.relay.standing e)) s.bot
+                ∙ (sym (lines_more (lines_given a.relay) (given a.relay.standing e))
+                ∙ (ap bytes_of_lines (sym more) ∙ ap (λ (r : Story). bytes_of_lines (lines_given r)) (sym story))));
             nodes = λ node.
-                let before : List (List ℕ) = said_over a.relay.nodes node a.relay.events in
+                let before : List (List ℕ) = said_over node a.relay in
                 let more : List (List ℕ) = more_over node a.relay.standing e in
-                let over : said_over a.relay.nodes node events ≡ over_by node a.relay.standing before e =
+                let over : said_over node now ≡ over_by node a.relay.standing before e =
                 over_more node start [] a.relay.events e ∙ ap (λ (n : Standing). over_by node n before e) (sym follows) in
-                let into : bytes_of_answers (said_over a.relay.nodes node events) ≡ bytes_of_answers (said_over b.relay.nodes node b.relay.events) =
-                ap (λ (r : Story). bytes_of_answers (said_over r.nodes node r.events)) (sym story) in
-                let P : Bool → Type 0 = λ t. begins_at node e ≡ t → wrote_over y (Peer node) ++ waits_at b.to_nodes.items node ≡ first_over node b ++ bytes_of_answers (said_over a.relay.nodes node events) in
+                let into : bytes_of_answers (said_over node now) ≡ bytes_of_answers (said_over node b.relay) = ap (λ (r : Story). bytes_of_answers (said_over node r)) (sym story) in
+                let P : Bool → Type 0 = λ t. begins_at node e ≡ t → wrote_over y (Peer node) ++ waits_at b.to_nodes.items node ≡ first_over node b ++ bytes_of_answers (said_over node now) in
                 let step : P (begins_at node e) = elim (begins_at node e) as P [
                   | true ↦ λ is_it.
-                      first node is_it ∙ (sym (append-nil b.hello.items) ∙ joined _ _ _ _ (sym (first_now a b node e happened is_it))
+                      let first_lines : List ℕ = greeting b.opening.token.items (asks a.relay.standing) in
+                      first node is_it ∙ (sym (append-nil first_lines) ∙ joined _ _ _ _ (sym (first_now a b node e story follows is_it))
                       (ap bytes_of_answers (sym (over ∙ over_begins node a.relay.standing before e is_it))))
                   | false ↦ λ isnt.
                       others node isnt ∙ (ap (λ (bs : List ℕ). bs ++ bytes_of_answers more) (s.nodes node)
                       ∙ (append_assoc (first_over node a) (bytes_of_answers before) (bytes_of_answers more)
-                      ∙ joined _ _ _ _ (sym (first_then a b node e happened hello isnt))
+                      ∙ joined _ _ _ _ (sym (first_then a b node e story follows hello isnt))
                       (sym (answers_more before more) ∙ ap bytes_of_answers (sym (over ∙ over_is node a.relay.standing before e isnt)))))
                 ] in
                 step refl ∙ ap (λ (bs : List ℕ). first_over node b ++ bs) into;
@@ -273,9 +287,9 @@ steps_event a b x y e p f counts story follows hello mended bot others first hea
     }
 
 -- one by which nothing is said and nothing passes
-kept_silent : (a b : Desk) (x : List Passage) (e : Event) → b.relay ≡ with_event a.relay e → a.relay.standing ≡ after (fresh a.relay.nodes) a.relay.events → b.hello.items ≡ a.hello.items → b.mended ≡ a.mended → b.dialled.items ≡ a.dialled.items
+kept_silent : (a b : Desk) (x : List Passage) (e : Event) → b.relay ≡ with_event a.relay e → a.relay.standing ≡ after (fresh a.relay.newest a.relay.nodes) a.relay.events → b.opening ≡ a.opening → b.mended ≡ a.mended → b.dialled.items ≡ a.dialled.items
     → b.to_bot.waiting ≡ a.to_bot.waiting → ((node : ℕ) → waits_at b.to_nodes.items node ≡ waits_at a.to_nodes.items node)
-    → given a.relay.standing.last e ≡ [] → ((node : ℕ) → more_over node a.relay.standing e ≡ []) → ((node : ℕ) → begins_at node e ≡ false) → b.is_seated ≡ a.is_seated
+    → given a.relay.standing e ≡ [] → ((node : ℕ) → more_over node a.relay.standing e ≡ []) → ((node : ℕ) → begins_at node e ≡ false) → b.is_seated ≡ a.is_seated
     → (IsHeard a (since_bot x) → IsHeard b (since_bot x)) → Keeps a b x x
 kept_silent a b x e story follows hello mended dialled bot queues none no_more isnt seat heard =
     let z : List Passage = since_bot x in
@@ -290,32 +304,39 @@ kept_silent a b x e story follows hello mended dialled bot queues none no_more i
     (λ f. few_event a b e story follows hello (subst (λ (l : List ℕ). length l < 65536 + 4098) (sym bot) f.bot) (λ node n. inl (no_more node, queues node))
     (λ node is_it. absurd (false≢true (sym (isnt node) ∙ is_it))) f))
 
-pub kept_ends : (a b : Desk) (x y : List Passage) (node : ℕ) → b.relay ≡ with_event a.relay (Ends node) → a.relay.standing ≡ after (fresh a.relay.nodes) a.relay.events → b.hello.items ≡ a.hello.items → b.mended ≡ a.mended → b.dialled.items ≡ a.dialled.items
+pub kept_ends : (a b : Desk) (x y : List Passage) (node : ℕ) → b.relay ≡ with_event a.relay (Ends node) → a.relay.standing ≡ after (fresh a.relay.newest a.relay.nodes) a.relay.events → b.opening ≡ a.opening → b.mended ≡ a.mended → b.dialled.items ≡ a.dialled.items
     → b.to_bot.waiting ≡ a.to_bot.waiting → b.to_nodes.items ≡ a.to_nodes.items → y ≡ x → b.is_seated ≡ a.is_seated → (IsHeard a (since_bot x) → IsHeard b (since_bot x)) → Keeps a b x y
 kept_ends a b x y node story follows hello mended dialled bot queues f seat heard =
     subst (Keeps a b x) (sym f)
     (kept_silent a b x (Ends node) story follows hello mended dialled bot (λ n. ap (λ (qs : List Queued). waits_at qs n) queues) refl (λ n. refl) (λ n. refl) seat heard)
 
-pub kept_says : (a b : Desk) (x : List Passage) (text : List ℕ) → b.relay ≡ with_event a.relay (Says text) → a.relay.standing ≡ after (fresh a.relay.nodes) a.relay.events → b.hello.items ≡ a.hello.items → b.mended ≡ a.mended → b.dialled.items ≡ a.dialled.items
+pub kept_says : (a b : Desk) (x : List Passage) (text : List ℕ) → b.relay ≡ with_event a.relay (Says text) → a.relay.standing ≡ after (fresh a.relay.newest a.relay.nodes) a.relay.events → b.opening ≡ a.opening → b.mended ≡ a.mended → b.dialled.items ≡ a.dialled.items
     → b.to_bot.waiting ≡ a.to_bot.waiting → b.to_nodes.items ≡ a.to_nodes.items → b.is_seated ≡ a.is_seated → (IsHeard a (since_bot x) → IsHeard b (since_bot x)) → Keeps a b x x
 kept_says a b x text story follows hello mended dialled bot queues seat heard =
     kept_silent a b x (Says text) story follows hello mended dialled bot (λ n. ap (λ (qs : List Queued). waits_at qs n) queues) refl (λ n. refl) (λ n. refl) seat heard
 
+-- a node says that the match is over
+pub kept_closes : (a b : Desk) (x : List Passage) (node : ℕ) → b.relay ≡ with_event a.relay (Closes node) → a.relay.standing ≡ after (fresh a.relay.newest a.relay.nodes) a.relay.events
+    → b.opening ≡ a.opening → b.mended ≡ a.mended → b.dialled.items ≡ a.dialled.items → b.to_bot.waiting ≡ a.to_bot.waiting → b.to_nodes.items ≡ a.to_nodes.items
+    → b.is_seated ≡ a.is_seated → (IsHeard a (since_bot x) → IsHeard b (since_bot x)) → Keeps a b x x
+kept_closes a b x node story follows hello mended dialled bot queues seat heard =
+    kept_silent a b x (Closes node) story follows hello mended dialled bot (λ n. ap (λ (qs : List Queued). waits_at qs n) queues) refl (λ n. refl) (λ n. refl) seat heard
+
 -- a line is told that the bot isn't given
-pub kept_old : (a b : Desk) (x : List Passage) (node : ℕ) (line : Line) → b.relay ≡ with_event a.relay (Tells node line) → a.relay.standing ≡ after (fresh a.relay.nodes) a.relay.events
-    → b.hello.items ≡ a.hello.items → b.mended ≡ a.mended → b.dialled.items ≡ a.dialled.items → b.to_bot.waiting ≡ a.to_bot.waiting → b.to_nodes.items ≡ a.to_nodes.items → is_news a.relay.standing.last line ≡ false
+pub kept_old : (a b : Desk) (x : List Passage) (node : ℕ) (line : Line) → b.relay ≡ with_event a.relay (Tells node line) → a.relay.standing ≡ after (fresh a.relay.newest a.relay.nodes) a.relay.events
+    → b.opening ≡ a.opening → b.mended ≡ a.mended → b.dialled.items ≡ a.dialled.items → b.to_bot.waiting ≡ a.to_bot.waiting → b.to_nodes.items ≡ a.to_nodes.items → is_given a.relay.standing node line ≡ false
     → b.is_seated ≡ a.is_seated → (IsHeard a (since_bot x) → IsHeard b (since_bot x)) → Keeps a b x x
 kept_old a b x node line story follows hello mended dialled bot queues old seat heard =
     kept_silent a b x (Tells node line) story follows hello mended dialled bot (λ n. ap (λ (qs : List Queued). waits_at qs n) queues) (ap (λ (t : Bool). if t then line ∷ [] else []) old) (λ n. refl) (λ n. refl) seat heard
 
 -- and one that it is
-pub kept_given : (a b : Desk) (x : List Passage) (node : ℕ) (line : Line) → b.relay ≡ with_event a.relay (Tells node line) → a.relay.standing ≡ after (fresh a.relay.nodes) a.relay.events
-    → b.hello.items ≡ a.hello.items → b.mended ≡ a.mended → b.dialled.items ≡ a.dialled.items → b.to_bot.waiting ≡ a.to_bot.waiting ++ ended line.text → b.to_nodes.items ≡ a.to_nodes.items → is_news a.relay.standing.last line ≡ true
+pub kept_given : (a b : Desk) (x : List Passage) (node : ℕ) (line : Line) → b.relay ≡ with_event a.relay (Tells node line) → a.relay.standing ≡ after (fresh a.relay.newest a.relay.nodes) a.relay.events
+    → b.opening ≡ a.opening → b.mended ≡ a.mended → b.dialled.items ≡ a.dialled.items → b.to_bot.waiting ≡ a.to_bot.waiting ++ ended line.text → b.to_nodes.items ≡ a.to_nodes.items → is_given a.relay.standing node line ≡ true
     → length a.to_bot.waiting < 65536 → length line.text ≤ 4096 → b.is_seated ≡ a.is_seated → (IsHeard a (since_bot x) → IsHeard b (since_bot x)) → Keeps a b x x
 kept_given a b x node line story follows hello mended dialled bot queues news few short seat heard =
     let z : List Passage = since_bot x in
     let before : List ℕ = wrote_over z (Seat 0) ++ a.to_bot.waiting in
-    let one : given a.relay.standing.last (Tells node line) ≡ line ∷ [] = ap (λ (t : Bool). if t then line ∷ [] else []) news in
+    let one : given a.relay.standing (Tells node line) ≡ line ∷ [] = ap (λ (t : Bool). if t then line ∷ [] else []) news in
     kept_quietly a b x (steps_event a b z z (Tells node line) None (sym (append-nil z)) (λ n. sym (add-zero (begun_over z (Peer n)))) story follows hello mended
     (ap (λ (l : List ℕ). wrote_over z (Seat 0) ++ l) bot ∙ (sym (append_assoc (wrote_over z (Seat 0)) a.to_bot.waiting (ended line.text))
     ∙ (ap (λ (l : List ℕ). before ++ l) (sym (append-nil (ended line.text))) ∙ ap (λ (ls : List Line). before ++ bytes_of_lines ls) (sym one))))
@@ -324,14 +345,16 @@ kept_given a b x node line story follows hello mended dialled bot queues news fe
     heard (owned_alike a b z dialled (λ off. sym seat ∙ off)) tt
     (few_event a b (Tells node line) story follows hello (few_lines a.to_bot.waiting line.text b.to_bot.waiting bot few short) (λ n isnt. inl (refl, ap (λ (qs : List Queued). waits_at qs n) queues)) (λ n is_it. absurd cc)))
 
-pub kept_dial : (a b : Desk) (x y : List Passage) (node : ℕ) (queue : Queued) → b.relay ≡ with_event a.relay (Begins node) → a.relay.standing ≡ after (fresh a.relay.nodes) a.relay.events
-    → b.hello.items ≡ a.hello.items → b.mended ≡ a.mended → b.dialled.items ≡ set a.dialled.items node true → b.to_bot.waiting ≡ a.to_bot.waiting → b.to_nodes.items ≡ set a.to_nodes.items node queue → node < length a.to_nodes.items
-    → queue.waiting ≡ a.hello.items → y ≡ x ++ Began (Peer node) ∷ [] → b.is_seated ≡ true → (IsHeard a (since_bot x) → IsHeard b (since_bot x ++ Began (Peer node) ∷ [])) → Keeps a b x y
+pub kept_dial : (a b : Desk) (x y : List Passage) (node : ℕ) (queue : Queued) → b.relay ≡ with_event a.relay (Begins node) → a.relay.standing ≡ after (fresh a.relay.newest a.relay.nodes) a.relay.events
+    → b.opening ≡ a.opening → b.mended ≡ a.mended → b.dialled.items ≡ set a.dialled.items node true → b.to_bot.waiting ≡ a.to_bot.waiting → b.to_nodes.items ≡ set a.to_nodes.items node queue → node < length a.to_nodes.items
+    → queue.waiting ≡ greeting a.opening.token.items (asks a.relay.standing) → y ≡ x ++ Began (Peer node) ∷ [] → b.is_seated ≡ true → (IsHeard a (since_bot x) → IsHeard b (since_bot x ++ Began (Peer node) ∷ [])) → Keeps a b x y
 kept_dial a b x y node queue story follows hello mended dialled bot queues within q f seat heard =
     let z : List Passage = since_bot x in
     let p : Passage = Began (Peer node) in
     let began : (other : ℕ) → wrote_over (z ++ p ∷ []) (Peer other) ≡ (if node == other then [] else wrote_over z (Peer other)) = λ other. write_behind (Peer other) [] z p in
-    let P : ℕ → Type 0 = λ other. wrote_over (z ++ p ∷ []) (Peer other) ++ waits_at b.to_nodes.items other ≡ b.hello.items in
+    let first_lines : Opening → List ℕ = λ o. greeting o.token.items (asks a.relay.standing) in
+    let same_lines : first_lines a.opening ≡ first_lines b.opening = ap first_lines (sym hello) in
+    let P : ℕ → Type 0 = λ other. wrote_over (z ++ p ∷ []) (Peer other) ++ waits_at b.to_nodes.items other ≡ first_lines b.opening in
     kept_passing a b x y p f refl (steps_event a b z (z ++ p ∷ []) (Begins node) (Some p) refl (λ other. more_begun z (z ++ p ∷ []) p (Peer other) refl) story follows hello mended
     (joined _ _ _ _ (write_behind (Seat 0) [] z p) bot ∙ sym (append-nil (wrote_over z (Seat 0) ++ a.to_bot.waiting)))
     (λ other isnt. elim (cases_eq node other) [
@@ -341,7 +364,7 @@ kept_dial a b x y node queue story follows hello mended dialled bot queues withi
     ])
     (λ other is_it. elim (cases_eq node other) [
       | inl same ↦ subst P same (joined [] _ _ _ (began node ∙ ap (λ (t : Bool). if t then [] else wrote_over z (Peer node)) (own_line (Peer node)))
-          (waits_here a.to_nodes.items b.to_nodes.items node queue queues within ∙ q) ∙ sym hello)
+          (waits_here a.to_nodes.items b.to_nodes.items node queue queues within ∙ q) ∙ same_lines)
       | inr differs ↦ absurd (false≢true (sym (ne_eqb node other differs) ∙ is_it))
     ])
     heard (owned_dialled a b z node dialled seat) tt
@@ -351,34 +374,64 @@ kept_dial a b x y node queue story follows hello mended dialled bot queues withi
       | inr differs ↦ inl (refl, waits_elsewhere a.to_nodes.items b.to_nodes.items node other queue queues differs)
     ])
     (λ other is_it. elim (cases_eq node other) [
-      | inl same ↦ subst (λ (n : ℕ). waits_at b.to_nodes.items n ≡ b.hello.items) same (waits_here a.to_nodes.items b.to_nodes.items node queue queues within ∙ (q ∙ sym hello))
+      | inl same ↦ subst (λ (n : ℕ). waits_at b.to_nodes.items n ≡ first_lines b.opening) same (waits_here a.to_nodes.items b.to_nodes.items node queue queues within ∙ (q ∙ same_lines))
       | inr differs ↦ absurd (false≢true (sym (ne_eqb node other differs) ∙ is_it))
     ]) few))
 
 -- ---- a bot is taken in
 
-nothing_said : (nodes node : ℕ) → said_over nodes node [] ≡ []
-unfolding over_behind
-nothing_said nodes node = refl
+nothing_given : (s : Standing) → all_given s [] ≡ []
+unfolding all_given
+nothing_given s = refl
+
+nothing_said : (node : ℕ) (s : Standing) (token : List ℕ) → [] ≡ first_of token (asked_behind node s None []) ++ bytes_of_answers (over_behind node s [] [])
+unfolding asked_behind over_behind
+nothing_said node s token = refl
 
 pub course_begins : (b : Desk) → b.relay.events ≡ [] → b.from_bot.waiting ≡ [] → b.passes_over ≡ false → b.is_seated ≡ false → b.to_bot.waiting ≡ [] → AreEmpty b.from_nodes.items → AreEmpty b.to_nodes.items → IsNoneDialled b.dialled.items → Course b []
-course_begins b story from_bot over seat to_bot from_nodes to_nodes none = Course.begin b story (record {
-  begun = λ node. ap (λ (es : List Event). begun node es) story;
-  said = record {
-    bot = to_bot ∙ ap (λ (es : List Event). bytes_of_lines (all_given None es)) (sym story);
-    nodes = λ node. to_nodes node ∙ (ap bytes_of_answers (sym (nothing_said b.relay.nodes node))
-        ∙ ap (λ (es : List Event). (if has_begun node es then b.hello.items else []) ++ bytes_of_answers (said_over b.relay.nodes node es)) (sym story));
-  };
-  heard = heard_fresh b story from_bot over seat from_nodes;
-  own = owned_fresh b none;
-  few = few_fresh b to_bot to_nodes;
-})
+course_begins b story from_bot over seat to_bot from_nodes to_nodes none =
+    let start : Standing = fresh b.relay.newest b.relay.nodes in
+    Course.begin b story (record {
+      begun = λ node. ap (λ (es : List Event). begun node es) story;
+      said = record {
+        bot = to_bot ∙ (ap bytes_of_lines (sym (nothing_given start)) ∙ ap (λ (es : List Event). bytes_of_lines (all_given start es)) (sym story));
+        nodes = λ node. to_nodes node ∙ subst (λ (es : List Event). [] ≡ first_of b.opening.token.items (asked_behind node start None es) ++ bytes_of_answers (over_behind node start [] es)) (sym story)
+            (nothing_said node start b.opening.token.items);
+      };
+      heard = heard_fresh b story from_bot over seat from_nodes;
+      own = owned_fresh b none;
+      few = few_fresh b to_bot to_nodes;
+    })
 
-pub kept_taken : (a b : Desk) (x y : List Passage) → b.hello.items ≡ a.hello.items → b.mended ≡ a.mended → b.relay.events ≡ [] → b.from_bot.waiting ≡ [] → b.passes_over ≡ false → b.is_seated ≡ false → b.to_bot.waiting ≡ []
-    → AreEmpty b.from_nodes.items → AreEmpty b.to_nodes.items → IsNoneDialled b.dialled.items → y ≡ x ++ Began (Seat 0) ∷ [] → Keeps a b x y
-kept_taken a b x y hello mended story from_bot over seat to_bot from_nodes to_nodes none f =
+none_more : (n m : ℕ) → m ≡ n + 1 → m ≡ 0 → ⊥
+none_more n m is none = omega arith
+
+none_was : (n m : ℕ) → m ≡ n + 1 → m ≡ 1 → n ≡ 0
+none_was n m is one = omega arith
+
+some_was : (n m : ℕ) → m ≡ n + 1 → 1 < m → 0 < n
+some_was n m is more = omega arith
+
+-- one bot more
+mode_taken : (a b : Desk) (x y : List Passage) → b.opening.newest ≡ true → b.relay.newest ≡ a.opening.newest → bots_in y ≡ bots_in x + 1 → (newest : Bool) → IsMode newest a x → IsMode newest b y
+mode_taken a b x y opening relay bots newest is = record {
+  next = λ none. absurd (none_more (bots_in x) (bots_in y) bots none);
+  later = λ some. opening;
+  first = λ one. relay ∙ is.next (none_was (bots_in x) (bots_in y) bots one);
+  further = λ more. relay ∙ is.later (some_was (bots_in x) (bots_in y) bots more);
+}
+
+pub kept_taken : (a b : Desk) (x y : List Passage) → b.opening.token.items ≡ a.opening.token.items → b.opening.newest ≡ true → b.relay.newest ≡ a.opening.newest → b.mended ≡ a.mended → b.relay.events ≡ [] → b.from_bot.waiting ≡ []
+    → b.passes_over ≡ false → b.is_seated ≡ false → b.to_bot.waiting ≡ [] → AreEmpty b.from_nodes.items → AreEmpty b.to_nodes.items → IsNoneDialled b.dialled.items → y ≡ x ++ Began (Seat 0) ∷ [] → Keeps a b x y
+kept_taken a b x y token opening newest mended story from_bot over seat to_bot from_nodes to_nodes none f =
     let course : Course b (since_bot y) = subst (Course b) (sym (since_taken x y (Began (Seat 0)) f refl)) (course_begins b story from_bot over seat to_bot from_nodes to_nodes none) in
-    record { hello = hello; mended = mended; course = λ was. course; grows = inr (record { bots = bots_more x y (Began (Seat 0)) f refl; course = course }) }
+    record {
+      hello = token;
+      mended = mended;
+      course = λ was. course;
+      mode = mode_taken a b x y opening newest (bots_one x y (Began (Seat 0)) f refl);
+      grows = inr (record { bots = bots_more x y (Began (Seat 0)) f refl; course = course });
+    }
 
 -- ---- an answer
 
@@ -390,8 +443,8 @@ no_answer : (s : Standing) (node : ℕ) → is_even (link_at s.links node) ≡ f
 unfolding answered
 no_answer s node may = ap (λ (t : Bool). if t then option_to_list s.kept else []) may
 
-pub kept_said : (a b : Desk) (x : List Passage) (node : ℕ) (queue : Queued) (answer : List ℕ) → b.relay ≡ with_event a.relay (Pushes node) → a.relay.standing ≡ after (fresh a.relay.nodes) a.relay.events
-    → b.hello.items ≡ a.hello.items → b.mended ≡ a.mended → b.dialled.items ≡ a.dialled.items → b.to_bot.waiting ≡ a.to_bot.waiting → b.to_nodes.items ≡ set a.to_nodes.items node queue → node < length a.to_nodes.items
+pub kept_said : (a b : Desk) (x : List Passage) (node : ℕ) (queue : Queued) (answer : List ℕ) → b.relay ≡ with_event a.relay (Pushes node) → a.relay.standing ≡ after (fresh a.relay.newest a.relay.nodes) a.relay.events
+    → b.opening ≡ a.opening → b.mended ≡ a.mended → b.dialled.items ≡ a.dialled.items → b.to_bot.waiting ≡ a.to_bot.waiting → b.to_nodes.items ≡ set a.to_nodes.items node queue → node < length a.to_nodes.items
     → queue.waiting ≡ waits_at a.to_nodes.items node ++ ended answer → a.relay.standing.kept ≡ Some answer → is_even (link_at a.relay.standing.links node) ≡ true
     → waits_at a.to_nodes.items node ≡ [] → b.is_seated ≡ a.is_seated → (IsHeard a (since_bot x) → IsHeard b (since_bot x)) → Keeps a b x x
 kept_said a b x node queue answer story follows hello mended dialled bot queues within q kept may none seat heard =
@@ -423,8 +476,8 @@ kept_said a b x node queue answer story follows hello mended dialled bot queues 
     ])
     (λ other is_it. absurd cc) few))
 
-pub kept_unsaid : (a b : Desk) (x : List Passage) (node : ℕ) (queue : Queued) → b.relay ≡ with_event a.relay (Pushes node) → a.relay.standing ≡ after (fresh a.relay.nodes) a.relay.events
-    → b.hello.items ≡ a.hello.items → b.mended ≡ a.mended → b.dialled.items ≡ a.dialled.items → b.to_bot.waiting ≡ a.to_bot.waiting → b.to_nodes.items ≡ set a.to_nodes.items node queue → node < length a.to_nodes.items
+pub kept_unsaid : (a b : Desk) (x : List Passage) (node : ℕ) (queue : Queued) → b.relay ≡ with_event a.relay (Pushes node) → a.relay.standing ≡ after (fresh a.relay.newest a.relay.nodes) a.relay.events
+    → b.opening ≡ a.opening → b.mended ≡ a.mended → b.dialled.items ≡ a.dialled.items → b.to_bot.waiting ≡ a.to_bot.waiting → b.to_nodes.items ≡ set a.to_nodes.items node queue → node < length a.to_nodes.items
     → queue.waiting ≡ waits_at a.to_nodes.items node → is_even (link_at a.relay.standing.links node) ≡ false → b.is_seated ≡ a.is_seated → (IsHeard a (since_bot x) → IsHeard b (since_bot x)) → Keeps a b x x
 kept_unsaid a b x node queue story follows hello mended dialled bot queues within q may seat heard =
     kept_silent a b x (Pushes node) story follows hello mended dialled bot (put_back a b node queue queues within q) refl
@@ -438,7 +491,7 @@ stays_on a b c one two = record { kept = λ x. kept_on a b c x x x (one.kept x) 
 pub stays_same : (a b : Desk) → b ≡ a → Stays a b
 stays_same a b e = record { kept = λ x. kept_same a b x x e refl }
 
-pub stays_alike : (a b : Desk) → b.hello.items ≡ a.hello.items → b.mended ≡ a.mended → b.dialled.items ≡ a.dialled.items → b.relay ≡ a.relay → b.to_bot.waiting ≡ a.to_bot.waiting → b.to_nodes.items ≡ a.to_nodes.items → b.from_nodes.items ≡ a.from_nodes.items
+pub stays_alike : (a b : Desk) → b.opening ≡ a.opening → b.mended ≡ a.mended → b.dialled.items ≡ a.dialled.items → b.relay ≡ a.relay → b.to_bot.waiting ≡ a.to_bot.waiting → b.to_nodes.items ≡ a.to_nodes.items → b.from_nodes.items ≡ a.from_nodes.items
     → b.from_bot.waiting ≡ a.from_bot.waiting → b.passes_over ≡ a.passes_over → b.is_seated ≡ a.is_seated → Stays a b
 stays_alike a b hello mended dialled relay bot queues from_nodes from_bot over seat = record { kept = λ x. kept_alike a b x hello mended dialled relay bot queues from_nodes from_bot over seat }
 

@@ -10,3 +10,4 @@ pub mod Newest
 pub mod Tellings
 pub mod Keeping
 mod Examples
+pub mod Ending

@@ -3,7 +3,7 @@ use Rattle.std.proofs.Common.{◌≡◌, ℕ, ◌==◌, Bool, true, false, if◌
 use Rattle.std.specs.List.{AllByRecursion}
 use Rattle.game_def.specs.Game.{Game}
 use Rattle.matchstate.specs.Free.{IsFreeOf}
-use Rattle.seat_relay.specs.Relaying.{Standing, Event, Begins, Ends, Tells, Says, Pushes, happens, answered, is_news, is_again, echoes, is_even, link_at, with_news, caught_up, with_answer, with_link}
+use Rattle.seat_relay.specs.Relaying.{Standing, Event, Begins, Ends, Tells, Closes, Says, Pushes, happens, answered, is_news, is_taken, has_told, echoes, is_even, link_at, with_news, with_old, with_over, with_answer, with_link}
 use Rattle.seat_relay.specs.declared.link.Link.TheVariants.{Said as WasSaid}
 use Rattle.seat_relay.specs.Laws.{fresh, AnswersAreCurrent}
 use Rattle.node_wires.specs.Passages.{Passage}
@@ -32,10 +32,11 @@ unfolding happens
 kept_so P s (Begins node) kept said = kept
 kept_so P s (Ends node) kept said = kept
 kept_so P s (Tells node line) kept said =
-    elim (is_news s.last line) as (λ (b : Bool). IfSome (if b then with_news s node line else if is_again s.last line then caught_up s node else s).kept P) [
-      | true ↦ tt
-      | false ↦ elim (is_again s.last line) as (λ (b : Bool). IfSome (if b then caught_up s node else s).kept P) [ true ↦ kept | false ↦ kept ]
+    elim (is_taken s.newest s.last (link_at s.links node) line.place) as (λ (b : Bool). IfSome (if b then (if is_news s.last line then with_news s node line else with_old s node line) else s).kept P) [
+      | true ↦ elim (is_news s.last line) as (λ (b : Bool). IfSome (if b then with_news s node line else with_old s node line).kept P) [ true ↦ tt | false ↦ kept ]
+      | false ↦ kept
     ]
+kept_so P s (Closes node) kept said = elim (has_told (link_at s.links node)) as (λ (b : Bool). IfSome (if b then with_over s else s).kept P) [ true ↦ kept | false ↦ kept ]
 kept_so P s (Says text) kept said = elim (echoes s.last text) as (λ (b : Bool). IfSome (if b then with_answer s text else s).kept P) [ true ↦ said.0 | false ↦ kept ]
 kept_so P s (Pushes node) kept said = elim (is_even (link_at s.links node)) as (λ (b : Bool). IfSome (if b then with_link s node WasSaid else s).kept P) [ true ↦ kept | false ↦ kept ]
 
@@ -48,6 +49,7 @@ unfolding answered
 over_so P node s before (Begins other) all kept = elim (other == node) as (λ (b : Bool). AllByRecursion P (if b then [] else before)) [ true ↦ tt | false ↦ all ]
 over_so P node s before (Ends other) all kept = all
 over_so P node s before (Tells other line) all kept = all
+over_so P node s before (Closes other) all kept = all
 over_so P node s before (Says text) all kept = all
 over_so P node s before (Pushes other) all kept =
     let own : AllByRecursion P (if is_even (link_at s.links other) then option_to_list s.kept else []) =
@@ -61,6 +63,7 @@ first_said : (P : List ℕ → Type 0) (e : Event) (more : List Event) → AllBy
 first_said P (Begins node) more said = (tt, said)
 first_said P (Ends node) more said = (tt, said)
 first_said P (Tells node line) more said = (tt, said)
+first_said P (Closes node) more said = (tt, said)
 first_said P (Says text) more said = ((said.0, tt), said.1)
 first_said P (Pushes node) more said = (tt, said)
 
@@ -96,7 +99,7 @@ all_said mended old (raw ∷ more) new said h =
     (all_said mended h.2 more new h.1 h.6) in
     subst (AllByRecursion P) (sym h.3) (all_joined P h.0 h.1 (own_said mended raw more old h.2 h.0 h.4 h.5) later)
 
-came_from_bot : (desk : Desk) (passed : List Passage) → Course desk passed → (node : ℕ) → AllByRecursion (CameFromBot desk.mended passed) (said_over desk.relay.nodes node desk.relay.events)
+came_from_bot : (desk : Desk) (passed : List Passage) → Course desk passed → (node : ℕ) → AllByRecursion (CameFromBot desk.mended passed) (said_over node desk.relay)
 came_from_bot desk passed course node =
     let h = (courses_explain desk passed course).heard.bot in
     let so : (text : List ℕ) → IsOf desk.mended h.raws text → CameFromBot desk.mended passed text = λ text is. record {
@@ -109,7 +112,7 @@ came_from_bot desk passed course node =
       free = is.free;
       said_for = is.said_for;
     } in
-    answers_so (CameFromBot desk.mended passed) node (fresh desk.relay.nodes) [] desk.relay.events tt tt
+    answers_so (CameFromBot desk.mended passed) node (fresh desk.relay.newest desk.relay.nodes) [] desk.relay.events tt tt
     (all_so (IsOf desk.mended h.raws) (CameFromBot desk.mended passed) so (sayings_in desk.relay.events) (all_said desk.mended false h.raws desk.is_seated (sayings_in desk.relay.events) h.texts))
 
 -- ---- together
@@ -120,5 +123,5 @@ all_both P Q R both (text ∷ texts) one two = (both text one.0 two.0, all_both 
 
 pub answers_came : AnswersAreCurrent → AnswersCame
 answers_came law desk passed course node =
-    all_both (CameFromBot desk.mended passed) (WasCurrent desk.relay.events node) (IsAnswer desk passed node) (λ text came current. record { came = came; current = current })
-    (said_over desk.relay.nodes node desk.relay.events) (came_from_bot desk passed course node) (over_current law desk.relay.nodes node desk.relay.events)
+    all_both (CameFromBot desk.mended passed) (WasCurrent desk.relay.newest desk.relay.nodes desk.relay.events node) (IsAnswer desk passed node) (λ text came current. record { came = came; current = current })
+    (said_over node desk.relay) (came_from_bot desk passed course node) (over_current law desk.relay.newest desk.relay.nodes node desk.relay.events)

@@ -70,6 +70,9 @@ pub bots_more : (x y : List Passage) (p : Passage) → y ≡ x ++ p ∷ [] → i
 bots_more x y p f is =
     let h : bots_in y ≡ bots_in x + 1 = ap bots_in f ∙ (bots_behind x p ∙ ap (λ (t : Bool). bots_in x + (if t then 1 else 0)) is) in omega arith
 
+pub bots_one : (x y : List Passage) (p : Passage) → y ≡ x ++ p ∷ [] → is_taken_in p ≡ true → bots_in y ≡ bots_in x + 1
+bots_one x y p f is = ap bots_in f ∙ (bots_behind x p ∙ ap (λ (t : Bool). bots_in x + (if t then 1 else 0)) is)
+
 -- ---- connections that began
 
 begun_behind : (x : List Passage) (p : Passage) (line : Line) → begun_over (x ++ p ∷ []) line ≡ begun_over x line + (if begins_there line p then 1 else 0)

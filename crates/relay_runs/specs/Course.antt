@@ -1,14 +1,14 @@
 -- How a relay comes to where it stands, since its bot was taken in.
-use Rattle.std.specs.Prelude.{◌≡◌, ℕ, ◌<◌, List, [], ◌∷◌, ◌++◌, Option, None, option_to_list, IfSome}
+use Rattle.std.specs.Prelude.{◌≡◌, ℕ, ◌<◌, List, [], ◌∷◌, ◌++◌, Option, option_to_list, IfSome}
 use Rattle.std.specs.List.{AllByRecursion}
 use Rattle.matchstate.specs.Free.{IsFreeOf}
 use Rattle.node_wires.specs.declared.line.Line.TheVariants.{Peer, Caller, Seat, Guest, Asker}
 use Rattle.node_wires.specs.Passages.{Passage, Began, Came, Wrote, Gave, Logged, came_over}
-use Rattle.seat_relay.specs.Relaying.{Line, Event, all_given}
+use Rattle.seat_relay.specs.Relaying.{Line, Event}
 use Rattle.seat_relay.specs.Laws.{begun}
 use Rattle.relay_runs.specs.declared.desk.Desk.{Desk}
 use Rattle.relay_runs.specs.Since.{begun_over}
-use Rattle.relay_runs.specs.Said.{waits_at, IsBeginning, IsSaid}
+use Rattle.relay_runs.specs.Said.{waits_at, IsBeginning, lines_given, IsSaid}
 use Rattle.relay_runs.specs.Heard.{with_feeds, IsLineOf, IsHeard}
 use Rattle.relay_runs.specs.Own.{IsOwned}
 use Rattle.relay_runs.specs.Few.{IsFew}
@@ -33,9 +33,11 @@ ComesBehind desk (Wrote line bytes) = Unit {0}
 ComesBehind desk (Gave place seat) = Unit {0}
 ComesBehind desk (Logged text) = Unit {0}
 
--- one event more at most, and one passage more at most, each behind what came before; what is said first, and the game by which answers are mended, stay
+-- one event more at most, and one passage more at most, each behind what came before; how connections begin, where the bot's lines may begin, and the game by which answers are mended, stay
 pub record IsNext (old new : Desk) (passed_old passed_new : List Passage) : Type 0 where
-  pub hello : new.hello.items ≡ old.hello.items
+  pub hello : new.opening ≡ old.opening
+  pub mode : new.relay.newest ≡ old.relay.newest
+  pub nodes : new.relay.nodes ≡ old.relay.nodes
   pub mended : new.mended ≡ old.mended
   pub event : Option Event
   pub happened : new.relay.events ≡ old.relay.events ++ option_to_list event
@@ -70,4 +72,4 @@ pub record CameFrom (passed : List Passage) (line : Line) : Type 0 where
 
 -- each line that the bot was given came from a node, over a connection that began since the bot was taken in
 abbrev pub LinesCame : Type 0
-LinesCame = (desk : Desk) (passed : List Passage) → Course desk passed → AllByRecursion (CameFrom passed) (all_given None desk.relay.events)
+LinesCame = (desk : Desk) (passed : List Passage) → Course desk passed → AllByRecursion (CameFrom passed) (lines_given desk.relay)

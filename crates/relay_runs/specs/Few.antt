@@ -15,4 +15,4 @@ IsTail tail text = (front : List ℕ) × (text ≡ front ++ tail)
 -- for the bot fewer bytes wait than 64 KiB and one line with CR LF; for each node nothing but the end of what was said last over its connection
 pub record IsFew (desk : Desk) : Type 0 where
   pub bot : length desk.to_bot.waiting < 65536 + 4098
-  pub nodes : (node : ℕ) → IsTail (waits_at desk.to_nodes.items node) (last_said (first_over node desk) (said_over desk.relay.nodes node desk.relay.events))
+  pub nodes : (node : ℕ) → IsTail (waits_at desk.to_nodes.items node) (last_said (first_over node desk) (said_over node desk.relay))

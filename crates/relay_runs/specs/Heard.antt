@@ -8,7 +8,8 @@ use Rattle.node_wires.specs.declared.line.Line.TheVariants.{Seat, Peer}
 use Rattle.node_wires.specs.Passages.{Passage, came_over}
 use Rattle.seat_relay.specs.Places.{IsPlaced}
 use Rattle.seat_relay.specs.Mending.{IsMendedAnswer}
-use Rattle.seat_relay.specs.Relaying.{Line, Event, Begins, Ends, Tells, Says, Pushes}
+use Rattle.seat_relay.specs.Relaying.{Line, Event, Begins, Ends, Tells, Closes, Says, Pushes}
+use Rattle.seat_relay.specs.Laws.{Word, Shows, Over, words_over}
 use Rattle.relay_runs.specs.declared.desk.Desk.{Desk}
 use Rattle.relay_runs.specs.Said.{waits_at}
 
@@ -36,37 +37,27 @@ pub record IsLineOf (raw : List ℕ) (line : Line) : Type 0 where
   pub short : length line.text ≤ 4096
   pub placed : IsPlaced line.text line.place
 
--- what is told of it: the dealer's line that it is, or else nothing
-abbrev pub Adds : List ℕ → List Line → Type 0
-Adds raw own = ((line : Line) × (own ≡ line ∷ []) × IsLineOf raw line) ⊎ ((own ≡ []) × ((line : Line) → ¬ IsLineOf raw line))
+-- by this a node says that the match is over
+abbrev pub IsOverText : List ℕ → Type 0
+IsOverText text = text ≡ codes "#OVER"
+
+-- what a node tells by what stood before a line feed: a dealer's line, that the match is over, or nothing
+pub data Adds (raw : List ℕ) : List Word → Type 0 where
+  shows : (line : Line) → IsLineOf raw line → Adds raw (Shows line ∷ [])
+  closes : (text : List ℕ) → IsTextOf raw text → IsOverText text → Adds raw (Over ∷ [])
+  nothing : (text : List ℕ) → IsTextOf raw text → ((line : Line) → ¬ IsLineOf raw line) → ¬ IsOverText text → Adds raw []
 
 -- of each of these in order that is told, and nothing else
-abbrev pub AreHeard : List (List ℕ) → List Line → Type 0
+abbrev pub AreHeard : List (List ℕ) → List Word → Type 0
 AreHeard [] told = told ≡ []
-AreHeard (raw ∷ more) told = (own : List Line) × (rest : List Line) × (told ≡ own ++ rest) × IsFreeOf 10 raw × Adds raw own × AreHeard more rest
+AreHeard (raw ∷ more) told = (own : List Word) × (rest : List Word) × (told ≡ own ++ rest) × IsFreeOf 10 raw × Adds raw own × AreHeard more rest
 
 -- what came is whole lines and then what waits, at most a beginning and a piece; and of the whole lines this is told
-pub record IsHeardOf (came waiting : List ℕ) (told : List Line) : Type 0 where
+pub record IsHeardOf (came waiting : List ℕ) (told : List Word) : Type 0 where
   pub raws : List (List ℕ)
   pub whole : came ≡ with_feeds raws ++ waiting
   pub heard : AreHeard raws told
   pub few : length waiting ≤ 4097 + 512
-
--- the lines that a node tells over its connection, after one event more
-abbrev pub told_by : ℕ → List Line → Event → List Line
-told_by node before (Begins other) = if other == node then [] else before
-told_by node before (Ends other) = before
-told_by node before (Tells other line) = if other == node then before ++ line ∷ [] else before
-told_by node before (Says text) = before
-told_by node before (Pushes other) = before
-
-abbrev pub told_behind : ℕ → List Line → List Event → List Line
-told_behind node before [] = before
-told_behind node before (e ∷ more) = told_behind node (told_by node before e) more
-
--- since its connection began
-abbrev pub told_over : ℕ → List Event → List Line
-told_over node events = told_behind node [] events
 
 -- ---- of the bot
 
@@ -128,12 +119,13 @@ sayings_in [] = []
 sayings_in (Begins other ∷ more) = sayings_in more
 sayings_in (Ends other ∷ more) = sayings_in more
 sayings_in (Tells other line ∷ more) = sayings_in more
+sayings_in (Closes other ∷ more) = sayings_in more
 sayings_in (Says text ∷ more) = text ∷ sayings_in more
 sayings_in (Pushes other ∷ more) = sayings_in more
 
 -- ---- together
 
--- the machine was told what came: by each node the dealer's lines that came over its connection, and by the bot's own what it says
+-- the machine was told what came: by each node the dealer's lines that came over its connection, and that the match is over; and by the bot's own what it says
 pub record IsHeard (desk : Desk) (passed : List Passage) : Type 0 where
-  pub nodes : (node : ℕ) → IsHeardOf (came_over passed (Peer node)) (waits_at desk.from_nodes.items node) (told_over node desk.relay.events)
+  pub nodes : (node : ℕ) → IsHeardOf (came_over passed (Peer node)) (waits_at desk.from_nodes.items node) (words_over node desk.relay.events)
   pub bot : IsSaidOf desk.mended (came_over passed (Seat 0)) desk.from_bot.waiting desk.passes_over desk.is_seated (sayings_in desk.relay.events)

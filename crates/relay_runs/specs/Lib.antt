@@ -8,3 +8,4 @@ pub mod SaidAs
 pub mod Course
 pub mod Told
 pub mod Kept
+pub mod Ending

@@ -1,11 +1,11 @@
 -- What is said over the connections of a relay: to the bot the lines that it is given, to a node the first lines and then answers.
-use Rattle.std.specs.Prelude.{◌≡◌, ◌⊎◌, ℕ, ◌≤◌, ◌==◌, ◌||◌, Bool, false, if◌then◌else◌, List, [], ◌∷◌, ◌++◌, length, get_or, codes, Option, Some, None}
+use Rattle.std.specs.Prelude.{◌≡◌, ◌⊎◌, ℕ, ◌≤◌, ◌==◌, Bool, true, false, if◌then◌else◌, List, [], ◌∷◌, ◌++◌, length, get_or, codes, Option, Some, None, option_map}
 use Rattle.byte_queue.specs.Queued.{Queued}
 use Rattle.matchstate.specs.Free.{IsFreeOf}
 use Rattle.node_wires.specs.declared.line.Line.{Line as Wire}
 use Rattle.node_wires.specs.declared.line.Line.TheVariants.{Seat, Peer}
 use Rattle.node_wires.specs.Passages.{Passage, Came, Wrote, wrote_over}
-use Rattle.seat_relay.specs.Relaying.{Line, Standing, Event, Begins, Ends, Tells, Says, Pushes, happens, answered, all_given}
+use Rattle.seat_relay.specs.Relaying.{Line, Standing, Event, Story, Begins, Ends, Tells, Closes, Says, Pushes, happens, answered, all_given}
 use Rattle.seat_relay.specs.Laws.{fresh}
 use Rattle.relay_runs.specs.declared.desk.Desk.{Desk}
 
@@ -23,10 +23,43 @@ abbrev pub bytes_of_answers : List (List ℕ) → List ℕ
 bytes_of_answers [] = []
 bytes_of_answers (answer ∷ more) = ended answer ++ bytes_of_answers more
 
--- what is said first over each connection to a node: the token's line, where there is one, and the version's
-abbrev pub hello_of : Option (List ℕ) → List ℕ
-hello_of None = codes "VERSION:2.0.0\r\n"
-hello_of (Some token) = ((codes "#TOKEN " ++ token) ++ codes "\r\n") ++ codes "VERSION:2.0.0\r\n"
+-- ---- what is said first over a connection to a node
+
+-- the token's line, where there is one
+abbrev pub token_line : Option (List ℕ) → List ℕ
+token_line None = []
+token_line (Some token) = ended (codes "#TOKEN " ++ token)
+
+-- from where on the node is asked to tell: from the line on that the bot was given last, or where it was given none from the newest or the first one on
+abbrev pub asked_for : Bool → Option (List ℕ) → List ℕ
+asked_for newest (Some text) = text
+asked_for true None = codes "NEWEST"
+asked_for false None = codes "FIRST"
+
+-- the token's line, the one by which the node is asked, and the version's
+abbrev pub greeting : List ℕ → List ℕ → List ℕ
+greeting token asked = ((token ++ codes "#RESUME ") ++ ended asked) ++ codes "VERSION:2.0.0\r\n"
+
+-- from where on it is asked by a relay that knows so much
+abbrev pub asks : Standing → List ℕ
+asks s = asked_for s.newest (option_map (λ line. line.text) s.last)
+
+-- over the connection that a node has, after one event more
+abbrev pub asked_by : ℕ → Standing → Option (List ℕ) → Event → Option (List ℕ)
+asked_by node s before (Begins other) = if other == node then Some (asks s) else before
+asked_by node s before (Ends other) = before
+asked_by node s before (Tells other line) = before
+asked_by node s before (Closes other) = before
+asked_by node s before (Says text) = before
+asked_by node s before (Pushes other) = before
+
+unfoldable pub asked_behind : ℕ → Standing → Option (List ℕ) → List Event → Option (List ℕ)
+asked_behind node s before [] = before
+asked_behind node s before (e ∷ more) = asked_behind node (happens s e) (asked_by node s before e) more
+
+-- since its connection began; nothing where it had none
+abbrev pub asked_over : ℕ → Story → Option (List ℕ)
+asked_over node story = asked_behind node (fresh story.newest story.nodes) None story.events
 
 -- ---- the answers that are said over the connection that a node has
 
@@ -35,6 +68,7 @@ abbrev pub over_by : ℕ → Standing → List (List ℕ) → Event → List (Li
 over_by node s before (Begins other) = if other == node then [] else before
 over_by node s before (Ends other) = before
 over_by node s before (Tells other line) = before
+over_by node s before (Closes other) = before
 over_by node s before (Says text) = before
 over_by node s before (Pushes other) = if other == node then before ++ answered s (Pushes other) else before
 
@@ -43,20 +77,17 @@ over_behind node s before [] = before
 over_behind node s before (e ∷ more) = over_behind node (happens s e) (over_by node s before e) more
 
 -- since its connection began
-abbrev pub said_over : ℕ → ℕ → List Event → List (List ℕ)
-said_over nodes node events = over_behind node (fresh nodes) [] events
+abbrev pub said_over : ℕ → Story → List (List ℕ)
+said_over node story = over_behind node (fresh story.newest story.nodes) [] story.events
 
--- whether a connection to a node began
+-- whether a connection to a node begins
 abbrev pub begins_at : ℕ → Event → Bool
 begins_at node (Begins other) = other == node
 begins_at node (Ends other) = false
 begins_at node (Tells other line) = false
+begins_at node (Closes other) = false
 begins_at node (Says text) = false
 begins_at node (Pushes other) = false
-
-abbrev pub has_begun : ℕ → List Event → Bool
-has_begun node [] = false
-has_begun node (e ∷ more) = begins_at node e || has_begun node more
 
 -- ---- what was written, with what waits
 
@@ -72,17 +103,24 @@ abbrev pub AreEmpty : List Queued → Type 0
 AreEmpty queues = (node : ℕ) → waits_at queues node ≡ []
 
 -- what is said first over the connection that a node has; nothing where it had none
+abbrev pub first_of : List ℕ → Option (List ℕ) → List ℕ
+first_of token None = []
+first_of token (Some asked) = greeting token asked
+
 abbrev pub first_over : ℕ → Desk → List ℕ
-first_over node desk = if has_begun node desk.relay.events then desk.hello.items else []
+first_over node desk = first_of desk.opening.token.items (asked_over node desk.relay)
+
+-- the lines that the bot was given
+abbrev pub lines_given : Story → List Line
+lines_given story = all_given (fresh story.newest story.nodes) story.events
 
 -- what was written to a node over its connection, with what waits for it, is the first lines, and then the answers that were said to it
 abbrev pub IsSaidTo : ℕ → Desk → List Passage → Type 0
-IsSaidTo node desk passed =
-    wrote_over passed (Peer node) ++ waits_at desk.to_nodes.items node ≡ first_over node desk ++ bytes_of_answers (said_over desk.relay.nodes node desk.relay.events)
+IsSaidTo node desk passed = wrote_over passed (Peer node) ++ waits_at desk.to_nodes.items node ≡ first_over node desk ++ bytes_of_answers (said_over node desk.relay)
 
 -- what was written to the bot, with what waits for it, is the lines that it was given; and so it is of each node
 pub record IsSaid (desk : Desk) (passed : List Passage) : Type 0 where
-  pub bot : wrote_over passed (Seat 0) ++ desk.to_bot.waiting ≡ bytes_of_lines (all_given None desk.relay.events)
+  pub bot : wrote_over passed (Seat 0) ++ desk.to_bot.waiting ≡ bytes_of_lines (lines_given desk.relay)
   pub nodes : (node : ℕ) → IsSaidTo node desk passed
 
 -- ---- one call of a wire

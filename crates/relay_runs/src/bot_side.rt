@@ -9,15 +9,15 @@ use crate::desk::BOT;
 use crate::limits::{BACKLOG, PIECES};
 use crate::notice::RelayNotice;
 use crate::pieces::Unread;
-use crate::relay_end::RelayEnd;
 use crate::saying::Saying;
 use crate::server::RelayServer;
+use crate::stop::Stop;
 use node_wires::Wire;
 
 #[tactic(auto, using(crate::proofs::Keeping::kept_on, crate::proofs::Keeping::kept_same, crate::proofs::Keeping::stays_on, crate::proofs::Keeping::stays_same, crate::proofs::Keeping::stays_kept))]
 impl RelayServer {
     /// Takes in a bot where none is there.
-    pub(crate) fn take_in<W: Wire>(&mut self, wire: &mut W) -> Result<(), RelayEnd>
+    pub(crate) fn take_in<W: Wire>(&mut self, wire: &mut W) -> Result<(), Stop>
         ensures { Keeps self.old.desk self.new.desk (W.passed wire.old) (W.passed wire.new) }
     {
         if self.desk.has_bot() {
@@ -34,7 +34,7 @@ impl RelayServer {
     }
 
     /// Reads what came from the bot.
-    pub(crate) fn hear_bot<W: Wire>(&mut self, wire: &mut W, now: u64) -> Result<(), RelayEnd>
+    pub(crate) fn hear_bot<W: Wire>(&mut self, wire: &mut W, now: u64) -> Result<(), Stop>
         ensures { Keeps self.old.desk self.new.desk (W.passed wire.old) (W.passed wire.new) }
     {
         if !self.desk.has_bot() {
@@ -50,13 +50,13 @@ impl RelayServer {
     }
 
     /// Reads a piece that came from the bot. False where there is none, or the bot isn't there any more.
-    fn read_bot<W: Wire>(&mut self, wire: &mut W, now: u64) -> Result<bool, RelayEnd>
+    fn read_bot<W: Wire>(&mut self, wire: &mut W, now: u64) -> Result<bool, Stop>
         ensures { Keeps self.old.desk self.new.desk (W.passed wire.old) (W.passed wire.new) }
     {
         match self.desk.read_bot(wire) {
             Ok(()) => self.take_bot_lines(wire, now),
             Err(Unread::Later) => Ok(false),
-            Err(Unread::OutOfMemory) => Err(RelayEnd::OutOfMemory),
+            Err(Unread::OutOfMemory) => Err(Stop::OutOfMemory),
             Err(Unread::Ended) => {
                 self.leave_by_bot(wire, now)?;
                 Ok(false)
@@ -65,16 +65,16 @@ impl RelayServer {
     }
 
     /// The bot has ended its connection: what it said last may be its answer, which a node is told first.
-    fn leave_by_bot<W: Wire>(&mut self, wire: &mut W, now: u64) -> Result<(), RelayEnd>
+    fn leave_by_bot<W: Wire>(&mut self, wire: &mut W, now: u64) -> Result<(), Stop>
         ensures { Keeps self.old.desk self.new.desk (W.passed wire.old) (W.passed wire.new) }
     {
         self.answer(now)?;
         self.write_to_nodes(wire, now);
-        self.lose_bot(wire, now, RelayEnd::BotLeft)
+        self.lose_bot(wire, now, Stop::BotLeft)
     }
 
     /// Takes the whole lines that came from the bot. False where the bot isn't there any more.
-    fn take_bot_lines<W: Wire>(&mut self, wire: &mut W, now: u64) -> Result<bool, RelayEnd>
+    fn take_bot_lines<W: Wire>(&mut self, wire: &mut W, now: u64) -> Result<bool, Stop>
         ensures { Keeps self.old.desk self.new.desk (W.passed wire.old) (W.passed wire.new) }
     {
         for _ in 0..u64::MAX {
@@ -86,7 +86,7 @@ impl RelayServer {
     }
 
     /// Takes the next line of the bot. False where no whole one is there, or the bot isn't any more.
-    fn take_bot_line<W: Wire>(&mut self, wire: &mut W, now: u64) -> Result<bool, RelayEnd>
+    fn take_bot_line<W: Wire>(&mut self, wire: &mut W, now: u64) -> Result<bool, Stop>
         ensures { Keeps self.old.desk self.new.desk (W.passed wire.old) (W.passed wire.new) }
     {
         let saying = self.desk.take_saying()?;
@@ -94,12 +94,7 @@ impl RelayServer {
     }
 
     /// Takes what the bot said. False where that is no whole line, or the bot isn't there any more.
-    fn take_what<W: Wire>(
-        &mut self,
-        wire: &mut W,
-        saying: Saying,
-        now: u64,
-    ) -> Result<bool, RelayEnd>
+    fn take_what<W: Wire>(&mut self, wire: &mut W, saying: Saying, now: u64) -> Result<bool, Stop>
         ensures { Keeps self.old.desk self.new.desk (W.passed wire.old) (W.passed wire.new) }
     {
         match saying {
@@ -120,7 +115,7 @@ impl RelayServer {
             }
             Saying::WrongVersion(text) => {
                 self.add_to_trace(now, b" FROM ", &text);
-                self.lose_bot(wire, now, RelayEnd::WrongVersion)?;
+                self.lose_bot(wire, now, Stop::WrongVersion)?;
                 Ok(false)
             }
             Saying::Said {
@@ -172,7 +167,7 @@ impl RelayServer {
     }
 
     /// The bot's connection ends, and with it those to all nodes. Where a further bot is awaited the relay goes on.
-    fn lose_bot<W: Wire>(&mut self, wire: &mut W, now: u64, end: RelayEnd) -> Result<(), RelayEnd>
+    fn lose_bot<W: Wire>(&mut self, wire: &mut W, now: u64, stop: Stop) -> Result<(), Stop>
         ensures { Keeps self.old.desk self.new.desk (W.passed wire.old) (W.passed wire.new) }
     {
         self.note(RelayNotice::BotGone {
@@ -183,18 +178,18 @@ impl RelayServer {
         for node in 0..self.count {
             self.leave(wire, node, now);
         }
-        if self.stays { Ok(()) } else { Err(end) }
+        if self.stays { Ok(()) } else { Err(stop) }
     }
 
     /// Writes what waits for the bot.
-    pub(crate) fn write_to_bot<W: Wire>(&mut self, wire: &mut W, now: u64) -> Result<(), RelayEnd>
+    pub(crate) fn write_to_bot<W: Wire>(&mut self, wire: &mut W, now: u64) -> Result<(), Stop>
         ensures { Keeps self.old.desk self.new.desk (W.passed wire.old) (W.passed wire.new) }
     {
         if !self.desk.has_bot() {
             return Ok(());
         }
         if !self.desk.write_to_bot(wire) {
-            return self.lose_bot(wire, now, RelayEnd::BotLeft);
+            return self.lose_bot(wire, now, Stop::BotLeft);
         }
         if self.is_held && self.desk.backlog() < BACKLOG {
             self.has_more = true;

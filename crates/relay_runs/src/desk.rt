@@ -1,16 +1,20 @@
 //! What a relay knows, and what waits to be written over each connection.
 
-ghost use Rattle.std.specs.Prelude.{◌≡◌, false, ◌+◌, ◌≤◌, ◌++◌, [], length, option_map, IfOk};
+ghost use Rattle.std.specs.Prelude.{◌≡◌, true, false, ◌+◌, ◌≤◌, ◌++◌, [], length, option_map, IfOk};
 ghost use Rattle.matchstate.specs.Free.{IsFreeOf};
 ghost use Rattle.seat_relay.specs.Relaying.{with_event, Ends};
-ghost use Rattle.relay_runs.specs.Said.{ended, hello_of, AreEmpty, Reads, Writes};
+ghost use Rattle.relay_runs.specs.Said.{ended, token_line, AreEmpty, Reads, Writes};
 ghost use Rattle.relay_runs.specs.Course.{Course};
 ghost use Rattle.relay_runs.specs.Own.{was_dialled, IsNoneDialled};
 ghost use Rattle.relay_runs.specs.SaidAs.{IsSaidAs};
 ghost use Rattle.relay_runs.specs.Kept.{Keeps, Stays};
+ghost use Rattle.relay_runs.specs.Ending.{IsOver};
 
 use crate::limits::{BACKLOG, LONGEST_LINE};
-use crate::line_reader::{begins_too_long, is_comment, is_version, text_of};
+use crate::line_reader::{
+    begins_too_long, is_comment, is_over, is_version, says_other_match, text_of,
+};
+use crate::opening::{Opening, asked_of, greeting_of};
 use crate::pieces::{Unread, read_into, write_some};
 use crate::queues::{empty_queues, none_dialled, put_line};
 use crate::saying::{Saying, meant_by, said_for};
@@ -31,6 +35,10 @@ pub(crate) enum Taken {
     Nothing,
     /// A comment, which was passed over.
     Comment,
+    /// The match is over: nothing comes behind this.
+    Over,
+    /// The node has another match's line at the place of the one that it was asked for.
+    OtherMatch,
     /// A dealer's line that the bot isn't given.
     Told,
     /// A dealer's line that the bot is given.
@@ -41,6 +49,8 @@ pub(crate) enum Taken {
     TooLong,
     /// A dealer's line that can't be told while so much waits for the bot. It stays in front.
     Held,
+    /// The first line of the connection, before which there may be a gap: the bot wasn't given it, nor a later one. It stays in front.
+    Ahead,
 }
 
 /// The relay's machine with the connections that it speaks of: what came from the bot and from each node and isn't taken line
@@ -57,8 +67,8 @@ pub(crate) struct Desk {
     to_bot: ByteQueue,
     /// Of each node, by its number.
     to_nodes: Vec<ByteQueue>,
-    /// What is said first over each connection to a node.
-    hello: Vec<u8>,
+    /// How connections to nodes begin.
+    opening: Opening,
     /// The game by which wrong answers are mended, if they are.
     mended: Option<GameDef>,
     /// Of each node, by its number: whether it was dialled since the bot was taken in.
@@ -67,20 +77,6 @@ pub(crate) struct Desk {
     has_bot: bool,
     /// Whether the bot that was taken in last has named the version: it has its seat.
     is_seated: bool,
-}
-
-/// The lines that are said first: the token's, where there is one, and the version's.
-fn hello_of(alloc: Global, token: Option<&[u8]>) -> Result<Vec<u8>, AllocError>
-    ensures { IfOk result (λ hello. hello.items ≡ hello_of (option_map (λ t. t.now) token.entry)) }
-{
-    let Some(token) = token else {
-        return Vec::from_slice(alloc, b"VERSION:2.0.0\r\n");
-    };
-    let mut hello = Vec::from_slice(alloc, b"#TOKEN ")?;
-    hello.extend_from_slice(token)?;
-    hello.extend_from_slice(b"\r\n")?;
-    hello.extend_from_slice(b"VERSION:2.0.0\r\n")?;
-    Ok(hello)
 }
 
 /// What a beginning without a line feed is.
@@ -99,22 +95,24 @@ impl Desk {
         alloc: Global,
         nodes: u8,
         token: Option<&[u8]>,
+        newest: bool,
         mended: Option<GameDef>,
     ) -> Result<Desk, AllocError>
-        ensures hello { IfOk result (λ desk. desk.hello.items ≡ hello_of (option_map (λ t. t.now) token.entry)) }
+        ensures hello { IfOk result (λ desk. desk.opening.token.items ≡ token_line (option_map (λ t. t.now) token.entry)) }
+        ensures newest { IfOk result (λ desk. desk.opening.newest ≡ newest) }
         ensures mended { IfOk result (λ desk. desk.mended ≡ mended) }
         ensures course { IfOk result (λ desk. Course desk []) }
     {
         let nodes = nodes as usize;
         Ok(Desk {
             alloc,
-            relay: Relay::new(alloc, nodes)?,
+            relay: Relay::new(alloc, nodes, newest)?,
             from_bot: ByteQueue::new(alloc),
             passes_over: false,
             from_nodes: empty_queues(alloc, nodes)?,
             to_bot: ByteQueue::new(alloc),
             to_nodes: empty_queues(alloc, nodes)?,
-            hello: hello_of(alloc, token)?,
+            opening: Opening::new(alloc, token, newest)?,
             mended,
             dialled: none_dialled(alloc, nodes)?,
             has_bot: false,
@@ -123,13 +121,13 @@ impl Desk {
     }
 
     /// Takes in a bot, if one came, where none is there: nothing was given to it yet, and nothing is left of what came before
-    /// it.
+    /// it. The lines of each bot behind the first begin with the newest.
     pub(crate) fn take_in<W: Wire>(&mut self, wire: &mut W) -> Result<bool, AllocError>
         requires { self.old.has_bot ≡ false }
         ensures { Keeps self.old self.new (W.passed wire.old) (W.passed wire.new) }
     {
         let nodes = self.to_nodes.len();
-        let relay = Relay::new(self.alloc, nodes)?;
+        let relay = Relay::new(self.alloc, nodes, self.opening.newest)?;
         let from_nodes = empty_queues(self.alloc, nodes)?;
         let to_nodes = empty_queues(self.alloc, nodes)?;
         let dialled = none_dialled(self.alloc, nodes)?;
@@ -143,12 +141,14 @@ impl Desk {
         self.to_bot.clear();
         self.to_nodes = to_nodes;
         self.dialled = dialled;
+        self.opening.newest = true;
         self.has_bot = true;
         self.is_seated = false;
         Ok(true)
     }
 
-    /// Dials a node, where the bot has its seat, and says the first lines over the connection that begins.
+    /// Dials a node, where the bot has its seat, and says the first lines over the connection that begins: there the node is asked
+    /// for the line that the bot was given last, or for the first or the newest one.
     pub(crate) fn dial<W: Wire>(&mut self, wire: &mut W, node: u8) -> Result<(), WireFault>
         ensures { Keeps self.old self.new (W.passed wire.old) (W.passed wire.new) }
     {
@@ -161,14 +161,18 @@ impl Desk {
         let Some(came) = self.from_nodes.get_mut(node as usize) else {
             return Err(WireFault::Failed);
         };
-        if waiting.reserve(self.hello.len()).is_err() {
+        let asked = asked_of(self.relay.last(), self.relay.is_newest());
+        let Ok(greeting) = greeting_of(self.alloc, &self.opening.token, asked) else {
+            return Err(WireFault::OutOfMemory);
+        };
+        if waiting.reserve(greeting.len()).is_err() {
             return Err(WireFault::OutOfMemory);
         }
         wire.dial(node)?;
         self.dialled[node as usize] = true;
         came.clear();
         waiting.clear();
-        waiting.push_reserved(&self.hello);
+        waiting.push_reserved(&greeting);
         self.relay.follows_events();
         self.relay.begins(node as usize);
         Ok(())
@@ -186,7 +190,8 @@ impl Desk {
 
     /// Ends the bot's connection.
     pub(crate) fn let_go<W: Wire>(&mut self, wire: &mut W)
-        ensures { Keeps self.old self.new (W.passed wire.old) (W.passed wire.new) }
+        ensures keeps { Keeps self.old self.new (W.passed wire.old) (W.passed wire.new) }
+        ensures over { IsOver self.old → IsOver self.new }
     {
         wire.close(BOT);
         self.has_bot = false;
@@ -224,11 +229,25 @@ impl Desk {
             if !is_comment(text) {
                 return Ok(Taken::NotLine);
             }
+            if is_over(text) {
+                came.skip(count);
+                self.relay.follows_events();
+                self.relay.closes(node as usize);
+                return Ok(Taken::Over);
+            }
+            let is_other = says_other_match(text);
             came.skip(count);
-            return Ok(Taken::Comment);
+            return Ok(if is_other {
+                Taken::OtherMatch
+            } else {
+                Taken::Comment
+            });
         };
         if self.to_bot.waiting().len() >= BACKLOG {
             return Ok(Taken::Held);
+        }
+        if !self.relay.is_taken(node as usize, &place) {
+            return Ok(Taken::Ahead);
         }
         self.to_bot.reserve(text.len().saturating_add(2))?;
         self.relay.follows_events();
@@ -408,22 +427,18 @@ impl Desk {
         }
     }
 
-    /// Whether the next whole line that came from a node is a dealer's line that stands behind the one that the bot was given
-    /// last.
-    pub(crate) fn is_ahead(&self, node: u8) -> bool {
-        let (Some(came), Some(last)) = (self.from_nodes.get(node as usize), self.relay.last())
-        else {
-            return false;
-        };
-        let Some((raw, _)) = cut(came.waiting(), b'\n') else {
-            return false;
-        };
-        match (place_of(text_of(raw)), place_of(last)) {
-            (Some(next), Some(last)) => {
-                last.hand < next.hand || (last.hand == next.hand && last.len < next.len)
-            }
-            _ => false,
-        }
+    /// Whether a node has said that the match is over, and all lines were written that the bot was given, up to the last one of that
+    /// node.
+    pub(crate) fn is_over(&self) -> bool
+        ensures { result ≡ true → IsOver self.now }
+    {
+        self.relay.follows_events();
+        self.relay.is_over() && self.to_bot.waiting().is_empty()
+    }
+
+    /// Whether a node has said that the match is over, that had told the line that the bot was given last.
+    pub(crate) fn is_ending(&self) -> bool {
+        self.relay.is_over()
     }
 
     /// How many bytes wait for the bot.

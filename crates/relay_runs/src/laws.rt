@@ -2,8 +2,9 @@
 
 ghost use Rattle.relay_runs.specs.Course.{CoursesExplain, LinesCame};
 ghost use Rattle.relay_runs.specs.Told.{AnswersCame};
+ghost use Rattle.relay_runs.specs.Ending.{WholeMatchesAreWritten};
 
-use seat_relay::laws::answers_are_current;
+use seat_relay::laws::{answers_are_current, over_is_the_end};
 
 /// At the end of a course, as at each of its steps, what happened to the relay's machine is what passed.
 pub fn courses_explain()
@@ -21,4 +22,12 @@ pub fn answers_came()
     ensures { AnswersCame }
 {
     answers_are_current();
+}
+
+/// A bot whose relay ends since the match is over has all lines of it up to the last, where over each connection to a node come
+/// lines of it without a gap, and nodes say that it is over only behind the last.
+pub fn whole_matches_are_written()
+    ensures { WholeMatchesAreWritten }
+{
+    over_is_the_end();
 }

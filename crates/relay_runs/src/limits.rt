@@ -27,8 +27,11 @@ pub(crate) const FIRST_PATIENCE: u64 = 500_000;
 /// It is doubled up to this.
 pub(crate) const MOST_PATIENCE: u64 = 4_000_000;
 
-/// Where each node has refused for so long, the match is over, or all nodes are lost.
-pub(crate) const REFUSED_TIME: u64 = 10_000_000;
+/// Where each node that is reached has said for so long that it has another match, the relay ends.
+pub(crate) const OTHER_TIME: u64 = 10_000_000;
+
+/// A node that said that the match is over, or that it has another one, is dialled anew so long after.
+pub(crate) const OTHER_PAUSE: u64 = 1_000_000;
 
 /// The first line of a connection that is ahead of the bot waits so long for what other nodes tell before it.
 pub(crate) const AHEAD_TIME: u64 = 200_000;

@@ -2,7 +2,7 @@
 
 ghost use Rattle.std.specs.Prelude.{◌≡◌, ◌<◌, ◌≤◌, length, true, false};
 ghost use Rattle.relay_runs.specs.Said.{IsBeginning};
-ghost use Rattle.relay_runs.specs.Heard.{IsTextOf, IsVersion, is_comment};
+ghost use Rattle.relay_runs.specs.Heard.{IsTextOf, IsVersion, is_comment, IsOverText};
 
 use crate::limits::LONGEST_LINE;
 use matchstate::{are_digits, cut};
@@ -37,6 +37,19 @@ pub(crate) fn is_comment(text: &[u8]) -> bool
     ensures { result ≡ is_comment text.now }
 {
     matches!(text, [b'#' | b';', ..])
+}
+
+/// Whether a node says by this line that the match is over.
+pub(crate) fn is_over(text: &[u8]) -> bool
+    ensures yes { result ≡ true → IsOverText text.now }
+    ensures no { result ≡ false → ¬ IsOverText text.now }
+{
+    text == b"#OVER".as_slice()
+}
+
+/// Whether a node says by this line that it has another match's line at the place of the one that it was asked for.
+pub(crate) fn says_other_match(text: &[u8]) -> bool {
+    text == b"#OTHER".as_slice()
 }
 
 /// Whether a line names version 2.0 of the protocol: `VERSION:2.0.` and a revision of 1 to 9 digits.

@@ -1,6 +1,6 @@
 //! How it stands with a node.
 
-use crate::limits::{AHEAD_TIME, DIAL_PAUSE, SHORT_PAUSE, SHORT_TIME};
+use crate::limits::{AHEAD_TIME, DIAL_PAUSE, OTHER_TIME, SHORT_PAUSE, SHORT_TIME};
 
 /// How it stands with a node.
 #[derive(Drop)]
@@ -20,12 +20,14 @@ pub(crate) struct NodeState {
     pub(crate) follows_short: bool,
     /// When it is to be dialled.
     pub(crate) dial_at: u64,
-    /// When it was dialled last.
-    dialled_at: u64,
+    /// How long after its end the relay dials anew where the relay itself ends the connection; none where the node does.
+    pub(crate) pause: Option<u64>,
     /// Since when it is dialled without success; none where the last connection was taken.
     unreached_since: Option<u64>,
-    /// Since when each dial was refused soon; none where the last one wasn't.
-    refused_since: Option<u64>,
+    /// Since when it says that it has another match, and tells no line; none where it wasn't reached since.
+    other_since: Option<u64>,
+    /// Whether it was noted that it began ahead of the bot, and it told no line since.
+    noted_ahead: bool,
     /// How many lines came from it that the bot was given, so far.
     pub(crate) given: u64,
 }
@@ -54,9 +56,10 @@ impl NodeState {
             was_short: None,
             follows_short: false,
             dial_at: 0,
-            dialled_at: 0,
+            pause: None,
             unreached_since: None,
-            refused_since: None,
+            other_since: None,
+            noted_ahead: false,
             given: 0,
         }
     }
@@ -66,7 +69,7 @@ impl NodeState {
         self.dial_at = now;
         self.was_short = None;
         self.unreached_since = None;
-        self.refused_since = None;
+        self.other_since = None;
     }
 
     /// It was dialled.
@@ -74,11 +77,8 @@ impl NodeState {
         if self.unreached_since.is_none() {
             self.unreached_since = Some(now);
         }
-        if self.refused_since.is_none() {
-            self.refused_since = Some(now);
-        }
-        self.dialled_at = now;
         self.is_up = true;
+        self.pause = None;
         self.taken_at = None;
         self.told = false;
         self.ahead_until = None;
@@ -92,7 +92,6 @@ impl NodeState {
         }
         self.taken_at = Some(now);
         self.unreached_since = None;
-        self.refused_since = None;
         let was_short = self.was_short;
         self.was_short = None;
         self.follows_short = was_short.is_some();
@@ -113,13 +112,14 @@ impl NodeState {
     /// Its connection ended, or couldn't be dialled.
     pub(crate) fn end(&mut self, now: u64) -> Parting {
         let parting = self.parting(now);
-        let (was_short, pause) = match parting {
-            Parting::Short => (Some(true), self.short_pause()),
-            Parting::TurnedAway => (Some(false), self.short_pause()),
-            Parting::Refused | Parting::Lasted => (None, DIAL_PAUSE),
+        let (was_short, pause) = match (self.pause, parting) {
+            (Some(pause), _) => (None, pause),
+            (None, Parting::Short) => (Some(true), self.short_pause()),
+            (None, Parting::TurnedAway) => (Some(false), self.short_pause()),
+            (None, Parting::Refused | Parting::Lasted) => (None, DIAL_PAUSE),
         };
-        if parting == Parting::Refused && self.is_slow(now) {
-            self.refused_since = None;
+        if parting == Parting::Refused {
+            self.other_since = None;
         }
         self.is_up = false;
         self.taken_at = None;
@@ -155,15 +155,41 @@ impl NodeState {
         }
     }
 
-    /// Whether nobody has answered the last dial for a second: it isn't refused.
-    fn is_slow(&self, now: u64) -> bool {
-        now.saturating_sub(self.dialled_at) >= SHORT_TIME
+    /// It told a dealer's line: whether that is the first one over the connection.
+    pub(crate) fn tell(&mut self) -> bool {
+        let is_first = !self.told;
+        self.told = true;
+        self.other_since = None;
+        self.noted_ahead = false;
+        is_first
     }
 
-    /// Whether it has refused for so long, each time it was dialled.
-    pub(crate) fn has_refused(&self, now: u64, time: u64) -> bool {
-        match self.refused_since {
-            Some(then) => now.saturating_sub(then) >= time && !(self.is_up && self.is_slow(now)),
+    /// Its connection is ended since its first line is ahead of what the bot was given: whether that is to be noted.
+    pub(crate) fn leave_ahead(&mut self) -> bool {
+        self.pause = Some(DIAL_PAUSE);
+        let is_first = !self.noted_ahead;
+        self.noted_ahead = true;
+        is_first
+    }
+
+    /// It says that it has another match: whether it didn't say so before.
+    pub(crate) fn say_other(&mut self, now: u64) -> bool {
+        let is_first = self.other_since.is_none();
+        if is_first {
+            self.other_since = Some(now);
+        }
+        is_first
+    }
+
+    /// Whether it is reached, and has said nothing else for ten seconds. While a connection lasts over which it said nothing yet,
+    /// it may still tell a line.
+    pub(crate) fn has_other(&self, now: u64) -> bool {
+        let may_tell = match self.taken_at {
+            Some(then) => now.saturating_sub(then) >= SHORT_TIME,
+            None => self.unreached_since.is_some(),
+        };
+        match self.other_since {
+            Some(then) => now.saturating_sub(then) >= OTHER_TIME && !may_tell,
             None => false,
         }
     }

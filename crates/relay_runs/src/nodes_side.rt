@@ -4,12 +4,12 @@ ghost use Rattle.std.specs.Prelude.{◌≡◌};
 ghost use Rattle.relay_runs.specs.Kept.{Keeps, Stays};
 
 use crate::desk::Taken;
-use crate::limits::{BACKLOG, PIECES};
+use crate::limits::{BACKLOG, OTHER_PAUSE, PIECES};
 use crate::node_state::Parting;
 use crate::notice::RelayNotice;
 use crate::pieces::Unread;
-use crate::relay_end::RelayEnd;
 use crate::server::RelayServer;
+use crate::stop::Stop;
 use node_wires::{Wire, WireFault};
 use std::alloc::AllocError;
 
@@ -82,7 +82,7 @@ impl RelayServer {
     }
 
     /// Reads what came from the nodes, while not too much waits for the bot.
-    pub(crate) fn hear_nodes<W: Wire>(&mut self, wire: &mut W, now: u64) -> Result<(), RelayEnd>
+    pub(crate) fn hear_nodes<W: Wire>(&mut self, wire: &mut W, now: u64) -> Result<(), Stop>
         ensures { Keeps self.old.desk self.new.desk (W.passed wire.old) (W.passed wire.new) }
     {
         for node in 0..self.count {
@@ -100,7 +100,7 @@ impl RelayServer {
     }
 
     /// Takes what was held of a node, and reads what came from it.
-    fn hear_node<W: Wire>(&mut self, wire: &mut W, node: u8, now: u64) -> Result<(), RelayEnd>
+    fn hear_node<W: Wire>(&mut self, wire: &mut W, node: u8, now: u64) -> Result<(), Stop>
         ensures { Keeps self.old.desk self.new.desk (W.passed wire.old) (W.passed wire.new) }
     {
         if !self.is_up(node) || !self.take_or_lose(wire, node, now)? {
@@ -120,7 +120,7 @@ impl RelayServer {
     }
 
     /// Reads a piece that came from a node. False where there is none, or its connection ended.
-    fn read_node<W: Wire>(&mut self, wire: &mut W, node: u8, now: u64) -> Result<bool, RelayEnd>
+    fn read_node<W: Wire>(&mut self, wire: &mut W, node: u8, now: u64) -> Result<bool, Stop>
         ensures { Keeps self.old.desk self.new.desk (W.passed wire.old) (W.passed wire.new) }
     {
         match self.desk.read_node(wire, node) {
@@ -129,7 +129,7 @@ impl RelayServer {
                 self.take_or_lose(wire, node, now)
             }
             Err(Unread::Later) => Ok(false),
-            Err(Unread::OutOfMemory) => Err(RelayEnd::OutOfMemory),
+            Err(Unread::OutOfMemory) => Err(Stop::OutOfMemory),
             Err(Unread::Ended) => {
                 self.lose_node(wire, node, now);
                 Ok(false)
@@ -138,7 +138,7 @@ impl RelayServer {
     }
 
     /// Takes the lines that came from a node, or ends its connection. It answers whether that goes on.
-    fn take_or_lose<W: Wire>(&mut self, wire: &mut W, node: u8, now: u64) -> Result<bool, RelayEnd>
+    fn take_or_lose<W: Wire>(&mut self, wire: &mut W, node: u8, now: u64) -> Result<bool, Stop>
         ensures { Keeps self.old.desk self.new.desk (W.passed wire.old) (W.passed wire.new) }
     {
         let goes_on = self.take_lines(node, now)?;
@@ -164,9 +164,6 @@ impl RelayServer {
     fn take_lines(&mut self, node: u8, now: u64) -> Result<bool, AllocError>
         ensures { Stays self.old.desk self.new.desk }
     {
-        if self.waits_ahead(node, now) {
-            return Ok(true);
-        }
         for _ in 0..u64::MAX {
             let taken = self.desk.take_line(node)?;
             if let Some(goes_on) = self.note_line(node, taken, now) {
@@ -176,17 +173,53 @@ impl RelayServer {
         Ok(true)
     }
 
-    /// Whether the first line of a node's connection waits, since it is ahead of the bot: a node begins with its newest line, and
-    /// the lines between are still to come from another node that was connected before.
-    fn waits_ahead(&mut self, node: u8, now: u64) -> bool
+    /// The first line of a node's connection is ahead of the bot. It waits for a moment for the lines between, where another node may
+    /// tell them; else the connection is to end, and over the next one the node is asked for the bot's last line. It answers whether
+    /// the connection goes on.
+    fn note_ahead(&mut self, node: u8, now: u64) -> bool
         ensures { self.new.desk ≡ self.old.desk }
     {
-        if self.has_told(node) || !self.is_told_by_another(node) || !self.desk.is_ahead(node) {
+        let may_come = self.is_told_by_another(node);
+        let Some(state) = self.nodes.get_mut(node as usize) else {
             return false;
+        };
+        if may_come && state.waits_ahead(now) {
+            return true;
         }
-        match self.nodes.get_mut(node as usize) {
-            Some(state) => state.waits_ahead(now),
+        if state.leave_ahead() {
+            self.note(RelayNotice::Ahead { node });
+        }
+        false
+    }
+
+    /// A node said that the match is over.
+    fn note_over(&mut self, node: u8)
+        ensures { self.new.desk ≡ self.old.desk }
+    {
+        self.pause(node);
+        self.note(RelayNotice::Over { node });
+    }
+
+    /// A node said that it has another match.
+    fn note_other(&mut self, node: u8, now: u64)
+        ensures { self.new.desk ≡ self.old.desk }
+    {
+        self.pause(node);
+        let is_first = match self.nodes.get_mut(node as usize) {
+            Some(state) => state.say_other(now),
             None => false,
+        };
+        if is_first {
+            self.note(RelayNotice::OtherMatch { node });
+        }
+    }
+
+    /// A node that has nothing to tell is dialled a second later.
+    fn pause(&mut self, node: u8)
+        ensures { self.new.desk ≡ self.old.desk }
+    {
+        if let Some(state) = self.nodes.get_mut(node as usize) {
+            state.pause = Some(OTHER_PAUSE);
         }
     }
 
@@ -207,6 +240,15 @@ impl RelayServer {
         match taken {
             Taken::Nothing => return Some(true),
             Taken::Comment => {}
+            Taken::Over => {
+                self.note_over(node);
+                return Some(false);
+            }
+            Taken::OtherMatch => {
+                self.note_other(node, now);
+                return Some(false);
+            }
+            Taken::Ahead => return Some(self.note_ahead(node, now)),
             Taken::Told => self.note_told(node),
             Taken::Given => {
                 self.note_told(node);
@@ -235,8 +277,7 @@ impl RelayServer {
         let Some(state) = self.nodes.get_mut(node as usize) else {
             return;
         };
-        if !state.told {
-            state.told = true;
+        if state.tell() {
             self.note(RelayNotice::Sits { node });
         }
     }
@@ -255,10 +296,10 @@ impl RelayServer {
     }
 
     /// Dials the nodes to which there is no connection, where it is time to.
-    pub(crate) fn dial_nodes<W: Wire>(&mut self, wire: &mut W, now: u64) -> Result<(), RelayEnd>
+    pub(crate) fn dial_nodes<W: Wire>(&mut self, wire: &mut W, now: u64) -> Result<(), Stop>
         ensures { Keeps self.old.desk self.new.desk (W.passed wire.old) (W.passed wire.new) }
     {
-        if !self.desk.is_seated() || now < self.holding.until() {
+        if !self.desk.is_seated() || self.desk.is_ending() || now < self.holding.until() {
             return Ok(());
         }
         for node in 0..self.count {
@@ -268,7 +309,7 @@ impl RelayServer {
     }
 
     /// Dials a node, where there is no connection to it and it is time to.
-    fn dial<W: Wire>(&mut self, wire: &mut W, node: u8, now: u64) -> Result<(), RelayEnd>
+    fn dial<W: Wire>(&mut self, wire: &mut W, node: u8, now: u64) -> Result<(), Stop>
         ensures { Keeps self.old.desk self.new.desk (W.passed wire.old) (W.passed wire.new) }
     {
         let Some(state) = self.nodes.get_mut(node as usize) else {
@@ -283,7 +324,7 @@ impl RelayServer {
             Err(WireFault::Failed) => {
                 state.end(now);
             }
-            Err(WireFault::OutOfMemory) => return Err(RelayEnd::OutOfMemory),
+            Err(WireFault::OutOfMemory) => return Err(Stop::OutOfMemory),
         }
         Ok(())
     }

@@ -12,6 +12,12 @@ pub enum RelayNotice {
     Sits { node: u8 },
     /// The connection to a node ended over which lines had come.
     Lost { node: u8 },
+    /// A node began with a line before which lines may be missing: its connection was ended.
+    Ahead { node: u8 },
+    /// A node said that the match is over.
+    Over { node: u8 },
+    /// A node said that it has another match's line at the place of the bot's last one.
+    OtherMatch { node: u8 },
     /// A node said what is neither a dealer's line nor a comment: its connection was ended.
     NotLine { node: u8 },
     /// A node said a line that is too long: its connection was ended.

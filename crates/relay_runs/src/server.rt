@@ -1,18 +1,20 @@
 //! The relay, turn by turn. The bot's side of it is in `bot_side`, the nodes' side in `nodes_side`.
 
-ghost use Rattle.std.specs.Prelude.{◌≡◌, [], option_map, IfOk};
-ghost use Rattle.relay_runs.specs.Said.{hello_of};
+ghost use Rattle.std.specs.Prelude.{◌≡◌, [], Some, option_map, IfOk};
+ghost use Rattle.relay_runs.specs.Said.{token_line};
 ghost use Rattle.relay_runs.specs.Course.{Course};
 ghost use Rattle.relay_runs.specs.Kept.{Keeps};
+ghost use Rattle.relay_runs.specs.Ending.{IsOver};
 
 use crate::answering::Answering;
 use crate::bot::Bot;
 use crate::desk::Desk;
 use crate::holding::Holding;
-use crate::limits::{MOST_WAIT, NOTICES, REFUSED_TIME};
+use crate::limits::{MOST_WAIT, NOTICES, OTHER_TIME};
 use crate::node_state::NodeState;
 use crate::notice::RelayNotice;
 use crate::relay_end::RelayEnd;
+use crate::stop::Stop;
 use crate::terms::Terms;
 use crate::trace::Trace;
 use node_wires::Wire;
@@ -66,7 +68,8 @@ fn trace_of(alloc: Global, terms: &Terms) -> Option<Trace> {
 impl RelayServer {
     /// A relay to which no bot came yet.
     pub fn new(alloc: Global, terms: Terms) -> Result<RelayServer, AllocError>
-        ensures hello { IfOk result (λ server. server.desk.hello.items ≡ hello_of (option_map (λ token. token.items) terms.token)) }
+        ensures hello { IfOk result (λ server. server.desk.opening.token.items ≡ token_line (option_map (λ token. token.items) terms.token)) }
+        ensures newest { IfOk result (λ server. server.desk.opening.newest ≡ terms.newest) }
         ensures mended { IfOk result (λ server. server.desk.mended ≡ terms.mended) }
         ensures course { IfOk result (λ server. Course server.desk []) }
     {
@@ -76,12 +79,13 @@ impl RelayServer {
             nodes: count,
             token,
             mended,
+            newest,
             stays,
             give_up,
             traces: _,
             epoch: _,
         } = terms;
-        let desk = Desk::new(alloc, count, token.as_deref(), mended)?;
+        let desk = Desk::new(alloc, count, token.as_deref(), newest, mended)?;
         Ok(RelayServer {
             alloc,
             desk,
@@ -103,19 +107,28 @@ impl RelayServer {
     /// Waits until something may have come or is to be done, and does all that there is to do. It answers why the relay ends,
     /// if it does.
     pub fn turn<W: Wire>(&mut self, wire: &mut W) -> Option<RelayEnd>
-        ensures { Keeps self.old.desk self.new.desk (W.passed wire.old) (W.passed wire.new) }
+        ensures keeps { Keeps self.old.desk self.new.desk (W.passed wire.old) (W.passed wire.new) }
+        ensures over { result ≡ Some RelayEnd.Over → IsOver self.new.desk }
     {
         let now = wire.now();
         wire.wait(self.wait_time(now));
         let now = wire.now();
-        match self.act(wire, now) {
-            Ok(()) => None,
-            Err(end) => Some(end),
-        }
+        self.act(wire, now)
     }
 
     /// Does all that there is to do.
-    fn act<W: Wire>(&mut self, wire: &mut W, now: u64) -> Result<(), RelayEnd>
+    fn act<W: Wire>(&mut self, wire: &mut W, now: u64) -> Option<RelayEnd>
+        ensures keeps { Keeps self.old.desk self.new.desk (W.passed wire.old) (W.passed wire.new) }
+        ensures over { result ≡ Some RelayEnd.Over → IsOver self.new.desk }
+    {
+        match self.work(wire, now) {
+            Ok(()) => self.look_at_end(wire, now),
+            Err(stop) => Some(stop.end()),
+        }
+    }
+
+    /// Reads and writes.
+    fn work<W: Wire>(&mut self, wire: &mut W, now: u64) -> Result<(), Stop>
         ensures { Keeps self.old.desk self.new.desk (W.passed wire.old) (W.passed wire.new) }
     {
         self.has_more = false;
@@ -125,7 +138,7 @@ impl RelayServer {
     }
 
     /// Takes in a bot, and reads what came.
-    fn hear<W: Wire>(&mut self, wire: &mut W, now: u64) -> Result<(), RelayEnd>
+    fn hear<W: Wire>(&mut self, wire: &mut W, now: u64) -> Result<(), Stop>
         ensures { Keeps self.old.desk self.new.desk (W.passed wire.old) (W.passed wire.new) }
     {
         self.take_in(wire)?;
@@ -134,14 +147,13 @@ impl RelayServer {
     }
 
     /// Dials nodes, says the bot's answer, and writes what waits.
-    fn speak<W: Wire>(&mut self, wire: &mut W, now: u64) -> Result<(), RelayEnd>
+    fn speak<W: Wire>(&mut self, wire: &mut W, now: u64) -> Result<(), Stop>
         ensures { Keeps self.old.desk self.new.desk (W.passed wire.old) (W.passed wire.new) }
     {
         self.dial_nodes(wire, now)?;
         self.answer(now)?;
         self.write_to_nodes(wire, now);
-        self.write_to_bot(wire, now)?;
-        self.look_at_end(wire, now)
+        self.write_to_bot(wire, now)
     }
 
     /// For how many microseconds nothing is to be done unless something comes.
@@ -161,7 +173,7 @@ impl RelayServer {
     /// When a node is to be dialled next; not after this moment.
     fn dial_time(&self, most: u64) -> u64 {
         let mut due = most;
-        if !self.desk.is_seated() {
+        if !self.desk.is_seated() || self.desk.is_ending() {
             return due;
         }
         for node in &self.nodes {
@@ -187,14 +199,17 @@ impl RelayServer {
 
     // ---- the end
 
-    /// Whether each node has refused for ten seconds.
-    fn have_refused(&self, now: u64) -> bool {
+    /// Whether each node that is reached has said for ten seconds that it has another match, and some is.
+    fn have_other(&self, now: u64) -> bool {
+        let mut is_some = false;
         for node in &self.nodes {
-            if !node.has_refused(now, REFUSED_TIME) {
+            let has_other = node.has_other(now);
+            if !has_other && !node.is_unreached(now, OTHER_TIME) {
                 return false;
             }
+            is_some = is_some || has_other;
         }
-        true
+        is_some
     }
 
     /// Whether no node was reached for so long.
@@ -207,24 +222,38 @@ impl RelayServer {
         true
     }
 
-    /// Looks whether the match is over, or no node can be reached.
-    fn look_at_end<W: Wire>(&mut self, wire: &mut W, now: u64) -> Result<(), RelayEnd>
-        ensures { Keeps self.old.desk self.new.desk (W.passed wire.old) (W.passed wire.new) }
+    /// Why the relay doesn't wait for nodes any more, if it doesn't.
+    fn lost(&self, now: u64) -> Option<RelayEnd>
+        ensures { result ≡ Some RelayEnd.Over → ⊥ }
     {
-        if !self.desk.is_seated() {
-            return Ok(());
-        }
-        // A bot that reads late gets all lines first, as long as the relay doesn't give up.
-        let has_all = self.desk.last().is_some() && self.desk.backlog() == 0;
-        if has_all && self.have_refused(now) {
-            self.desk.let_go(wire);
-            return Err(RelayEnd::OverOrLost);
+        if self.have_other(now) {
+            return Some(RelayEnd::OtherMatch);
         }
         if self.are_unreached(now, self.give_up) {
-            self.desk.let_go(wire);
-            return Err(RelayEnd::NotReached);
+            return Some(RelayEnd::NotReached);
         }
-        Ok(())
+        None
+    }
+
+    /// Looks whether the match is over, or another one, or no node can be reached.
+    fn look_at_end<W: Wire>(&mut self, wire: &mut W, now: u64) -> Option<RelayEnd>
+        ensures keeps { Keeps self.old.desk self.new.desk (W.passed wire.old) (W.passed wire.new) }
+        ensures over { result ≡ Some RelayEnd.Over → IsOver self.new.desk }
+    {
+        if !self.desk.is_seated() {
+            return None;
+        }
+        if self.desk.is_over() {
+            self.desk.let_go(wire);
+            return Some(RelayEnd::Over);
+        }
+        // A bot that reads late gets all lines first.
+        if self.desk.is_ending() {
+            return None;
+        }
+        let end = self.lost(now)?;
+        self.desk.let_go(wire);
+        Some(end)
     }
 
     // ---- what is told of it

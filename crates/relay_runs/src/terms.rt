@@ -9,6 +9,8 @@ pub struct Terms {
     pub token: Option<Vec<u8>>,
     /// The game of the match, where wrong actions are mended.
     pub mended: Option<GameDef>,
+    /// Whether the first bot's lines may begin with the newest, and not with the first deal alone. Those of further bots do.
+    pub newest: bool,
     /// Whether a further bot is awaited where one has left.
     pub stays: bool,
     /// For how many microseconds no node need be reached before the relay gives up.

@@ -10,11 +10,11 @@ use std::test::Fail;
 /// A relay whose nodes have all told the line; node 2 first.
 fn told(rt: &HostRuntime, nodes: u8) -> Result<Table, AllocError> {
     let mut table = Table::with_bot(rt.alloc(), nodes)?;
+    table.all_tell(nodes, BEFORE)?;
+    let _ = table.turn(at(0));
     table.tells(2, LINE)?;
     let _ = table.turn(at(0));
-    for node in 0..nodes {
-        table.tells(node, LINE)?;
-    }
+    table.all_tell(nodes, LINE)?;
     let _ = table.turn(at(0));
     Ok(table)
 }
@@ -32,7 +32,11 @@ fn grows(rt: &impl Abort, table: &mut Table, nodes: u8, count: u64, now: u64) {
 #[test]
 fn a_refused_answer_goes_to_each_once(rt: HostRuntime) -> Result<(), Fail> {
     let mut table = told(&rt, 5)?;
-    assert_bytes(&rt, table.at_bot(), LINE);
+    assert_bytes(
+        &rt,
+        table.at_bot(),
+        b"MATCHSTATE:0:0::5d5c|\r\nMATCHSTATE:0:0:c:5d5c|\r\n",
+    );
     table.says(ANSWER)?;
     let _ = table.turn(at(0));
     assert_that(&rt, table.has_got(2, ANSWER));

@@ -4,24 +4,13 @@ use crate::table::{ANSWER, BEFORE, HELLO, LINE, Table, assert_that, at};
 use game_def::{GameDef, read};
 use node_wires::Line;
 use relay_runs::{RelayEnd, Terms};
+use sample_games::N2;
 use std::alloc::AllocError;
 use std::process::Abort;
 use std::test::Fail;
 
-/// A game by which the bot's answers are mended.
-const GAME: &[u8] = b"GAMEDEF
-nolimit
-numPlayers = 2
-numRounds = 4
-stack = 20000 20000
-blind = 100 50
-firstPlayer = 2 1 1 1
-numSuits = 4
-numRanks = 13
-numHoleCards = 2
-numBoardCards = 0 3 1 1
-END GAMEDEF
-";
+/// What is said first over each connection: the bot was given nothing yet.
+const FIRST: &[u8] = b"#RESUME FIRST\r\nVERSION:2.0.0\r\n";
 
 /// A fold that faces nothing: it is mended to a call.
 const FOLD: &[u8] = b"MATCHSTATE:0:0:c:5d5c|:f\r\n";
@@ -32,6 +21,7 @@ fn mending(game: GameDef) -> Terms {
         nodes: 2,
         token: None,
         mended: Some(game),
+        newest: false,
         stays: false,
         give_up: 20_000_000,
         traces: true,
@@ -84,7 +74,7 @@ fn is_beginning(bytes: &[u8], first: &[u8], second: &[u8]) -> bool {
 /// both lines.
 #[test]
 fn want_of_memory_invents_nothing(rt: HostRuntime) -> Result<(), Fail> {
-    let game = read(GAME).expect(&rt, "a game");
+    let game = read(N2).expect(&rt, "a game");
     let mut table = Table::by(rt.alloc(), mending(game), 0)?;
     let is_there = course(&rt, &mut table)?;
     assert_that(&rt, is_beginning(table.at_bot(), BEFORE, LINE));
@@ -93,7 +83,7 @@ fn want_of_memory_invents_nothing(rt: HostRuntime) -> Result<(), Fail> {
     }
     for node in 0..2 {
         let written = table.wire.inner.written(Line::Peer(node));
-        assert_that(&rt, is_beginning(written, HELLO, ANSWER));
+        assert_that(&rt, is_beginning(written, FIRST, ANSWER));
     }
     Ok(())
 }

@@ -1,6 +1,6 @@
 //! When nodes aren't dialled, and when a relay gives up.
 
-use crate::table::{LINE, Table, assert_number, assert_that, at};
+use crate::table::{BEFORE, Table, assert_number, assert_that, at};
 use relay_runs::RelayEnd;
 use std::alloc::{AllocError, Global};
 use std::process::Abort;
@@ -56,7 +56,7 @@ fn holds(rt: &impl Abort, alloc: Global, text: &[u8], kind: u64) -> Result<(), A
 /// Two at one seat: nodes that end each connection as soon as a line came.
 #[test]
 fn two_at_one_seat_hold_back(rt: HostRuntime) -> Result<(), Fail> {
-    Ok(holds(&rt, rt.alloc(), LINE, 100)?)
+    Ok(holds(&rt, rt.alloc(), BEFORE, 100)?)
 }
 
 /// Nodes that end each connection before any line.
@@ -81,21 +81,21 @@ fn a_relay_gives_up(rt: HostRuntime) -> Result<(), Fail> {
     Ok(())
 }
 
-/// Ten seconds after the only node has refused, where the bot has its lines, the match is over or lost. It is dialled a fifth of a
-/// second after its connection ended.
+/// A relay whose bot has lines waits however long all nodes refuse, up to the time of `--give-up`: a node that is dialled a fifth of
+/// a second after its connection ended refuses from then on.
 #[test]
-fn a_match_is_over_or_lost(rt: HostRuntime) -> Result<(), Fail> {
+fn a_relay_waits_for_nodes_that_are_away(rt: HostRuntime) -> Result<(), Fail> {
     let mut table = Table::with_bot(rt.alloc(), 1)?;
-    table.tells(0, LINE)?;
+    table.tells(0, BEFORE)?;
     let _ = table.turn(at(0));
     table.wire.are_down = true;
     table.ends(0);
-    for later in [2_000_000, 2_200_000, 12_199_999] {
+    for later in [2_000_000, 2_200_000, 12_200_000, 22_199_999] {
         assert_that(&rt, table.turn(at(later)).is_none());
     }
     assert_that(
         &rt,
-        table.turn(at(12_200_000)) == Some(RelayEnd::OverOrLost),
+        table.turn(at(22_200_000)) == Some(RelayEnd::NotReached),
     );
     Ok(())
 }

@@ -5,6 +5,7 @@
 //! - `line_tests`: nodes and bots that send anything; a bot that doesn't read; each call of a wire failing once.
 //! - `answer_tests`: when an answer is said to whom.
 //! - `hold_tests`: when nodes aren't dialled, and when a relay gives up.
+//! - `resume_tests`: what nodes are asked for, and how a relay ends by what they say.
 //! - `growth_tests`: a relay whose memory is refused. `tests/relay_growths` runs that as often as it allocates.
 #![tactic(auto)]
 
@@ -16,6 +17,8 @@ mod growth_tests;
 mod hold_tests;
 #[cfg(test)]
 mod line_tests;
+#[cfg(test)]
+mod resume_tests;
 #[cfg(test)]
 mod table;
 #[cfg(test)]

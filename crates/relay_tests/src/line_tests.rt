@@ -38,9 +38,9 @@ fn ends_its_own(
 ) -> Result<(), AllocError> {
     let mut table = Table::with_bot(alloc, 2)?;
     table.tells(0, text)?;
-    table.tells(1, LINE)?;
+    table.tells(1, BEFORE)?;
     let _ = table.turn(at(0));
-    assert_bytes(rt, table.at_bot(), LINE);
+    assert_bytes(rt, table.at_bot(), BEFORE);
     assert_that(rt, !table.is_up(0) && table.is_up(1));
     let found = wrong_lines(&mut table);
     assert_number(rt, found.0, expected.0);
@@ -66,6 +66,7 @@ fn each_line_comes_once(rt: HostRuntime) -> Result<(), Fail> {
     for (node, text) in [
         (0u8, BEFORE),
         (1, COMMENT),
+        (1, b"#OVER:\r\n"),
         (1, BEFORE),
         (1, LINE),
         (0, LINE),
@@ -88,6 +89,7 @@ fn each_line_comes_once(rt: HostRuntime) -> Result<(), Fail> {
 #[test]
 fn lines_without_an_end_are_one_line_too_long(rt: HostRuntime) -> Result<(), Fail> {
     let mut table = Table::with_bot(rt.alloc(), 1)?;
+    table.tells(0, BEFORE)?;
     table.tells(0, LINE)?;
     let _ = table.turn(at(0));
     for _ in 0..10_000 {
@@ -131,6 +133,9 @@ fn what_waits_for_a_deaf_bot_is_bounded(rt: HostRuntime) -> Result<(), Fail> {
     Ok(())
 }
 
+/// An answer to the first line.
+const FIRST_ANSWER: &[u8] = b"MATCHSTATE:0:0::5d5c|:c\r\n";
+
 /// A short course of which the call of this number fails. The bot got a beginning of the line, and the node at most one
 /// answer over the connection that it has.
 fn with_failure(rt: &impl Abort, alloc: Global, call: u64) -> Result<(), AllocError> {
@@ -139,21 +144,21 @@ fn with_failure(rt: &impl Abort, alloc: Global, call: u64) -> Result<(), AllocEr
     let mut now = at(0);
     for turn in 0..4 {
         if table.is_up(0) {
-            table.tells(0, LINE)?;
+            table.tells(0, BEFORE)?;
         }
         if turn == 1 {
-            table.says(ANSWER)?;
+            table.says(FIRST_ANSWER)?;
         }
         if table.turn(now).is_some() {
             break;
         }
         now = now.saturating_add(300_000);
     }
-    assert_that(rt, LINE.starts_with(table.at_bot()));
+    assert_that(rt, BEFORE.starts_with(table.at_bot()));
     let is_silent = table.wire.inner.written(Line::Peer(0)).is_empty();
     assert_that(
         rt,
-        is_silent || table.has_got(0, b"") || table.has_got(0, ANSWER),
+        is_silent || table.has_got(0, b"") || table.has_got(0, FIRST_ANSWER),
     );
     Ok(())
 }

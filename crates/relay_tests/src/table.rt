@@ -1,6 +1,7 @@
 //! A relay with its nodes and its bot.
 
 use crate::test_wire::TestWire;
+use matchstate::cut;
 use node_wires::{Line, MemoryWire};
 use relay_runs::{RelayEnd, RelayNotice, RelayServer, Terms};
 use std::alloc::{AllocError, Global};
@@ -15,8 +16,14 @@ pub(crate) const BEFORE: &[u8] = b"MATCHSTATE:0:0::5d5c|\r\n";
 /// An answer to it.
 pub(crate) const ANSWER: &[u8] = b"MATCHSTATE:0:0:c:5d5c|:c\r\n";
 
-/// What is said first over each connection to a node where there is no token.
+/// What the bot says first, and what is said last of the first lines to a node.
 pub(crate) const HELLO: &[u8] = b"VERSION:2.0.0\r\n";
+
+/// What a node says once the match is over.
+pub(crate) const OVER: &[u8] = b"#OVER\r\n";
+
+/// What a node says that has another match.
+pub(crate) const OTHER: &[u8] = b"#OTHER\r\n";
 
 /// When the bot comes.
 const START: u64 = 1_000_000_000;
@@ -39,12 +46,13 @@ impl Drop for Table {
     }
 }
 
-/// What a relay of so many nodes goes by: no token, no mending, no trace, and it gives up after twenty seconds.
-fn terms(nodes: u8) -> Terms {
+/// What a relay of so many nodes goes by: no token, no mending, no trace, all lines, and it gives up after twenty seconds.
+pub(crate) fn terms(nodes: u8) -> Terms {
     Terms {
         nodes,
         token: None,
         mended: None,
+        newest: false,
         stays: false,
         give_up: 20_000_000,
         traces: false,
@@ -107,17 +115,35 @@ impl Table {
         self.wire.inner.end(Line::Peer(node));
     }
 
-    /// Whether a node got the first lines, and this behind them.
-    pub(crate) fn has_got(&self, node: u8, behind: &[u8]) -> bool {
-        match self
-            .wire
-            .inner
-            .written(Line::Peer(node))
-            .strip_prefix(HELLO)
-        {
-            Some(rest) => rest == behind,
+    /// What a node was asked for over its connection, and what it got behind the first lines.
+    pub(crate) fn asked(&self, node: u8) -> Option<(&[u8], &[u8])> {
+        let written = self.wire.inner.written(Line::Peer(node));
+        let (asked, rest) = cut(written.strip_prefix(b"#RESUME ")?, b'\n')?;
+        Some((asked.strip_suffix(b"\r")?, rest.strip_prefix(HELLO)?))
+    }
+
+    /// Whether a node was asked for this over its connection.
+    pub(crate) fn was_asked(&self, node: u8, text: &[u8]) -> bool {
+        match self.asked(node) {
+            Some((asked, _)) => asked == text,
             None => false,
         }
+    }
+
+    /// Whether a node got the first lines, and this behind them.
+    pub(crate) fn has_got(&self, node: u8, behind: &[u8]) -> bool {
+        match self.asked(node) {
+            Some((_, rest)) => rest == behind,
+            None => false,
+        }
+    }
+
+    /// All nodes of so many tell this.
+    pub(crate) fn all_tell(&mut self, nodes: u8, text: &[u8]) -> Result<(), AllocError> {
+        for node in 0..nodes {
+            self.tells(node, text)?;
+        }
+        Ok(())
     }
 
     /// How many nodes of so many got this behind the first lines.

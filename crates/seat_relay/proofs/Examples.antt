@@ -1,10 +1,10 @@
 -- What the definitions say of small cases, and what they don't.
-use Rattle.std.proofs.Common.{◌≡◌, ℕ, true, false, List, [], ◌∷◌, codes, None, Some, refl, arith}
+use Rattle.std.proofs.Common.{◌≡◌, ℕ, true, false, List, [], ◌∷◌, ◌++◌, codes, None, Some, refl, ap, arith}
 use Rattle.game_def.specs.Game.{Game}
 use Rattle.seat_relay.specs.declared.place.Place.{Place}
 use Rattle.seat_relay.specs.Places.{is_later}
-use Rattle.seat_relay.specs.Relaying.{Line, Event, Begins, Tells, is_echo, all_given}
-use Rattle.seat_relay.specs.Laws.{AscendFrom}
+use Rattle.seat_relay.specs.Relaying.{Line, Event, Begins, Ends, Tells, Closes, is_echo, happens, all_given, after}
+use Rattle.seat_relay.specs.Laws.{fresh, AscendFrom, told_over, IsPart}
 use Rattle.betting.specs.declared.action.Action.TheVariants.{Fold, Call}
 use Rattle.betting.specs.Turns.{count_below, max_spent, spent, folded, live, live_count, unfolded_count, has_answered, owes, owing_count}
 use Rattle.betting.specs.Rounds.{is_alone, can_bet_on, ends_round, over, current_round, first_from, first_cyclic, search_start, to_act}
@@ -58,8 +58,73 @@ abbrev two_nodes : List Event
 two_nodes = Begins 0 ∷ Begins 1 ∷ Tells 0 (line 0 0) ∷ Tells 0 (line 0 1) ∷ Tells 1 (line 0 0) ∷ Tells 1 (line 0 1) ∷ Tells 1 (line 1 0) ∷ Tells 0 (line 1 0) ∷ []
 
 -- the bot is given each once
-each_line_once : all_given None two_nodes ≡ line 0 0 ∷ line 0 1 ∷ line 1 0 ∷ []
+each_line_once : all_given (fresh false 2) two_nodes ≡ line 0 0 ∷ line 0 1 ∷ line 1 0 ∷ []
+unfolding all_given happens
 each_line_once = refl
+
+-- ---- where connections begin
+
+abbrev tail_of : List Line → List Line
+tail_of [] = []
+tail_of (a ∷ []) = []
+tail_of (a ∷ b ∷ []) = []
+tail_of (a ∷ b ∷ c ∷ rest) = rest
+
+no_tail : (before behind : List Line) → [] ≡ before ++ (line 0 0 ∷ line 1 0 ∷ behind) → ⊥
+no_tail [] behind same = cc
+no_tail (a ∷ before) behind same = cc
+
+no_number : (n : ℕ) → n ≡ 0 → n ≡ 1 → ⊥
+no_number n none one = omega arith
+
+gap_in : (before behind : List Line) → line 0 0 ∷ line 0 1 ∷ line 1 0 ∷ [] ≡ before ++ (line 0 0 ∷ line 1 0 ∷ behind) → ⊥
+gap_in [] behind same = let next : line 0 1 ≡ line 1 0 = cc in no_number 0 refl (ap (λ (l : Line). l.place.hand) next)
+gap_in (a ∷ []) behind same = let next : line 0 1 ≡ line 0 0 = cc in no_number 1 (ap (λ (l : Line). l.place.len) next) refl
+gap_in (a ∷ b ∷ []) behind same = let next : line 1 0 ≡ line 0 0 = cc in no_number 1 (ap (λ (l : Line). l.place.hand) next) refl
+gap_in (a ∷ b ∷ c ∷ before) behind same = no_tail before behind (ap tail_of same)
+
+-- with another line than the first deal's none may begin, unless the bot's lines may begin anywhere
+no_first_line : all_given (fresh false 1) (Begins 0 ∷ Tells 0 (line 0 1) ∷ Tells 0 (line 1 0) ∷ []) ≡ []
+unfolding all_given happens
+no_first_line = refl
+
+the_newest_line : all_given (fresh true 1) (Begins 0 ∷ Tells 0 (line 0 1) ∷ Tells 0 (line 1 0) ∷ []) ≡ line 0 1 ∷ line 1 0 ∷ []
+unfolding all_given happens
+the_newest_line = refl
+
+-- a connection that begins ahead of the bot gives it nothing, before or behind the line that is missing
+abbrev a_gap : List Event
+a_gap = Begins 0 ∷ Tells 0 (line 0 0) ∷ Ends 0 ∷ Begins 0 ∷ Tells 0 (line 1 0) ∷ Tells 0 (line 1 1) ∷ []
+
+no_gap : all_given (fresh false 1) a_gap ≡ line 0 0 ∷ []
+unfolding all_given happens
+no_gap = refl
+
+nothing_without_a_connection : all_given (fresh true 1) (Tells 0 (line 0 0) ∷ []) ≡ []
+unfolding all_given happens
+nothing_without_a_connection = refl
+
+what_came_over_the_last_connection : told_over 0 a_gap ≡ line 1 0 ∷ line 1 1 ∷ []
+what_came_over_the_last_connection = refl
+
+-- ---- the end
+
+it_is_over_behind_the_newest_line : (after (fresh false 2) (two_nodes ++ Closes 0 ∷ [])).over ≡ true
+unfolding after happens
+it_is_over_behind_the_newest_line = refl
+
+-- not behind an earlier one, nor once a further line came
+it_is_not_behind_an_earlier_one : (after (fresh false 2) (Begins 0 ∷ Begins 1 ∷ Tells 0 (line 0 0) ∷ Tells 1 (line 0 0) ∷ Tells 1 (line 0 1) ∷ Closes 0 ∷ [])).over ≡ false
+unfolding after happens
+it_is_not_behind_an_earlier_one = refl
+
+a_further_line_goes_on : (after (fresh false 2) (two_nodes ++ Closes 0 ∷ Tells 1 (line 1 1) ∷ [])).over ≡ false
+unfolding after happens
+a_further_line_goes_on = refl
+
+-- a part has no gap
+no_part_with_a_gap : IsPart (line 0 0 ∷ line 1 0 ∷ []) (line 0 0 ∷ line 0 1 ∷ line 1 0 ∷ []) → ⊥
+no_part_with_a_gap part = gap_in part.before part.behind part.joined
 
 -- the same line twice doesn't ascend
 twice_does_not_ascend : AscendFrom None (line 0 1 ∷ line 0 1 ∷ []) → ⊥

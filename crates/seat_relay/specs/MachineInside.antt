@@ -9,7 +9,9 @@ line_of line = record { text = line.text.items; place = line.place }
 
 abbrev pub standing_of : Inside → Standing
 standing_of r = record {
+  newest = r.newest;
   last = option_map line_of r.last;
   kept = option_map (λ answer. answer.items) r.kept;
   links = r.links.items;
+  over = r.over;
 }

@@ -18,6 +18,13 @@ pub record IsPlaced (text : List ℕ) (place : Place) : Type 0 where
 abbrev pub is_later : Place → Place → Bool
 is_later first second = nat_lt first.hand second.hand || (first.hand == second.hand && nat_lt first.len second.len)
 
+-- the place of the first deal's line: no place stands before it
+abbrev pub is_first : Place → Bool
+is_first place = place.hand == 0 && place.len == 0
+
+abbrev pub is_same : Place → Place → Bool
+is_same first second = first.hand == second.hand && first.len == second.len
+
 -- the dealer's line of a view stands where its hand and its betting text say
 abbrev pub LinesOfViewsArePlaced : Type 0
 LinesOfViewsArePlaced = (view : View) → IsGame view.game → IsView view → IsPlaced (line_text view) (record { hand = view.hand; len = length (betting_text view.game view.past) })

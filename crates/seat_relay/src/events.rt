@@ -32,6 +32,9 @@ pub(crate) enum Happening<'a> {
         text: &'a [u8],
         place: Place,
     },
+    Closes {
+        node: usize,
+    },
     Says {
         text: &'a [u8],
     },

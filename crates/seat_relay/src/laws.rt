@@ -1,8 +1,8 @@
 //! What holds of relays, whatever happens: each law is the contract of a function that does nothing.
 
-ghost use Rattle.seat_relay.specs.Dealing.{DealersLinesAscend, BotsAreGivenOneDealersLines};
+ghost use Rattle.seat_relay.specs.Dealing.{DealersLinesAscend, BotsAreGivenOneDealersLines, BotsAreGivenAllLines};
 ghost use Rattle.seat_relay.specs.Places.{LinesOfViewsArePlaced};
-ghost use Rattle.seat_relay.specs.Laws.{LinesAscend, LinesAreABeginning, AnswersAreCurrent, AnswersAreFew};
+ghost use Rattle.seat_relay.specs.Laws.{LinesAscend, LinesAreABeginning, OverIsTheEnd, AnswersAreCurrent, AnswersAreFew};
 
 use matchstate::laws::a_view_has_one_line;
 
@@ -11,10 +11,15 @@ pub fn lines_ascend()
     ensures { LinesAscend }
 {}
 
-/// Where nodes tell the lines of one dealer, a bot is given a beginning of them: each once, in
-/// order, and none left out.
+/// Where nodes tell the lines of one dealer, a bot is given a beginning of them, or where its lines may begin anywhere a part:
+/// each once, in order, and none left out, whatever connections end and wherever they begin.
 pub fn lines_are_a_beginning()
     ensures { LinesAreABeginning }
+{}
+
+/// Once a relay knows that the match is over, its bot was given all lines up to the last, where nodes say so only behind it.
+pub fn over_is_the_end()
+    ensures { OverIsTheEnd }
 {}
 
 /// Each answer that is said to a node is to the line that the bot was given last.
@@ -32,10 +37,16 @@ pub fn dealers_lines_ascend()
     ensures { DealersLinesAscend }
 {}
 
-/// Where each node tells lines of one sequential dealer, over each connection without a gap from the line on that the bot
-/// was given last when its first line came, or from an earlier one, the bot is given a beginning of that dealer's lines.
+/// Where over each connection come lines of one sequential dealer without a gap, the bot is given a beginning of that dealer's
+/// lines, or where its lines may begin anywhere a part of them without a gap.
 pub fn bots_are_given_one_dealers_lines()
     ensures { BotsAreGivenOneDealersLines }
+{}
+
+/// Once a relay knows that the match is over, its bot was given all of that dealer's lines up to the last, where nodes say so
+/// only behind it.
+pub fn bots_are_given_all_lines()
+    ensures { BotsAreGivenAllLines }
 {}
 
 /// The dealer's line of a view has a place: the number of its hand, and the length of its betting string.

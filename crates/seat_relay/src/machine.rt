@@ -1,7 +1,6 @@
 ghost use Rattle.std.specs.Prelude.{◌≡◌, ℕ, List, map, slice_set, Some, None, option_map, IfOk, OnOk, OnErr};
-ghost use Rattle.seat_relay.specs.declared.place.Place.{Place as At};
 ghost use Rattle.seat_relay.specs.MachineInside.{line_of};
-ghost use Rattle.seat_relay.specs.Relaying.{with_place, fallen, risen, unsaid, link_at, is_even, is_echo, echoes, is_news, is_again, happens, Begins, Ends, Tells, Says, Pushes};
+ghost use Rattle.seat_relay.specs.Relaying.{with_place, fallen, risen, heard, unsaid, link_at, is_even, has_told, is_echo, echoes, is_news, is_again, may_begin, is_taken, is_given, happens, Begins, Ends, Tells, Closes, Says, Pushes};
 ghost use Rattle.seat_relay.specs.Laws.{fresh};
 
 use crate::line::Line;
@@ -15,9 +14,13 @@ use std::marker::Model;
 #[derive(Drop)]
 pub(crate) struct Machine {
     alloc: Global,
+    /// Whether the bot's lines may begin anywhere in the match, and not with the first deal alone.
+    newest: bool,
     last: Option<Line>,
     kept: Option<Vec<u8>>,
     links: Vec<Link>,
+    /// Whether a node that had told the last line said that the match is over.
+    over: bool,
 }
 
 impl Model for Machine {
@@ -31,16 +34,33 @@ impl Model for Machine {
 
 #[tactic(auto, unfolding(crate::specs::Relaying::happens))]
 impl Machine {
-    /// That of a relay for so many nodes, whose bot was given nothing yet.
-    pub(crate) fn new(alloc: Global, nodes: usize) -> Result<Machine, AllocError>
-        ensures { IfOk result (λ machine. machine ≡ fresh nodes) }
+    /// That of a relay for so many nodes, whose bot was given nothing yet. The bot's lines may begin anywhere where `newest`
+    /// says so, and else with the first deal.
+    pub(crate) fn new(alloc: Global, nodes: usize, newest: bool) -> Result<Machine, AllocError>
+        ensures { IfOk result (λ machine. machine ≡ fresh newest nodes) }
     {
         Ok(Machine {
             alloc,
+            newest,
             last: None,
             kept: None,
             links: vec![in alloc; Link::Apart; nodes]?,
+            over: false,
         })
+    }
+
+    /// Whether the bot's lines may begin anywhere.
+    pub(crate) fn is_newest(&self) -> bool
+        ensures { result ≡ self.now.newest }
+    {
+        self.newest
+    }
+
+    /// Whether a node that had told the last line said that the match is over.
+    pub(crate) fn is_over(&self) -> bool
+        ensures { result ≡ self.now.over }
+    {
+        self.over
     }
 
     /// The line that the bot was given last: that from which a node is to tell.
@@ -67,7 +87,7 @@ impl Machine {
     pub(crate) fn begins(&mut self, node: usize)
         ensures { self.new ≡ happens self.old (Begins node) }
     {
-        set_link(&mut self.links, node, Link::Behind);
+        set_link(&mut self.links, node, Link::Begun);
     }
 
     /// The connection to a node ends.
@@ -75,6 +95,18 @@ impl Machine {
         ensures { self.new ≡ happens self.old (Ends node) }
     {
         set_link(&mut self.links, node, Link::Apart);
+    }
+
+    /// Whether a line at this place is taken over the connection of a node: any behind the first, and the first where the bot was
+    /// given one there or behind, or its lines may begin there.
+    pub(crate) fn is_taken(&self, node: usize, place: &Place) -> bool
+        ensures { result ≡ is_taken self.now.newest self.now.last (link_at self.now.links node) place.now }
+    {
+        match link_at(&self.links, node) {
+            Link::Apart => false,
+            Link::Begun => may_begin(self.newest, &self.last, place),
+            Link::Behind | Link::Even | Link::Said => true,
+        }
     }
 
     /// A node tells a line. It says whether the bot is to be given it.
@@ -85,24 +117,40 @@ impl Machine {
         place: Place,
     ) -> Result<bool, AllocError>
         ensures ok { OnOk result (self.new ≡ happens self.old (Tells node (with_place text.now place))) }
-        ensures given { IfOk result (λ given. given ≡ is_news self.old.last (with_place text.now place)) }
+        ensures given { IfOk result (λ given. given ≡ is_given self.old node (with_place text.now place)) }
         ensures err { OnErr result (self.new ≡ self.old) }
     {
+        if !self.is_taken(node, &place) {
+            return Ok(false);
+        }
         if is_news(&self.last, &place) {
             self.last = Some(Line {
                 text: Vec::from_slice(self.alloc, text)?,
                 place,
             });
             self.kept = None;
+            self.over = false;
             fall(&mut self.links);
             set_link(&mut self.links, node, Link::Even);
             return Ok(true);
         }
-        if is_again(&self.last, text) {
-            let risen = link_at(&self.links, node).risen();
-            set_link(&mut self.links, node, risen);
-        }
+        let link = link_at(&self.links, node);
+        let link = if is_again(&self.last, text, &place) {
+            link.risen()
+        } else {
+            link.heard()
+        };
+        set_link(&mut self.links, node, link);
         Ok(false)
+    }
+
+    /// A node says that the match is over: that counts where it has told the last line.
+    pub(crate) fn closes(&mut self, node: usize)
+        ensures { self.new ≡ happens self.old (Closes node) }
+    {
+        if link_at(&self.links, node).has_told() {
+            self.over = true;
+        }
     }
 
     /// The bot says something. It says whether that is an answer to the line that it was given last, which is kept; anything
@@ -141,6 +189,7 @@ impl Link {
     {
         match self {
             Link::Apart => Link::Apart,
+            Link::Begun => Link::Begun,
             Link::Behind | Link::Even | Link::Said => Link::Behind,
         }
     }
@@ -150,8 +199,28 @@ impl Link {
         ensures { result ≡ risen self }
     {
         match self {
-            Link::Behind => Link::Even,
+            Link::Begun | Link::Behind => Link::Even,
             Link::Apart | Link::Even | Link::Said => self,
+        }
+    }
+
+    /// Once an earlier line was told.
+    fn heard(self) -> Link
+        ensures { result ≡ heard self }
+    {
+        match self {
+            Link::Begun => Link::Behind,
+            Link::Apart | Link::Behind | Link::Even | Link::Said => self,
+        }
+    }
+
+    /// Whether the last line was told.
+    fn has_told(self) -> bool
+        ensures { result ≡ has_told self }
+    {
+        match self {
+            Link::Even | Link::Said => true,
+            Link::Apart | Link::Begun | Link::Behind => false,
         }
     }
 
@@ -161,7 +230,7 @@ impl Link {
     {
         match self {
             Link::Said => Link::Even,
-            Link::Apart | Link::Behind | Link::Even => self,
+            Link::Apart | Link::Begun | Link::Behind | Link::Even => self,
         }
     }
 }
@@ -213,13 +282,23 @@ fn is_news(last: &Option<Line>, place: &Place) -> bool
     }
 }
 
+/// Whether a connection may begin with a line at a place, for a bot that was given this one last.
+fn may_begin(newest: bool, last: &Option<Line>, place: &Place) -> bool
+    ensures { result ≡ may_begin newest (option_map line_of last.now) place.now }
+{
+    match last {
+        None => newest || place.is_first(),
+        Some(last) => !place.is_behind(&last.place),
+    }
+}
+
 /// Whether this is the line that the bot was given last.
-fn is_again(last: &Option<Line>, text: &[u8]) -> bool
-    ensures { (place : At) → result ≡ is_again (option_map line_of last.now) (with_place text.now place) }
+fn is_again(last: &Option<Line>, text: &[u8], place: &Place) -> bool
+    ensures { result ≡ is_again (option_map line_of last.now) (with_place text.now place.now) }
 {
     match last {
         None => false,
-        Some(last) => last.text.as_slice() == text,
+        Some(last) => last.text.as_slice() == text && last.place.is_same(place),
     }
 }
 

@@ -1,6 +1,6 @@
 ghost use Rattle.std.specs.Prelude.{◌≡◌, ℕ, ◌++◌, List, Some, IfSome, IsSomeAnd, codes};
 ghost use Rattle.matchstate.specs.Line.{Fields as LineFields, HasFields};
-ghost use Rattle.seat_relay.specs.Places.{IsPlaced, is_later};
+ghost use Rattle.seat_relay.specs.Places.{IsPlaced, is_later, is_first, is_same};
 ghost use Rattle.seat_relay.specs.PlaceInside.{fields_in};
 
 use matchstate::{cut, read_number};
@@ -19,6 +19,20 @@ impl Place {
         ensures { result ≡ is_later other.now self.now }
     {
         other.hand < self.hand || (other.hand == self.hand && other.len < self.len)
+    }
+
+    /// Whether the first deal's line stands here.
+    pub(crate) fn is_first(&self) -> bool
+        ensures { result ≡ is_first self.now }
+    {
+        self.hand == 0 && self.len == 0
+    }
+
+    /// Whether this is the same place.
+    pub(crate) fn is_same(&self, other: &Place) -> bool
+        ensures { result ≡ is_same self.now other.now }
+    {
+        self.hand == other.hand && self.len == other.len
     }
 }
 

@@ -1,7 +1,7 @@
 //! The relay, with all that happened to it.
 
 ghost use Rattle.std.specs.Prelude.{◌≡◌, [], option_map, IfOk, OnOk, OnErr};
-ghost use Rattle.seat_relay.specs.Relaying.{with_place, link_at, is_even, echoes, is_news, with_event, after, Begins, Ends, Tells, Says, Pushes};
+ghost use Rattle.seat_relay.specs.Relaying.{with_place, link_at, is_even, echoes, is_taken, is_given, with_event, after, Begins, Ends, Tells, Closes, Says, Pushes};
 ghost use Rattle.seat_relay.specs.Laws.{fresh};
 
 use crate::events::{Events, Happening};
@@ -16,6 +16,7 @@ use std::marker::Model;
 #[derive(Drop)]
 pub struct Relay {
     nodes: usize,
+    newest: bool,
     machine: Machine,
     /// What happened, for clauses alone.
     events: Events,
@@ -33,22 +34,38 @@ impl Model for Relay {
 }
 
 impl Relay {
-    /// A relay for so many nodes, whose bot was given nothing yet.
-    pub fn new(alloc: Global, nodes: usize) -> Result<Relay, AllocError>
-        ensures { IfOk result (λ relay. relay ≡ record { nodes = nodes; standing = fresh nodes; events = [] }) }
+    /// A relay for so many nodes, whose bot was given nothing yet. The bot's lines may begin anywhere in the match where `newest`
+    /// says so, and else with the first deal.
+    pub fn new(alloc: Global, nodes: usize, newest: bool) -> Result<Relay, AllocError>
+        ensures { IfOk result (λ relay. relay ≡ record { nodes = nodes; newest = newest; standing = fresh newest nodes; events = [] }) }
     {
         Ok(Relay {
             nodes,
-            machine: Machine::new(alloc, nodes)?,
+            newest,
+            machine: Machine::new(alloc, nodes, newest)?,
             events: Events::new(),
         })
     }
 
     /// What it knows is what follows from what happened to it: so the laws of `laws` hold of it.
     pub fn follows_events(&self)
-        ensures { self.now.standing ≡ after (fresh self.now.nodes) self.now.events }
+        ensures { self.now.standing ≡ after (fresh self.now.newest self.now.nodes) self.now.events }
     {
         let _ = &self.nodes;
+    }
+
+    /// Whether the bot's lines may begin anywhere in the match.
+    pub fn is_newest(&self) -> bool
+        ensures { result ≡ self.now.standing.newest }
+    {
+        self.machine.is_newest()
+    }
+
+    /// Whether the match is over: a node said so that had told the line that the bot was given last.
+    pub fn is_over(&self) -> bool
+        ensures { result ≡ self.now.standing.over }
+    {
+        self.machine.is_over()
     }
 
     /// The line that the bot was given last: that from which a node is to tell.
@@ -81,15 +98,32 @@ impl Relay {
         self.events = self.events.and(&Happening::Ends { node });
     }
 
+    /// Whether a line at this place is taken over the connection of a node: any behind the first, and the first where the bot was
+    /// given one there or behind, or its lines may begin there. What isn't taken the bot isn't given: there may be a gap before it.
+    pub fn is_taken(&self, node: usize, place: &Place) -> bool
+        ensures { result ≡ is_taken self.now.standing.newest self.now.standing.last (link_at self.now.standing.links node) place.now }
+    {
+        self.machine.is_taken(node, place)
+    }
+
     /// A node tells a line. It says whether the bot is to be given it.
     pub fn tells(&mut self, node: usize, text: &[u8], place: Place) -> Result<bool, AllocError>
         ensures ok { OnOk result (self.new ≡ with_event self.old (Tells node (with_place text.now place))) }
-        ensures given { IfOk result (λ given. given ≡ is_news self.old.standing.last (with_place text.now place)) }
+        ensures given { IfOk result (λ given. given ≡ is_given self.old.standing node (with_place text.now place)) }
         ensures err { OnErr result (self.new ≡ self.old) }
     {
         let given = self.machine.tells(node, text, place)?;
         self.events = self.events.and(&Happening::Tells { node, text, place });
         Ok(given)
+    }
+
+    /// A node says that the match is over, behind all that it told: that counts where it has told the line that the bot was given
+    /// last.
+    pub fn closes(&mut self, node: usize)
+        ensures { self.new ≡ with_event self.old (Closes node) }
+    {
+        self.machine.closes(node);
+        self.events = self.events.and(&Happening::Closes { node });
     }
 
     /// The bot says something. It says whether that is an answer to the line that it was given last, which is kept; anything

@@ -5,7 +5,6 @@ use Rattle.betting.specs.Betting.{Betting, history}
 use Rattle.betting.specs.Text.{text}
 use Rattle.betting.specs.declared.action.Action.{Action}
 use Rattle.matchstate.specs.Line.{Fields}
-use Rattle.seat_relay.specs.Mending.{IsToAnswer}
 use Rattle.seat_relay.specs.PlaceInside.{fields_in}
 use Rattle.seat_relay.proofs.mending.play_to_answer.Goals as goal
 
