@@ -1,0 +1,16 @@
+mod Places
+mod Placed
+mod Told
+mod Gathering
+mod Parts
+mod Lines
+mod Bytes
+mod Courses
+mod Ending
+mod Closing
+mod Starts
+mod Bots
+mod Joining
+mod Histories
+mod Servers
+mod Examples

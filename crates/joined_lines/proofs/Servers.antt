@@ -1,0 +1,168 @@
+-- What comes over a connection to a server was told off tables of the match's nodes, and so each bot is given the lines of the one dealer.
+use Rattle.std.proofs.Common.{◌≡◌, ℕ, ◌<◌, List, [], ◌++◌, ◌∷◌, length, Option, Some, None, get_or, refl, sym, ap, ◌∙◌, subst, inl, inr, append_assoc}
+use Rattle.std.proofs.Math.Logic.{∥∥₁_map}
+use Rattle.std.specs.List.{AllByRecursion}
+use Rattle.promise_store.specs.declared.disk.Disk.{Ghosts}
+use Rattle.slot_log.specs.Hand.{Match}
+use Rattle.dealer_kind.specs.Plans.{Plan}
+use Rattle.node_rules.specs.Standings.{place_of}
+use Rattle.dealer_node.specs.Nodes.{Node}
+use Rattle.dealer_node.specs.Seeing.{begun_of}
+use Rattle.dealer_world.specs.RuleRuns.{plan_of}
+use Rattle.stations.specs.Deeds.{Deed}
+use Rattle.stations.specs.Stations.{Look, known_place, LeavesFile, DeathsAtRestAreDeeds, DeathsInsideAreDeeds}
+use Rattle.stations.specs.Tables.{WasLook, WasTable}
+use Rattle.stations.specs.Together.{HaveIncarnations}
+use Rattle.node_wires.specs.declared.line.Line.TheVariants.{Peer, Seat}
+use Rattle.node_wires.specs.Passages.{Passage, came_over, wrote_over}
+use Rattle.line_cursor.specs.declared.cursor.Cursor.{Cursor}
+use Rattle.line_cursor.specs.Cursors.{cursor_at, next_cursor}
+use Rattle.node_seats.specs.declared.bot.Bot.{Bot}
+use Rattle.node_seats.specs.declared.bot.Parting.TheVariants.{Over, Other}
+use Rattle.node_seats.specs.declared.bot.Telling.{Telling}
+use Rattle.node_seats.specs.Seating.{bot_at, waits_at}
+use Rattle.node_seats.specs.Telling.{TellsFrom, lines_of, text_for, text_told, parting_text}
+use Rattle.node_service.specs.Bots.{HadTable, IsToldBy, IsStarted, IsOverFor, IsParted, IsBotOf}
+use Rattle.node_service.specs.Served.{Served}
+use Rattle.joined_lines.specs.Coming.{IsOfTold, ComeOfTold, SeatRelay, IsToldSo, BotConnection, BringsTold, RelaysTellOneMatch}
+use Rattle.joined_lines.specs.Serving.{IsServerOf, IsOfServer, ComeOfServers, LeadsToServers, ComesOfServer, ServersTellOneMatch}
+use Rattle.joined_lines.proofs.Histories.{IsThere, all_nodes, all_did, has_history, there_at, are_processes}
+
+tells_such : (such other : Match → Type 0) → ((table : Match) → such table → other table) → (seat : ℕ) (at : Cursor) (lines : List (List ℕ)) (next : Cursor) → TellsFrom such seat at lines next → TellsFrom other seat at lines next
+tells_such such other change seat at [] next tells = tells
+tells_such such other change seat at (line ∷ lines) next (table, (is, (told, more))) =
+    (table, (change table is, (told, tells_such such other change seat (next_cursor table.game table.hands at) lines next more)))
+
+not_over : None ≡ Some Over → ⊥
+not_over e = cc
+
+not_nothing : (telling : Telling) → Some telling ≡ None → ⊥
+not_nothing telling e = cc
+
+-- nothing came
+none_told : (such : Match → Type 0) (seat : ℕ) (came : List ℕ) → came ≡ [] → IsOfTold such seat came
+none_told such seat came none =
+    record { start = cursor_at 0 0; next = cursor_at 0 0; lines = []; told = refl; parting = None; over = λ e. absurd (not_over e); lost = []; bytes = ap (λ (bytes : List ℕ). bytes ++ []) (sym none) }
+
+module _ {D : Type 0} (g : Ghosts D) where
+  -- ---- tables
+
+  -- a table that the node of a server had by some moment is one that a node of the match had
+  server_had : (plan : Plan) (histories : ℕ → List Deed) (node : ℕ) (look : Look (Node D)) (served : Served (Node D)) → node < length plan.sources → WasLook g (place_of plan node) (histories node) look
+      → IsServerOf g look served → (table : Match) → HadTable g served.look table → WasTable g plan histories table
+  server_had plan histories node look served is_node was server table had =
+      let then_is = had.then_is in
+      let place = place_of plan node in
+      let config : then_is.config ≡ look.config = had.config ∙ sym server.config in
+      let number : then_is.number ≡ look.number = had.number ∙ sym server.number in
+      let at : known_place then_is ≡ place =
+      ap (λ (config : Plan). place_of config then_is.number) config ∙ (ap (λ (number : ℕ). place_of look.config number) number ∙ was.at) in
+      let begun : begun_of g look.node ≡ begun_of g then_is.node = server.begun ∙ sym had.begun in
+      let deeds : look.deeds ≡ (server.since ++ had.since) ++ then_is.deeds =
+      server.deeds ∙ (ap (λ (ds : List Deed). server.since ++ ds) had.deeds ∙ sym (append_assoc server.since had.since then_is.deeds)) in
+      let newer : List Deed = server.since ++ had.since in
+      record {
+        node = node;
+        is_node = is_node;
+        look = then_is;
+        was = record {
+          at = at;
+          has = had.has;
+          before = was.before;
+          left = subst (λ (file : List ℕ). ∥ LeavesFile place file was.before ∥₁) begun was.left;
+          since = was.since ++ newer;
+          deeds_are = was.deeds_are
+              ∙ (ap (λ (ds : List Deed). was.since ++ (ds ++ was.before)) deeds
+              ∙ (ap (λ (ds : List Deed). was.since ++ ds) (append_assoc newer then_is.deeds was.before) ∙ sym (append_assoc was.since newer (then_is.deeds ++ was.before))));
+        };
+        table_is = had.table_is;
+      }
+
+  -- ---- bytes
+
+  -- what a bot was told, off such tables
+  bot_told : (such : Match → Type 0) (look : Look (Node D)) → ((table : Match) → HadTable g look table → such table) → (seat : ℕ) (bot : Bot) (telling : Option Telling) (came lost : List ℕ) → IsToldBy g look seat telling
+      → IsStarted g look seat bot.words telling → (bot.parting ≡ Some Over → IsOverFor g look seat bot.words telling) → (bot.parting ≡ Some Other → telling ≡ None)
+      → text_told telling ++ parting_text bot.parting ≡ came ++ lost → BringsTold such (record { seat = seat; came = came })
+  bot_told such look change seat bot None came lost told started over other bytes = record {
+    come = record { start = cursor_at 0 0; next = cursor_at 0 0; lines = []; told = refl; parting = bot.parting; over = λ e. absurd (over e); lost = lost; bytes = bytes };
+    begins = λ e. absurd (over e);
+    alone = λ e. refl;
+  }
+  bot_told such look change seat bot (Some telling) came lost told started over other bytes = record {
+    come = record {
+      start = telling.start;
+      next = telling.next;
+      lines = lines_of telling;
+      told = tells_such (HadTable g look) such change seat telling.start (lines_of telling) telling.next told;
+      parting = bot.parting;
+      over = λ e. let so = over e in (so.1.0, (change so.1.0 so.1.1.0, so.1.1.1));
+      lost = lost;
+      bytes = bytes;
+    };
+    begins = λ e. (bot.words.asked, (bot.words.named, (started.1.0, (change started.1.0 started.1.1.0, started.1.1.1))));
+    alone = λ e. absurd (not_nothing telling (other e));
+  }
+
+  server_told : (such : Match → Type 0) (look : Look (Node D)) (served : Served (Node D)) (seat : ℕ) (came lost : List ℕ) → ((table : Match) → HadTable g served.look table → such table) → IsServerOf g look served
+      → wrote_over served.passed (Seat seat) ≡ came ++ lost → BringsTold such (record { seat = seat; came = came })
+  server_told such look served seat came lost change server wrote =
+      let bot : Bot = bot_at served.bots seat in
+      let waits : List ℕ = waits_at served.bots seat in
+      let is : IsBotOf g served.look seat bot = server.bots seat in
+      let said = server.carries.said seat in
+      let bytes : text_for bot ≡ came ++ (lost ++ (waits ++ said.0)) =
+      said.1.0 ∙ (append_assoc (wrote_over served.passed (Seat seat)) waits said.0 ∙ (ap (λ (w : List ℕ). w ++ (waits ++ said.0)) wrote ∙ append_assoc came lost (waits ++ said.0))) in
+      bot_told such served.look change seat bot bot.telling came (lost ++ (waits ++ said.0)) is.told is.started (λ e. subst (IsParted g served.look seat bot) e is.parted)
+      (λ e. (subst (IsParted g served.look seat bot) e is.parted).0) bytes
+
+  -- ---- the law
+
+  of_server_told : (stations : List (Option (Look (Node D)))) (plan : Plan) (had : HaveIncarnations g plan stations) (histories : ℕ → List Deed) → length stations ≡ length plan.sources
+      → ((i : ℕ) (less : i < length stations) → IsThere g (place_of plan i) (get_or stations i None) (had i less) (histories i)) → (seat : ℕ) (came : List ℕ) → IsOfServer g plan stations had seat came
+      → BringsTold (WasTable g plan histories) (record { seat = seat; came = came })
+  of_server_told stations plan had histories count there seat came of =
+      let within : of.node < length plan.sources = subst (λ (n : ℕ). of.node < n) count of.is_node in
+      server_told (WasTable g plan histories) of.look of.served seat came of.lost
+      (server_had plan histories of.node of.look of.served within ((there of.node of.is_node).was of.look of.process) of.server) of.server of.bytes
+
+  servers_told : (stations : List (Option (Look (Node D)))) (plan : Plan) (had : HaveIncarnations g plan stations) (histories : ℕ → List Deed) → length stations ≡ length plan.sources
+      → ((i : ℕ) (less : i < length stations) → IsThere g (place_of plan i) (get_or stations i None) (had i less) (histories i)) → (seat : ℕ) (passed : List Passage) → ComeOfServers g plan stations had seat passed
+      → ComeOfTold (WasTable g plan histories) seat passed
+  servers_told stations plan had histories count there seat passed come node front behind whole =
+      elim (come node front behind whole) as (λ _. IsOfTold (WasTable g plan histories) seat (came_over front (Peer node))) [
+        | inl none ↦ none_told (WasTable g plan histories) seat (came_over front (Peer node)) none
+        | inr of ↦ (of_server_told stations plan had histories count there seat (came_over front (Peer node)) of).come
+      ]
+
+  relays_told : (stations : List (Option (Look (Node D)))) (plan : Plan) (had : HaveIncarnations g plan stations) (histories : ℕ → List Deed) → length stations ≡ length plan.sources
+      → ((i : ℕ) (less : i < length stations) → IsThere g (place_of plan i) (get_or stations i None) (had i less) (histories i)) → (relays : List SeatRelay) → AllByRecursion (LeadsToServers g plan stations had) relays
+      → AllByRecursion (IsToldSo (WasTable g plan histories)) relays
+  relays_told stations plan had histories count there [] lead = tt
+  relays_told stations plan had histories count there (relay ∷ relays) lead =
+      (record { course = lead.0.course; come = servers_told stations plan had histories count there relay.seat relay.passed lead.0.come }, relays_told stations plan had histories count there relays lead.1)
+
+  bots_told : (stations : List (Option (Look (Node D)))) (plan : Plan) (had : HaveIncarnations g plan stations) (histories : ℕ → List Deed) → length stations ≡ length plan.sources
+      → ((i : ℕ) (less : i < length stations) → IsThere g (place_of plan i) (get_or stations i None) (had i less) (histories i)) → (bots : List BotConnection) → AllByRecursion (ComesOfServer g plan stations had) bots
+      → AllByRecursion (BringsTold (WasTable g plan histories)) bots
+  bots_told stations plan had histories count there [] come = tt
+  bots_told stations plan had histories count there (bot ∷ bots) come =
+      (of_server_told stations plan had histories count there bot.seat bot.came come.0, bots_told stations plan had histories count there bots come.1)
+
+  pub servers_tell_one_match : DeathsAtRestAreDeeds g → DeathsInsideAreDeeds g → RelaysTellOneMatch g → ServersTellOneMatch g
+  servers_tell_one_match rests breaks law stations are setting sources is_plan count honest had =
+      let plan = plan_of setting sources in
+      ∥∥₁_map (all_nodes g stations rests breaks honest are plan had) (λ each.
+      let histories : ℕ → List Deed = all_did g stations plan had each in
+      let there = there_at g stations plan had each in
+      record {
+        histories = histories;
+        have = has_history g stations plan had each;
+        joined = λ all order.
+            let processes = are_processes g stations setting sources is_plan count had histories there all order in
+            record {
+              processes = processes;
+              lines = λ relays lead bots come.
+                  law setting sources histories all processes honest relays (relays_told stations plan had histories count there relays lead) bots (bots_told stations plan had histories count there bots come);
+            };
+      })

@@ -1,0 +1,5 @@
+pub mod Chosen
+pub mod Bringing
+pub mod Coming
+pub mod Processes
+pub mod Serving
