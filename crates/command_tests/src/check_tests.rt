@@ -1,7 +1,8 @@
 use crate::test_streams::{
-    Gives, L2, Reading, Run, Takes, Writing, ends, is_begun, is_written, reads_or_stops,
+    Gives, Reading, Run, Takes, Writing, ends, is_begun, is_written, reads_or_stops,
 };
 use operator_notes::Stop;
+use sample_games::L2;
 use std::alloc::{AllocError, Global};
 use std::io::{ErrorKind, Read, Write};
 use std::process::Abort;

@@ -1,9 +1,10 @@
 use crate::test_streams::{
-    Gives, L2, Listener, Reading, Run, Takes, Talker, Writing, ends, is_begun, is_same, is_written,
+    Gives, Listener, Reading, Run, Takes, Talker, Writing, ends, is_begun, is_same, is_written,
     reads_or_stops,
 };
 use game_def::GameDef;
 use operator_notes::Stop;
+use sample_games::L2;
 use std::alloc::{AllocError, Global};
 use std::cell::Cell;
 use std::io::{ErrorKind, Read, Write};

@@ -43,10 +43,11 @@ quorum: more than half of the nodes are connected
 quorum lost: bots are disconnected until it returns
 campaigns in ballot (5, 1)
 12 notes left out
+the match is over
 ";
 
 /// Notes of all kinds, in the order of their lines.
-fn notes<'a>(name: Name) -> [NodeNote<'a>; 21] {
+fn notes<'a>(name: Name) -> [NodeNote<'a>; 22] {
     [
         NodeNote::Begins {
             name,
@@ -104,6 +105,7 @@ fn notes<'a>(name: Name) -> [NodeNote<'a>; 21] {
         NodeNote::QuorumLost,
         NodeNote::Campaigns(Ballot { round: 5, node: 1 }),
         NodeNote::LeftOut(12),
+        NodeNote::Over,
     ]
 }
 

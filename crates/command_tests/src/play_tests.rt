@@ -1,10 +1,11 @@
 use crate::test_streams::{
-    Gives, L2, Listener, MATCH, Reading, Run, Takes, Talker, Writing, config, ends, holds,
-    is_begun, is_same, is_written, reads_or_stops,
+    Gives, Listener, MATCH, Reading, Run, Takes, Talker, Writing, config, ends, holds, is_begun,
+    is_same, is_written, reads_or_stops,
 };
 use dealer_kind::Config;
 use match_runs::{play_match, play_run};
 use operator_notes::Stop;
+use sample_games::L2;
 use std::alloc::{AllocError, Global};
 use std::cell::Cell;
 use std::io::{ErrorKind, Read, Write};

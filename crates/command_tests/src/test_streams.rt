@@ -1,9 +1,10 @@
 //! What the tests of all commands read from and write to: readers and writers that trickle, are interrupted,
-//! fail, or talk to each other; the game and the match that they play; and how a run ended.
+//! fail, or talk to each other; the match that they play; and how a run ended.
 
 use dealer_kind::Config;
 use match_file::MatchFile;
 use operator_notes::Stop;
+use sample_games::L2;
 use std::alloc::{AllocError, Global};
 use std::cell::Cell;
 use std::fmt::{Debug, Display};
@@ -11,21 +12,6 @@ use std::io::{Error, ErrorKind, Read, Result as IoResult, Write};
 use std::process::Abort;
 use std::test::Fail;
 use streamed::Ending;
-
-pub(crate) const L2: &[u8] = b"GAMEDEF
-limit
-numPlayers = 2
-numRounds = 4
-blind = 10 5
-raiseSize = 10 10 20 20
-firstPlayer = 2 1 1 1
-maxRaises = 3 4 4 4
-numSuits = 4
-numRanks = 13
-numHoleCards = 2
-numBoardCards = 0 3 1 1
-END GAMEDEF
-";
 
 /// A match of one hand, whose three nodes have a deal each.
 pub(crate) const MATCH: &[u8] = b"name = \"m1\"

@@ -4,25 +4,10 @@ use card_core::Deal;
 use dealer_kind::{Config, Source};
 use match_log::{Name, SeatNames};
 use matchstate::read_deal;
+use sample_games::L2;
 use std::alloc::{AllocError, Global};
 use std::fmt::Debug;
 use std::process::Abort;
-
-/// Two players, limit.
-const L2: &[u8] = b"GAMEDEF
-limit
-numPlayers = 2
-numRounds = 4
-blind = 10 5
-raiseSize = 10 10 20 20
-firstPlayer = 2 1 1 1
-maxRaises = 3 4 4 4
-numSuits = 4
-numRanks = 13
-numHoleCards = 2
-numBoardCards = 0 3 1 1
-END GAMEDEF
-";
 
 /// What the nodes of a match of one hand would deal, in the order of nodes.
 const DEALS: [&[u8]; 7] = [

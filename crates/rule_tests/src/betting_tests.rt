@@ -1,6 +1,7 @@
 use crate::asserting::{holds, same};
-use crate::samples::{N3, game};
+use crate::samples::game;
 use betting::{ActFault, Action, Play};
+use sample_games::N3;
 use std::process::Abort;
 
 /// Takes actions that are allowed.

@@ -1,6 +1,7 @@
 use crate::asserting::same;
-use crate::samples::{L2, L3, N2, N3, game};
+use crate::samples::game;
 use game_def::GameDef;
+use sample_games::{L2, L3, N2, N3};
 use std::process::Abort;
 
 /// Sees the seats' stacks and blinds.

@@ -1,8 +1,9 @@
 use crate::asserting::{holds, same};
-use crate::samples::{L2, game, ten_ace};
+use crate::samples::{game, ten_ace};
 use card_core::Deal;
 use dealer_kind::{Config, Source};
 use match_log::{Name, SeatNames};
+use sample_games::L2;
 use std::alloc::{AllocError, Global};
 use std::process::Abort;
 use std::test::Fail;

@@ -1,7 +1,7 @@
 ghost use Rattle.std.specs.Prelude.{◌≡◌, ◌<◌};
 
 use crate::asserting::{holds, same};
-use crate::samples::{L2, N2, card, game, ten_ace};
+use crate::samples::{card, game, ten_ace};
 use betting::Action;
 use game_def::GameDef;
 use matchstate::{
@@ -9,6 +9,7 @@ use matchstate::{
     read_answer, read_betting, read_current_answer, seat_line, seat_line_reserved, seat_view,
     write, write_reserved,
 };
+use sample_games::{L2, N2};
 use slot_log::{Command, Effect, Table};
 use std::alloc::{AllocError, Global};
 use std::process::Abort;

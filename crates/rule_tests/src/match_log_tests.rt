@@ -1,7 +1,7 @@
 ghost use Rattle.std.specs.Prelude.{◌≡◌, ◌≤◌, length};
 
 use crate::asserting::{holds, same};
-use crate::samples::{L2, L3, N2, N3, game};
+use crate::samples::game;
 use betting::{Action, Play};
 use card_core::Deal;
 use game_def::GameDef;
@@ -10,6 +10,7 @@ use match_log::{
     score_line, state_line,
 };
 use matchstate::{read_betting, read_deal};
+use sample_games::{L2, L3, N2, N3};
 use slot_log::{Command, Table};
 use std::alloc::{AllocError, Global};
 use std::process::Abort;

@@ -1,6 +1,7 @@
 use crate::asserting::same;
-use crate::samples::{L2, game, ten_ace};
+use crate::samples::{game, ten_ace};
 use betting::Action;
+use sample_games::L2;
 use seat_session::{Said, Session, SessionFault};
 use slot_log::{Command, Table};
 use std::alloc::{AllocError, Global};

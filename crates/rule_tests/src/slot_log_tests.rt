@@ -1,8 +1,9 @@
 use crate::asserting::{holds, same};
-use crate::samples::{L2, game, ten_ace};
+use crate::samples::{game, ten_ace};
 use betting::Action;
 use card_core::Deal;
 use matchstate::read_deal;
+use sample_games::L2;
 use slot_log::*;
 use std::alloc::{AllocError, Global};
 use std::process::Abort;

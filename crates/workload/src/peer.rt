@@ -7,23 +7,8 @@ use dealer_kind::{Config, Source};
 use dealer_node::{Node, NodeFault, Out};
 use match_log::{Name, SeatNames};
 use promise_store::MemoryDisk;
+use sample_games::L2;
 use std::alloc::{AllocError, Global};
-
-/// Two players, limit.
-const L2: &[u8] = b"GAMEDEF
-limit
-numPlayers = 2
-numRounds = 4
-blind = 10 5
-raiseSize = 10 10 20 20
-firstPlayer = 2 1 1 1
-maxRaises = 3 4 4 4
-numSuits = 4
-numRanks = 13
-numHoleCards = 2
-numBoardCards = 0 3 1 1
-END GAMEDEF
-";
 
 /// What a seat names the version by.
 pub const VERSION: &[u8] = b"VERSION:2.0.0\r\n";
