@@ -30,7 +30,7 @@ def faults():
 
 FAULTS = faults()
 # Which number a name has where it is told: of a seat, of another node, or of a store and its node.
-PLACES = {"seat": [(20, 26), (40, 44), (80, 85)], "node": [(120, 129)], "store": [(60, 64), (90, 96)]}
+PLACES = {"seat": [(20, 26), (40, 44), (80, 86)], "node": [(120, 129)], "store": [(60, 64), (90, 96)]}
 NUMBERS = {(where, name): number for where, ranges in PLACES.items() for number, name in FAULTS if any(low <= number <= high for low, high in ranges)}
 
 WANTED = [
@@ -46,6 +46,8 @@ WANTED = [
     *(f"died with {count} unsynced" for count in range(2)),
     *("deal", "act", "away", "command of no account", "begin", "begin again", "disk failed"),
     *(f"bot asks for {word}" for word in ("FIRST", "NEWEST", "a line")),
+    *("told #OVER", "told a status"),
+    *(f"all that {words}" for words in ("waits for a bot", "is read of a seat", "is read of a guest", "is read of a node")),
 ]
 
 NO_MEMORY = "no memory is refused but by --refused"
@@ -55,7 +57,6 @@ NO_STORE = "stores aren't replaced or damaged here"
 ACCIDENT = "it would be an accident"
 # What doesn't come, and why.
 NEVER = {
-    "order end": "all matches are over before",
     **{f"fault {number}": NO_FILE for number, _ in FAULTS if 10 <= number <= 19 or 45 <= number <= 49 or 100 <= number <= 110},
     **{f"fault {number}": ALONE for number, _ in FAULTS if number in (1, 2, 30, 31, 64, 70, 71, 90)},
     **{f"fault {number}": "the server drops a frame that is none, and tells nothing" for number, _ in FAULTS if 50 <= number <= 54 or number == 94},
@@ -70,19 +71,27 @@ NEVER = {
     "fault 124": "all nodes have one key, and strangers say no proof",
     "fault 125": "nothing changes what is on its way",
     "fault 129": "the logs of earlier starts aren't kept here",
+    "all that is read of a node": "no node sends so much before it is read",
     "ended StoreReplaced": NO_STORE,
     "ended LogFailed": "the log of a process that lives is always written",
+}
+# What comes so seldom that a long run may go without it, and why.
+SELDOM = {
+    "order end": "all processes end before, but one that is started once more behind the match's end",
+    "fault 23": "a bot raises by what is drawn, hardly ever by all that it has",
+    "all that waits for a bot": "a match has hardly so many hands; a script of tests/simulation.d has",
+    "command of no account": "fresh commands are proposed one by one; two leaders after each other would have to bring one",
 }
 
 
 def lacking(counts):
     """What was to come and didn't, and what came though it shouldn't; each as a line."""
     for word in WANTED:
-        if word not in counts and word not in NEVER:
+        if word not in counts and word not in NEVER and word not in SELDOM:
             yield f"never came: {word}"
     for word, why in NEVER.items():
         if word in counts:
             yield f"came, though {why}: {word}"
-    for word in NEVER:
+    for word in (*NEVER, *SELDOM):
         if word not in WANTED:
             yield f"there is no such thing: {word}"

@@ -1,13 +1,13 @@
 """The rules by which tests/simulation judges a trace, each with its name."""
+import bisect
+import re
+
 from simulation_trace import Dealt, Disk, KINDS, Records, Wrong, ballot_of, bytes_of, dealer, field, number, rows_of, split
 from simulation_trace import TOP
 from simulation_covered import NUMBERS, RECORDS, names_of
 
 # What a beat begins with, in hexadecimal, and how long it is; the place of the front in it.
 BEAT, BEAT_SIZE, FRONT = "0000001003", 40, slice(26, 34)
-
-# Whether the server knows from which line on a bot asks to be told. An older one passes it over.
-RESUMES = False
 
 # In calm the next command comes within so long, in microseconds, and four times the longest call before.
 PROGRESS = 5_000_000
@@ -18,6 +18,30 @@ START = 600_000_000
 # How long a seat that is given up is waited for, for so many turns.
 GIVEN_UP, SLOW_TURNS = 500_000, 20
 
+# A line to which a node hasn't come is awaited so long at least, and until its process has run for so long.
+SETTLED, REPLAYED = 2_000_000, 30_000_000
+
+# What a status line says (docs/NOTES.md).
+YES, BALLOT = "(yes|no)", r"(-|\d+\.\d+)"
+STATUS = re.compile(rf"node (\d) front (\d+) hand (-|\d+) over {YES} replaying {YES} promised {BALLOT} leads {YES} quorum {YES} peers (\S+) seats (\S+) pending {YES} backlog (\S+) commands (\d+)/s\n")
+
+# What waits, and what is read, in bytes. For a bot 64 KiB wait at most, and one line of 4,096 bytes with its end (docs/OPERATING-NODES.md,
+# `backlog`). In a turn a process reads of a bot one piece of 512, and of another node's connection 64 KiB (docs/DECISIONS.md). Of one
+# who hasn't shown the token it reads the line for that, 73 with its end (docs/FORMATS.md), and of one who asks for the status
+# nothing. Behind a line above 4,096 it reads nothing more of a bot (docs/FAULTS.md, 81 LineTooLong).
+LINE, PIECE, TOKEN_LINE = 4_096, 512, 73
+MOST_WAITING = 65_536 + LINE + 2
+MOST_READ = {"node": 65_536, "seat": PIECE, "guest": TOKEN_LINE, "status client": 0}
+
+# The most memory of a run, in bytes: that of the program with its trace, that of each process, and for each command what its node and its
+# disk keep. A process takes room for 128 commands before a call, 41 KB each, whose pages are there once the room was moved. Nothing grows
+# by how long the match takes, what is lost, or who comes. What a process alone takes is said in docs/OPERATING-NODES.md (What to watch).
+PROGRAM_TAKES, PROCESS_TAKES, COMMAND_TAKES = 4 << 20, 6 << 20, 3 << 9
+
+# Who is at the other end of a connection, by its place among the lines of a process (crates/node_wires/src/limits.rt): 7 that it dials and
+# 30 that dialled it, 10 seats, 16 guests, 8 status clients.
+KINDS_OF_PLACES = 37 * ["node"] + 10 * ["seat"] + 16 * ["guest"] + 8 * ["status client"]
+
 # Campaigns of one process in vain: behind so many the next waits so long at least (docs/NODES.md), whatever it is for: the
 # shortest wait, a fifth of a second, is doubled up to two seconds.
 SHORTEST, MOST_WAIT = 200_000, 2_000_000
@@ -25,19 +49,44 @@ SHORTEST, MOST_WAIT = 200_000, 2_000_000
 class Process:
     """A process of a node, while it runs."""
 
-    def __init__(self, image):
-        self.disk, self.log, self.is_failed = Disk(image), "", False
+    def __init__(self, image, moment):
+        self.disk, self.log, self.is_failed, self.began = Disk(image), "", False, moment
         self.spoken, self.joined = set(), set()
-        # Its campaigns since its front moved: the front, how many, and the moment of the last; and the beat that it told last.
-        self.front, self.ballots, self.last, self.beat = None, 0, 0, None
+        # Its campaigns since its front moved: the front, how many, and the moment of the last; and the moment of each ballot whose
+        # Prepare isn't said yet.
+        self.front, self.ballots, self.last, self.begun = None, 0, 0, {}
+        # The beat that it told last.
+        self.beat = None
+
+
+class Reading:
+    """What a process has read of one who came to it: who he is, how much of a guest, and how long the last line of a bot is so far."""
+
+    def __init__(self):
+        self.kind, self.shown, self.line, self.is_too_long = "node", 0, 0, False
+
+    def read(self, data):
+        """What is wrong with it that this is read; None where nothing is."""
+        if self.kind == "guest":
+            self.shown += len(data)
+            return f"{self.shown} bytes of a guest" if self.shown > TOKEN_LINE else None
+        if self.kind != "seat":
+            return None if self.kind == "node" else f"{len(data)} bytes of one who asks for the status"
+        if len(data) > PIECE or self.is_too_long:
+            return f"{len(data)} bytes behind a line of {self.line} of a bot"
+        *lines, rest = data.split(b"\n")
+        ends = [self.line + len(lines[0]), *map(len, lines[1:])] if lines else []
+        self.line = len(rest) if lines else self.line + len(rest)
+        self.is_too_long = max([self.line, *ends]) > LINE
+        return None
 
 
 class Connection:
     def __init__(self, dialler, listener, seat=None):
         self.dialler, self.listener, self.seat = dialler, listener, seat
         self.records, self.told, self.said, self.at = {}, b"", b"", 0
-        # From which line on its bot asked to be told, if it did; and the place of the last line that it was told.
-        self.asked, self.place = None, None
+        # From which line on its bot asked to be told, if it did, and when; and the place of the last line that it was told.
+        self.asked, self.asked_at, self.place = None, 0, None
 
     def other(self, who):
         return self.listener if str(self.dialler) == who else int(self.dialler)
@@ -52,8 +101,8 @@ class Connection:
 class Checker:
     """Goes through a trace, event by event: a row has its moment, who it is of, its word, and what is behind that."""
 
-    def __init__(self, script, text, may_refuse=False):
-        self.script, self.may_refuse = script, may_refuse
+    def __init__(self, script, text, peak=None, may_refuse=False):
+        self.script, self.peak, self.may_refuse = script, peak, may_refuse
         words = script[0].split(" ")
         self.count, self.hands, self.has_key = int(words[1]), int(words[2]), words[5] == "key"
         self.patience = None if words[4] == "-" else int(words[4])
@@ -73,6 +122,8 @@ class Checker:
         self.defaults = {}
         # Which seats have come, and when a node first had a quorum: nobody is played for before all came, or the start is over.
         self.came, self.quorum = set(), None
+        # What was read of who came, by the numbers of connections.
+        self.readings = {}
         self.start = int(words[9]) if len(words) > 9 and words[9] != "-" else START
 
     def count_one(self, word):
@@ -121,7 +172,7 @@ class Checker:
         if node in self.images and image != self.images[node]:
             raise Wrong("image", moment, f"node {node} begins on another image than its disk kept")
         try:
-            process = Process(image)
+            process = Process(image, moment)
         except (ValueError, IndexError, KeyError) as why:
             raise Wrong("store", moment, f"node {node} begins on no store: {why}")
         self.processes[node] = process
@@ -188,7 +239,8 @@ class Checker:
         elif promised > before:
             self.count_one("stored promise")
             if promised[1] == node:
-                self.campaign(begun, node, process)
+                process.begun[promised] = begun
+                self.count_one("due campaign")
             else:
                 process.ballots = 0
         for ballot, slot, command in found:
@@ -253,6 +305,22 @@ class Checker:
         at = int(row[3])
         return self.connections[at] if at < len(self.connections) else None
 
+    def on_take(self, row):
+        self.readings.setdefault(int(row[3]), Reading()).kind = KINDS_OF_PLACES[int(row[4])]
+
+    def on_read(self, row):
+        wrong = self.readings.setdefault(int(row[3]), Reading()).read(bytes_of(row[4]))
+        if wrong is not None:
+            raise Wrong("queue", row[0], f"node {row[1]} reads {wrong}")
+
+    def on_most(self, row):
+        """What a process read over one connection in one turn is bounded."""
+        for (kind, most), count in zip(MOST_READ.items(), map(int, row[3:])):
+            if count > most:
+                raise Wrong("queue", row[0], f"node {row[1]} read {count} bytes of a {kind} in a turn")
+            if count == most > 0:
+                self.count_one(f"all that is read of a {kind}")
+
     def is_whole(self, row):
         """Whether what is written is between two nodes, and begins with a record."""
         connection = self.connection(row)
@@ -264,9 +332,11 @@ class Checker:
             connection.said += data
             *lines, connection.said = connection.said.split(b"\n")
             for line in lines:
-                self.hear(connection, line.rstrip(b"\r").decode("latin-1"))
+                self.hear(row[0], connection, line.rstrip(b"\r").decode("latin-1"))
             return
         if connection is None:
+            if data.startswith(b"node "):
+                self.status(row[0], int(who), data.decode("latin-1"))
             return
         if connection.seat is None:
             for kind, body in connection.records_of(who).read(data):
@@ -277,6 +347,38 @@ class Checker:
         for line in lines:
             line = line.decode("latin-1")
             (self.word if line.startswith("#") else self.line)(row, connection, line)
+
+    def status(self, moment, node, line):
+        """A status line says what the node's store, the list and the match make it say."""
+        self.count_one("told a status")
+        found = STATUS.fullmatch(line)
+        if found is None:
+            raise Wrong("status", moment, f"node {node} tells as its status {line!r}")
+        number, front, hand, over, _, promised, leads, quorum, peers, seats, _, backlog, commands = found.groups()
+        front, ballot = int(front), self.processes[node].disk.store.promised
+        others = [word.split(":") for word in peers.split(",")]
+        heard = [int(words[1]) for words in others if words[1] != "gone"]
+        waiting = [int(count) for count in backlog.split(",")]
+        dealt, finished = self.dealt.hands[min(front, self.front)]
+        wrong = {
+            "node": int(number) != node,
+            "front": front > self.front,
+            "hand": hand != (str(dealt - 1) if dealt else "-"),
+            "over": over != ("yes" if finished == self.hands else "no"),
+            "promised": promised != ("-" if ballot == (0, 0) else "{}.{}".format(*ballot)),
+            "leads": leads == "yes" and ballot[1] != node,
+            "quorum": quorum == "yes" and 2 * (len(heard) + 1) <= self.count,
+            "peers": [int(words[0]) for words in others] != [other for other in range(self.count) if other != node] or max(heard, default=0) > self.front,
+            "seats": [word.split(":")[0] for word in seats.split(",")] != self.names,
+            "backlog": len(waiting) != len(self.names),
+            "commands": int(commands) > front,
+        }
+        if max(waiting) >= MOST_WAITING - LINE - 2:
+            self.count_one("all that waits for a bot")
+        if max(waiting) > MOST_WAITING:
+            raise Wrong("queue", moment, f"node {node} has {max(waiting)} bytes that wait for a bot")
+        if True in wrong.values():
+            raise Wrong("status", moment, f"node {node}, {[word for word, is_wrong in wrong.items() if is_wrong]}: {line!r}; {self.front} commands, promised {ballot}")
 
     def record(self, row, connection, kind, body):
         moment, node = row[0], int(row[1])
@@ -299,10 +401,10 @@ class Checker:
         if len(told) != self.count or any(life not in (bytes(16), bytes([place + 1]) * 16) for place, life in enumerate(told)):
             raise Wrong("lives", moment, f"node {node} tells lives that no store has: {body.hex()}")
 
-    def hear(self, connection, line):
+    def hear(self, moment, connection, line):
         seat, words = connection.seat, line.split(":")
         if line.startswith("#RESUME "):
-            connection.asked = line[len("#RESUME ") :]
+            connection.asked, connection.asked_at = line[len("#RESUME ") :], moment
             self.count_one("bot asks for " + ("a line" if connection.asked.startswith("MATCHSTATE") else connection.asked))
         if words[0] == "MATCHSTATE" and len(words) == 6 and words[5]:
             index = sum(letter in "fcr" for letter in words[3])
@@ -317,8 +419,7 @@ class Checker:
             raise Wrong("one-list", row[0], f"node {row[1]} tells seat {connection.seat} {line!r}, which is no line of the list behind {connection.at} of {self.front}")
         connection.at = later[0]
         self.told += 1
-        if RESUMES:
-            self.no_gap(row, connection, line)
+        self.no_gap(row, connection, line)
 
     def no_gap(self, row, connection, line):
         """The first line of a connection is the one that was asked for, and each other one is the seat's next."""
@@ -337,13 +438,23 @@ class Checker:
     def word(self, row, connection, word):
         """A word of a node to a bot that said from which line on it asks. The match is over once all lines were told."""
         self.count_one("told " + word)
-        if connection.asked is None or not RESUMES or word not in ("#OVER", "#OTHER"):
+        if connection.asked is None or word not in ("#OVER", "#OTHER"):
             raise Wrong("word", row[0], f"node {row[1]} tells seat {connection.seat} {word!r}, which didn't ask for it")
         if word == "#OVER" and not (self.dealt.is_over() and connection.place == len(self.dealt.order[connection.seat]) - 1):
             raise Wrong("word", row[0], f"node {row[1]} tells seat {connection.seat} that the match is over behind line {connection.place}")
         if word == "#OTHER":
-            # A bot names a line that it was told.
-            raise Wrong("word", row[0], f"node {row[1]} tells seat {connection.seat} that its line is none, which asked for {connection.asked}")
+            # A bot names a line that it was told. Only a node that is behind that line may take it for another match's. It waits for
+            # two seconds first, and until it can't be replaying the match any more.
+            places = self.dealt.lines[connection.seat].get(connection.asked)
+            front = self.front_of(self.processes[int(row[1])])
+            waited, ran = row[0] - connection.asked_at, row[0] - self.processes[int(row[1])].began
+            if places is None or places[0] <= front or waited < SETTLED or ran < REPLAYED:
+                raise Wrong("word", row[0], f"node {row[1]}, behind {front} commands, tells seat {connection.seat} after {waited} that its line is none: {connection.asked}")
+
+    def front_of(self, process):
+        """How many commands a process has applied at least: by the last ballot for which it campaigned, its last beat, and its log."""
+        beat = int(process.beat[FRONT], 16) if process.beat else 0
+        return max(process.front or 0, beat, bisect.bisect_left(self.dealt.ends, len(process.log)))
 
     def on_log(self, row):
         node = int(row[1])
@@ -366,6 +477,8 @@ class Checker:
         process, part = self.processes[node], body[6:]
         if kind == "Ask":
             self.count_one("due ask")
+        elif kind == "Prepare" and ballot_of(part) in process.begun:
+            self.campaign(moment, node, process, ballot_of(part), number(part[5:9]))
         elif kind == "Forward" and part[0] == 3:
             self.handed_on.add(part)
         elif kind == "Promise":
@@ -393,17 +506,22 @@ class Checker:
             if self.chosen.get(slot) != part[4:]:
                 raise Wrong("chosen", moment, f"node {node} says that a command was chosen at {slot} that wasn't")
 
-    def campaign(self, moment, node, process):
-        """A process campaigns anew. While its front stands, it votes in none of its ballots and promised itself to nobody else, the waits
-        between its campaigns are doubled."""
-        front = self.front, process.beat and process.beat[FRONT]
+    def campaign(self, moment, node, process, ballot, front):
+        """A process campaigns, and says from which slot on: its front. While that stands, it votes in none of its ballots and promised
+        itself to nobody else, the waits between its campaigns are doubled. It begins no ballot before it has said the one before."""
+        begun = process.begun.pop(ballot)
+        if any(later > ballot for later in process.begun):
+            raise Wrong("twice", moment, f"node {node} says that it began {ballot} behind the next one: {sorted(process.begun)}")
+        if begun < process.last:
+            return
         if front != process.front:
             process.ballots = 0
-        self.count_one("due campaign again" if process.ballots else "due campaign")
+        if process.ballots:
+            self.count_one("due campaign again")
         least = min(SHORTEST << process.ballots, MOST_WAIT) - self.longest if process.ballots > 1 else 0
-        if moment - process.last < least:
-            raise Wrong("ballots", moment, f"node {node} campaigns {moment - process.last} after its last one, behind {process.ballots} in vain")
-        process.front, process.last = front, moment
+        if begun - process.last < least:
+            raise Wrong("ballots", moment, f"node {node} campaigns {begun - process.last} after its last one, behind {process.ballots} in vain")
+        process.front, process.last = front, begun
         process.ballots += 1
 
     def on_note(self, row):
@@ -413,6 +531,8 @@ class Checker:
         if word in ("Refused", "Callers", "Faulty"):
             fault = names_of(field(row, "fault"))
             self.count_faults("seat" if word == "Faulty" else "node", fault)
+        elif word == "OtherLine":
+            self.count_faults("seat", [word])
         elif word == "Setting":
             self.count_one("setting " + field(row, "what"))
         if word == "Ordered":
@@ -429,8 +549,14 @@ class Checker:
 
     # What is so at the end.
 
+    def most_memory(self):
+        """How much memory the run may have taken."""
+        return PROGRAM_TAKES + self.count * (PROCESS_TAKES + COMMAND_TAKES * self.front)
+
     def at_end(self):
         end = self.end
+        if self.peak is not None and self.peak > self.most_memory():
+            raise Wrong("memory", end, f"the run took {self.peak >> 10} KiB, of {self.most_memory() >> 10} at most: {self.count} processes, {self.front} commands")
         if len(self.over) < self.count:
             raise Wrong("progress", end, f"the match isn't over at {sorted(set(range(self.count)) - self.over)}: {self.front} commands, hand {self.dealt.table.finished} of {self.hands}")
         orders = [(int(words[0]), words[1], list(map(int, words[2:]))) for words in (line.split(" ") for line in self.script[1:])]

@@ -1,4 +1,5 @@
 """Scripts of tests/simulation, drawn from a seed. Lines: the match, and then MOMENT WORD NUMBERS, in microseconds."""
+import itertools
 import random
 
 GAMES = {
@@ -9,9 +10,9 @@ NAMES = ["alice", "bob", "carol"]
 SECOND = 1_000_000
 # How a bot is: it asks for all lines, or for the newest.
 ALL, NEWEST = 4, 8
-# What a stranger sends in place of so many bytes: that he asks for what is behind a line that there isn't, a line that is too long,
-# an empty record, a token that no seat has.
-OTHER, LONG, RECORD, TOKEN = 9_996, 9_997, 9_998, 9_999
+# What a stranger sends in place of so many bytes: that he asks for all lines, or for what is behind a line that there isn't, a line that
+# is too long, an empty record, a token that no seat has. He reads nothing.
+LINES, OTHER, LONG, RECORD, TOKEN = 9_995, 9_996, 9_997, 9_998, 9_999
 
 
 class Drawing:
@@ -59,19 +60,17 @@ def drawn(seed, is_calm=False):
     storm = 0 if is_calm else pick.choice([0, 1, 3, 10, 30])
     calm = 0
     if storm:
-        # Without patience, or with much of it, who takes a seat that isn't his holds the table.
-        seats = range(players) if tokens == "tokens" or patience != "-" and patience < SECOND / 2 else []
-        calm = trouble(it, count, players, storm, seats, patience != "-")
+        calm = trouble(it, count, players, storm, patience != "-")
     last = max(moment for moment, words in it.lines if words.startswith("bot "))
     it.at(max(calm, last) + 300 * SECOND + hands * SECOND, "end")
     it.lines.sort(key=lambda line: line[0])
     return [first, *(f"{moment} {words}" for moment, words in it.lines)]
 
 
-def trouble(it, count, players, storm, seats, may_be_gone=False):
+def trouble(it, count, players, storm, may_be_gone=False):
     """So many faults, one after another, and then calm, from the moment that is answered on."""
     pick = it.random
-    kinds = pick.sample(["kill", "halt", "cut", "way", "close", "sync", "pause", "fail", "leave", "delay", "stranger", "silent", "all", "torn", "busy", "deaf", "mute", "wrong", "gone", "half", "hush"], pick.randrange(1, 6))
+    kinds = pick.sample(["kill", "halt", "cut", "way", "close", "sync", "pause", "fail", "leave", "delay", "stranger", "silent", "all", "torn", "busy", "deaf", "mute", "wrong", "gone", "half", "hush", "slow", "lonely"], pick.randrange(1, 6))
     if pick.random() < 0.02:
         kinds.append("far")
     gap = it.log_range(3_000, 2 * SECOND)
@@ -124,7 +123,24 @@ def trouble(it, count, players, storm, seats, may_be_gone=False):
             it.at(now, "delay", node, other, slow)
             it.at(now, "delay", other, node, slow if pick.random() < 0.7 else 100)
         elif kind == "stranger":
-            it.at(now, "stranger", node, pick.choice([254, 254, 255, *seats]), pick.choice([0, 10, 60, 500, OTHER, LONG, RECORD]), pick.randrange(256))
+            it.at(now, "stranger", node, pick.choice([254, 254, 255, *range(players)]), pick.choice([0, 10, 60, 500, LINES, OTHER, LONG, RECORD]), pick.randrange(256))
+        elif kind == "slow":
+            # All ways are slow for a while.
+            for one, two in itertools.permutations(range(count), 2):
+                it.at(now, "delay", one, two, it.log_range(100_000, 600_000))
+                it.at(now + lasts, "delay", one, two, it.log_range(50, 20_000))
+        elif kind == "lonely":
+            # So many die that just more than half are left, and those don't hear the node, which hears them: its ballots come to nothing.
+            if not down:
+                dead = pick.sample([one for one in range(count) if one != node], count // 2)
+                for one in range(count):
+                    if one in dead:
+                        it.at(now, "kill", one, pick.randrange(3**6))
+                        it.at(now + lasts, "start", one)
+                        down[one] = now + lasts
+                    elif one != node:
+                        it.at(now, "cut", node, one)
+                        it.at(now + lasts, "heal", node, one)
         elif kind == "far":
             # A node is away for more than a minute, and the match stands meanwhile.
             if not until and node not in down:
@@ -146,7 +162,7 @@ def trouble(it, count, players, storm, seats, may_be_gone=False):
                     it.at(now + lasts, "think", seat, 1_000)
         elif kind == "wrong":
             # Somebody shows a token that isn't the seat's, or says nothing that a seat takes.
-            it.at(now, "stranger", node, pick.choice([*seats, 255]), TOKEN, pick.randrange(1 << 20))
+            it.at(now, "stranger", node, pick.choice([*range(players), 255]), TOKEN, pick.randrange(1 << 20))
         elif kind == "gone":
             it.at(now, "leave", pick.randrange(players), lasts * (10 if may_be_gone else 1))
         elif kind == "torn":
@@ -168,7 +184,9 @@ def trouble(it, count, players, storm, seats, may_be_gone=False):
             seat = pick.randrange(players)
             it.at(now, "think", seat, lasts)
             it.at(now + lasts, "think", seat, 1_000)
-    calm = max(now + 6 * SECOND, until)
+    # A process may begin by two syncs that began slowly; where the others have ended meanwhile, all have to be started again.
+    slowest = max((int(words.split(" ")[2]) for _, words in it.lines if words.startswith("sync ")), default=0)
+    calm = max(now + 6 * SECOND, now + 3 * slowest, until)
     for node in range(count):
         it.at(calm, "sync", node, it.log_range(10, 900))
         it.at(calm, "fail", node, (1 << 64) - 1)

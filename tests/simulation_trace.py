@@ -199,6 +199,8 @@ class Dealt:
         self.names, self.lines, self.count = names, [{} for _ in names], 0
         self.log, self.ends = header + "\n", [len(header) + 1]
         self.acts, self.last = [], [None for _ in names]
+        # After each beginning of the list: how many hands were dealt, and how many are finished.
+        self.hands = [(0, 0)]
         # The place of each line among those of its seat.
         self.order = [{} for _ in names]
 
@@ -213,6 +215,7 @@ class Dealt:
             if table.hand.over:
                 self.log += "".join(line + "\n" for line in table.log(self.names))
         self.ends.append(len(self.log))
+        self.hands.append((0 if table.hand is None else table.hand.number + 1, table.finished))
         if table.hand is not None:
             for seat in range(len(self.names)):
                 line = table.line(seat)

@@ -12,7 +12,7 @@ use peer_codes::{Key, Life, MatchDigest};
 use stations::Station;
 use std::alloc::{AllocError, Global};
 use std::net::{IpAddr, Ipv4Addr};
-use test_kit::{Clock, SimDisk, SimWire};
+use test_kit::{Clock, MostRead, SimDisk, SimWire};
 use traffic::NODES;
 
 /// A peer counts as absent at first after so long.
@@ -163,7 +163,7 @@ impl<'a> Place<'a> {
             .wrapping_mul(16)
             .wrapping_add(self.number as u64);
         let mut wire = SimWire::new(alloc, self.clock, seed)?;
-        wire.ends.set_next(next);
+        wire.ends.begin_turn(next);
         let settings = plan.settings(self.number);
         let peers = self.peers(alloc, plan, settings)?;
         let seats = Seats::new(alloc, players, plan.tokens(alloc, players)?)?;
@@ -226,6 +226,14 @@ impl<'a> Place<'a> {
         }
     }
 
+    /// What its process read in one turn at most.
+    pub(crate) fn most_read(&self) -> Option<MostRead> {
+        match &self.server {
+            Some(server) => Some(server.wire().ends.most_read()),
+            None => None,
+        }
+    }
+
     /// What its process has to tell next, and when. A life that was seen for the first time is kept.
     pub(crate) fn notice(&mut self) -> Option<(u64, ServerNotice)> {
         if self.clock.is_dead() {
@@ -255,7 +263,7 @@ impl<'a> Place<'a> {
             self.next = u64::MAX;
             return Outcome::GoesOn;
         };
-        server.wire_mut().ends.set_next(next);
+        server.wire_mut().ends.begin_turn(next);
         let (outcome, rest) = server.turn(alloc, most);
         self.leave(rest);
         outcome

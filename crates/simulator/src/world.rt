@@ -5,7 +5,7 @@ use crate::plan::Plan;
 use crate::telling::{put_calls, put_line, put_line_with};
 use node_service::{Outcome, ServerNotice};
 use std::alloc::{AllocError, Global};
-use test_kit::{Act, Clock, Port, ROOM, What};
+use test_kit::{Act, Clock, MostRead, Port, ROOM, What};
 use traffic::{Bot, Flight, Habits, Load, NODES, Order, Party, Ways, Wish, Word, drawn};
 
 /// A process that ended by a fault begins again after so long.
@@ -21,6 +21,14 @@ const TOKEN: u64 = 9_999;
 const OTHER: u64 = 9_996;
 
 const OTHER_LINE: &[u8] = b"#RESUME MATCHSTATE:0:0:zz:AhAs|\r\nVERSION:2.0.0\r\n";
+
+/// The count of bytes in place of which he asks for all lines as a bot does.
+const ALL: u64 = 9_995;
+
+const ALL_LINES: &[u8] = b"#RESUME FIRST\r\nVERSION:2.0.0\r\n";
+
+/// So many bytes may be written to a stranger.
+const SMALL_ROOM: usize = 4_096;
 
 /// The count of bytes in place of which he sends a line that is too long.
 const LONG: u64 = 9_997;
@@ -198,7 +206,7 @@ impl<'p, 'c> World<'p, 'c> {
             Word::Halt => self.kill(order.byte(0) as usize, second, false),
             Word::End => {
                 self.is_done = true;
-                Ok(())
+                self.tell_all_read()
             }
             Word::Delay | Word::Cut | Word::Heal => {
                 self.change_way(&order);
@@ -272,6 +280,7 @@ impl<'p, 'c> World<'p, 'c> {
     /// The process of a node dies: its disk keeps what the number picks, and the others are told or not.
     fn kill(&mut self, node: usize, pick: u64, is_told: bool) -> Result<(), AllocError> {
         let (alloc, now) = (self.alloc, self.now);
+        self.tell_read(node, now)?;
         let orders = &self.orders[self.at.min(self.orders.len())..];
         let Some(place) = self.places.get_mut(node) else {
             return Ok(());
@@ -472,17 +481,55 @@ impl<'p, 'c> World<'p, 'c> {
         Ok(())
     }
 
+    /// When a process ended by its last turn; none where it goes on, or died.
+    fn end_of_turn(&self, node: usize, outcome: Outcome) -> Option<u64> {
+        let place = self.places.get(node)?;
+        if outcome == Outcome::GoesOn || place.clock.is_dead() {
+            return None;
+        }
+        Some(place.clock.now())
+    }
+
+    /// Tells how much the process of a node read over one connection in one turn at most, if it has one.
+    fn tell_read(&mut self, node: usize, moment: u64) -> Result<(), AllocError> {
+        let alloc = self.alloc;
+        let Some(place) = self.places.get(node) else {
+            return Ok(());
+        };
+        let Some(most) = place.most_read() else {
+            return Ok(());
+        };
+        let party = Party::Node(place.number);
+        let MostRead {
+            nodes,
+            seats,
+            guests,
+            askers,
+        } = most;
+        let line = format!(in alloc; "most {nodes} {seats} {guests} {askers}")?;
+        self.tell(moment, party, line.as_str())
+    }
+
+    /// The same of all nodes.
+    fn tell_all_read(&mut self) -> Result<(), AllocError> {
+        let now = self.now;
+        for node in 0..self.places.len() {
+            self.tell_read(node, now)?;
+        }
+        Ok(())
+    }
+
     /// Tells how a process ended, if it did.
     fn tell_end(&mut self, node: usize, outcome: Outcome) -> Result<(), AllocError> {
         let alloc = self.alloc;
+        let Some(moment) = self.end_of_turn(node, outcome) else {
+            return Ok(());
+        };
+        self.tell_read(node, moment)?;
         let Some(place) = self.places.get_mut(node) else {
             return Ok(());
         };
-        if outcome == Outcome::GoesOn || place.clock.is_dead() {
-            return Ok(());
-        }
         let party = Party::Node(place.number);
-        let moment = place.clock.now();
         place.is_over = outcome == Outcome::Over;
         place.die(alloc, None)?;
         place.clock.set_left(u64::MAX);
@@ -510,8 +557,8 @@ impl<'p, 'c> World<'p, 'c> {
         };
         match connection.receiver(is_back) {
             Party::Node(node) => {
-                let address = address_of(connection.sender(is_back));
-                self.arrive_at_node(node as usize, (number, is_back), address, load)
+                let sender = connection.sender(is_back);
+                self.arrive_at_node(node as usize, (number, is_back), sender, load)
             }
             Party::Bot(bot) => self.arrive_at_bot(bot, number, load),
             Party::Stranger(_) => Ok(()),
@@ -523,11 +570,12 @@ impl<'p, 'c> World<'p, 'c> {
         &mut self,
         node: usize,
         by: (u32, bool),
-        address: u16,
+        sender: Party,
         load: Load,
     ) -> Result<(), AllocError> {
         let now = self.now;
         let (number, is_back) = by;
+        let address = address_of(sender);
         let Some(place) = self.places.get_mut(node) else {
             return Ok(());
         };
@@ -542,7 +590,7 @@ impl<'p, 'c> World<'p, 'c> {
         let ends = &mut server.wire_mut().ends;
         match load {
             Load::Dial { seat } => {
-                ends.come(port_of(seat), number, address)?;
+                ends.come(port_of(seat), number, address, room_of(sender))?;
                 place.wake(now);
                 self.ways.send(number, !is_back, now, Load::Answer)
             }
@@ -678,8 +726,9 @@ impl<'p, 'c> World<'p, 'c> {
 
     /// Somebody comes to a port of a node and sends something: NODE PORT COUNT SEED STAYS. The port is a seat's number, 254 for
     /// that of peers, 255 for the status. He sends so many bytes that look drawn, or with a COUNT of 9999 a token that no seat
-    /// has, with 9998 an empty record of a kind, with 9997 a line that is too long, and with 9996 he asks for the lines behind
-    /// one that there isn't. He goes after so long, or where nothing is said after three seconds.
+    /// has, with 9998 an empty record of a kind, with 9997 a line that is too long, with 9996 he asks for the lines behind
+    /// one that there isn't, and with 9995 for all lines. He reads nothing. He goes after so long, or where nothing is said
+    /// after three seconds.
     fn come(&mut self, order: &Order) -> Result<(), AllocError> {
         let (alloc, now) = (self.alloc, self.now);
         let who = Party::Stranger(order.byte(3) % 4);
@@ -692,6 +741,7 @@ impl<'p, 'c> World<'p, 'c> {
         let bytes = match order.number(2) {
             TOKEN => Vec::from_slice(alloc, WRONG_TOKEN)?,
             OTHER => Vec::from_slice(alloc, OTHER_LINE)?,
+            ALL => Vec::from_slice(alloc, ALL_LINES)?,
             LONG => Vec::from_slice(alloc, &[b'x'; 5_000])?,
             RECORD => Vec::from_slice(alloc, &[0, 0, 0, 1, order.byte(3) % 8])?,
             count => noise(alloc, count.min(2_000), order.number(3))?,
@@ -744,6 +794,14 @@ fn address_of(who: Party) -> u16 {
         Party::Node(node) => node as u16,
         Party::Bot(bot) => bot.min(200) as u16 + 512,
         Party::Stranger(stranger) => stranger as u16 + 256,
+    }
+}
+
+/// How many bytes may be written to one who dialled before he has read some. A stranger never reads.
+fn room_of(who: Party) -> usize {
+    match who {
+        Party::Node(_) | Party::Bot(_) => ROOM,
+        Party::Stranger(_) => SMALL_ROOM,
     }
 }
 

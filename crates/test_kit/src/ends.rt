@@ -4,6 +4,7 @@ ghost use Rattle.std.specs.Prelude.{◌≡◌, ◌≤◌, length, IfOk};
 
 use crate::act::{Act, What};
 use crate::clock::Clock;
+use crate::most_read::MostRead;
 use crate::pipe::Pipe;
 use node_wires::limits::{
     ASKERS, CALLERS, GUESTS, KEPT, LINES, NODES, OTHERS, SEATS, STANDS, STRANGERS,
@@ -40,6 +41,9 @@ pub struct Ends<'a> {
     acts: Vec<Act>,
     /// The number of the next connection that the process begins.
     next: u32,
+    /// How many turns began, and what was read in one at most.
+    turns: u64,
+    most_read: MostRead,
     /// How many came so far.
     turn: u64,
     drawn: u64,
@@ -90,6 +94,8 @@ impl<'a> Ends<'a> {
             comers: Vec::new(alloc),
             acts: Vec::new(alloc),
             next: 0,
+            turns: 0,
+            most_read: MostRead::none(),
             turn: 0,
             drawn: 0,
             seed,
@@ -103,9 +109,15 @@ impl<'a> Ends<'a> {
         self.clock.now()
     }
 
-    /// The next connection that the process begins has this number.
-    pub fn set_next(&mut self, next: u32) {
+    /// A turn begins. The next connection that the process begins has this number.
+    pub fn begin_turn(&mut self, next: u32) {
         self.next = next;
+        self.turns = self.turns.saturating_add(1);
+    }
+
+    /// The most bytes that were read over one connection in one turn.
+    pub fn most_read(&self) -> MostRead {
+        self.most_read
     }
 
     /// What was done since this was last asked; an error where memory was refused for some of it.
@@ -158,9 +170,15 @@ impl<'a> Ends<'a> {
         None
     }
 
-    /// Somebody from this address came to a port.
-    pub fn come(&mut self, port: Port, connection: u32, address: u16) -> Result<(), AllocError> {
-        let mut pipe = Pipe::new(self.alloc, connection, address, ROOM);
+    /// Somebody from this address came to a port. So many bytes may be written to him before he has read some.
+    pub fn come(
+        &mut self,
+        port: Port,
+        connection: u32,
+        address: u16,
+        room: usize,
+    ) -> Result<(), AllocError> {
+        let mut pipe = Pipe::new(self.alloc, connection, address, room);
         self.turn = self.turn.saturating_add(1);
         pipe.turn = Some(self.turn);
         self.comers.push(Comer { port, pipe })?;
@@ -420,7 +438,7 @@ impl<'a> Ends<'a> {
         self.accept_at(Port::Status, NODES + CALLERS + SEATS + GUESTS, ASKERS)
     }
 
-    /// Gives the connection of a guest to a seat's line.
+    /// Gives the connection of a guest to a seat's line. What was read of him before isn't read of the seat.
     pub fn seat_guest(&mut self, guest: u8, seat: u8) -> bool {
         let (Some(from), Some(to)) = (place_of(Line::Guest(guest)), place_of(Line::Seat(seat)))
         else {
@@ -438,6 +456,7 @@ impl<'a> Ends<'a> {
         }
         self.pipes.swap(from, to);
         self.pipes[to].turn = None;
+        self.pipes[to].read = 0;
         self.note(What::Taken {
             connection,
             place: to,
@@ -464,11 +483,14 @@ impl<'a> Ends<'a> {
         let Some(place) = place_of(line) else {
             return Err(Halt::Ended);
         };
+        let turn = self.turns;
         let Some(pipe) = self.pipes.get_mut(place) else {
             return Err(Halt::Ended);
         };
         let connection = pipe.connection;
         let count = pipe.read(piece)?;
+        let read = pipe.count_read(turn, count);
+        self.most_read.note(line, read);
         let _ = self.clock.spend(1);
         if let (Some(connection), Some(bytes)) = (connection, self.copy(&piece[..count])) {
             self.note(What::Read { connection, bytes });

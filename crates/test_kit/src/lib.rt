@@ -10,6 +10,7 @@
 mod act;
 mod clock;
 mod ends;
+mod most_read;
 mod pipe;
 mod sim_disk;
 mod sim_wire;
@@ -17,5 +18,6 @@ mod sim_wire;
 pub use act::{Act, What};
 pub use clock::Clock;
 pub use ends::{Ends, Port, ROOM};
+pub use most_read::MostRead;
 pub use sim_disk::{DiskCall, SimDisk};
 pub use sim_wire::SimWire;

@@ -25,6 +25,9 @@ pub(crate) struct Pipe {
     pub(crate) came: ByteQueue,
     /// How many bytes may be written; none before a dial is answered.
     pub(crate) room: usize,
+    /// The turn in which it was last read, by its number, and how many bytes were read in it.
+    read_in: u64,
+    pub(crate) read: usize,
 }
 
 impl Pipe {
@@ -39,6 +42,8 @@ impl Pipe {
             is_gone: false,
             came: ByteQueue::new(alloc),
             room: 0,
+            read_in: 0,
+            read: 0,
         }
     }
 
@@ -75,6 +80,16 @@ impl Pipe {
         piece[..count].copy_from_slice(&waiting[..count]);
         self.came.skip(count);
         Ok(count)
+    }
+
+    /// Counts so many bytes that are read in a turn, by its number, and answers how many were read in it so far.
+    pub(crate) fn count_read(&mut self, turn: u64, count: usize) -> usize {
+        if self.read_in != turn {
+            self.read_in = turn;
+            self.read = 0;
+        }
+        self.read = self.read.saturating_add(count);
+        self.read
     }
 
     /// How many of so many bytes there is room for.
