@@ -1,8 +1,8 @@
 """Which mutants of a crate can be tried in one check, and what that check says of each.
 
 A function's proof rests on its own body and on the contracts of the functions that it calls. So a wrong body shows in
-its own function: the check names its open goals. But where a function isn't proved, the check says of those that call it
-only so. Hence no two mutants of a group are in one function or in functions of which one calls the other.
+its own function: the check names its open goals. Hence no two mutants of a group are in one function. Of a function that
+calls one that isn't proved a check may say only so, or that its proof names what is gone; then it is tried without that one.
 """
 import collections
 import re
@@ -11,7 +11,7 @@ from pathlib import PurePosixPath
 import repository
 
 # How many mutants are tried in one check at most. If the check dies, nothing is known of any.
-MOST = 12
+MOST = 18
 FUNCTION = re.compile(r"^( *)(?:pub(?:\([\w ]+\))? )?(?:const |unsafe )*fn (\w+)")
 IMPL = re.compile(r"^( *)(?:impl(?:<.*?>)? (?:(?:\w+::)*(\w+)(?:<.*>)? for )?|(?:pub )?trait )&?(?:\w+::)*(\w+)")
 # A line of a check: what it says of a function, what it says of a place in a file, and what isn't proved of a function's code.
@@ -34,6 +34,12 @@ class Function:
 
     def key(self):
         return self.path, self.owner, self.name
+
+    def asked_for(self):
+        """The end of its name, by which a check takes it alone. It may fit other functions too: the check then says so."""
+        trait, type_name = self.owner
+        of = [type_name + (trait or "")] if type_name else [PurePosixPath(self.path).stem]
+        return "::".join([*(it for it in of if it not in ("lib", "main")), self.name])
 
     def has(self, at):
         """Whether a line is of its body."""
@@ -154,8 +160,12 @@ class Mutant:
         self.below = {key for name in self.names for key in calls.below.get(name, ())}
 
     def is_apart(self, other):
-        """Whether neither changes a function of the other, or one that functions of the other call."""
-        return bool(self.names and other.names) and not (self.names & (other.names | other.below) or self.below & other.names)
+        """Whether they change different functions."""
+        return bool(self.names and other.names) and not self.names & other.names
+
+    def rests_on(self, other):
+        """Whether a function that it changes calls one that the other changes, by others maybe."""
+        return bool(self.below & other.names)
 
 
 def groups(mutants, most=MOST):
@@ -240,7 +250,9 @@ def come_to(group, said, status):
         return {}
     found = refusals(said, [function for mutant in group for function in mutant.functions])
     of_each = {mutant: [goal for it in mutant.functions for goal in found.get(it, [])] for mutant in group if any(it in found for it in mutant.functions)}
-    return {mutant: worded(what) for mutant, what in of_each.items()}
+    # Where no goal of its own is named, it may be for what it calls.
+    own = lambda mutant, what: set(what) - {ITS_PROOF} or not any(mutant.rests_on(other) for other in group)
+    return {mutant: worded(what) for mutant, what in of_each.items() if own(mutant, what)}
 
 
 def alone(mutant, said, status):
