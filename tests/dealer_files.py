@@ -170,8 +170,8 @@ def children_end_with_the_tool(number):
         os.kill(int(child), signal.SIGSTOP)
     run.process.send_signal(number)
     want(run.process.wait(WAIT) in (1, -number), f"status {run.process.returncode}")
-    time.sleep(0.5)
-    want(len(started) == 2 and are_ended(started), f"children: {started}")
+    want(len(started) == 2, f"children: {started}")
+    waited(lambda: are_ended(started), f"the end of {started}")
 
 
 @test

@@ -7,6 +7,7 @@ import signal
 import socket
 import subprocess
 import sys
+import threading
 import time
 from pathlib import Path
 
@@ -14,7 +15,7 @@ sys.dont_write_bytecode = True
 
 from dealer_files import bots_in_c, stopped_in_hand
 from dealer_runs import (
-    IS_LONG, MEMORY, NODES, NOLIMIT_2P, TOP, WAIT, Run, are_killed, calls, children, compiled, game_of, here, memory_of, rows, slow, test,
+    IS_LONG, MEMORY, NODES, NOLIMIT_2P, TOP, WAIT, Run, are_killed, at_turn, calls, children, compiled, game_of, here, memory_of, rows, slow, test,
 )
 from serving import Wrong, want, waited
 
@@ -38,6 +39,16 @@ def node_processes(run):
         if words[1:2] == [b"node"]:
             found[int(words[3])] = int(process)
     return found
+
+
+def relays_of(run):
+    """The processes of a run's relays, by seat."""
+    found = {}
+    for process, _ in children(run.process.pid):
+        words = Path(f"/proc/{process}/cmdline").read_bytes().split(b"\0")
+        if words[1:2] == [b"relay"]:
+            found[words[words.index(b"--token-file") + 1]] = int(process)
+    return [found[name] for name in sorted(found)]
 
 
 def kill(process):
@@ -298,8 +309,8 @@ def nodes_and_relays_end_with_the_tool(number):
         os.kill(int(child), signal.SIGSTOP)
     run.process.send_signal(number)
     want(run.process.wait(WAIT) in (1, -number), f"status {run.process.returncode}")
-    time.sleep(1)
-    want(len(started) == 5 and are_killed(started), f"children: {started}")
+    want(len(started) == 5, f"children: {started}")
+    waited(lambda: are_killed(started), f"the end of {started}")
 
 
 @test
@@ -311,6 +322,26 @@ def a_match_with_nodes_ends_with_a_relay():
     relay = next(process for process, _ in children(run.process.pid) if process not in nodes)
     os.kill(int(relay), signal.SIGKILL)
     run.fails(r"the relay of seat [12] was ended by SIGKILL: .*")
+
+
+@test
+def a_relay_that_is_late_at_the_end_is_waited_for():
+    """Bob acts last. Alice's relay hangs as he does, for three seconds, while his ends with the match; so does hers then."""
+    run = Run(*NODES, *here(), hands=1)
+    run.ports
+    relay = relays_of(run)[0]
+
+    def last(line):
+        os.kill(relay, signal.SIGSTOP)
+        threading.Timer(3, os.kill, (relay, signal.SIGCONT)).start()
+        return "c"
+
+    # (who calls has four turns in a hand; in the first hand alice is first behind the flop)
+    run.play(calls(run.game), at_turn(run.game, 3, last))
+    begun = time.monotonic()
+    run.ends(0)
+    want(time.monotonic() - begun >= 3, "the match is over before alice was told its end")
+    run.is_right()
 
 
 @test

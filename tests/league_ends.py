@@ -151,7 +151,8 @@ def a_match_that_another_one_plays():
     want(match.wait(WAIT) == 0, "the match failed")
     said = run.communicate(timeout=WAIT)[1]
     want(run.returncode == 0 and len(league.logs()) == 2, f"the run ended with {run.returncode}: {said}")
-    want(all(league.result(name)["restarts"] == [0, 0] for name in league.logs()), "a bot was started again")
+    notes = {name: (league.kept / "matches" / name / "notes").read_text()[-600:] for name in league.logs()}
+    want(all(league.result(name)["restarts"] == [0, 0] for name in league.logs()), f"a bot was started again: {notes}")
 
 
 @test

@@ -78,12 +78,12 @@ def a_bot_that_cannot_be_started_costs_little_time():
 @test
 def responses_that_take_too_long():
     """A bot that answers nothing is started again once, then it has default actions; it is killed, since it asks not to end."""
-    league = League({"calls": command("calls"), "silent": command("silent")}, hands=2, restarts=1, t_response=1500)
+    league = League({"calls": command("calls"), "silent": command("silent")}, hands=2, restarts=1, t_response=3000)
     league.does("match", "1")
     result = league.result("calls.silent.1.0")
     want(result["restarts"] == [0, 1] and result["defaults"][1] >= 2 and result["defaults"][0] == 0, f"it is {result}")
     notes = (league.kept / "matches/calls.silent.1.0/notes").read_text()
-    want("silent: out of time: no response came within 1.500 s: started again (1 of 1)" in notes, f"the notes are {notes}")
+    want("silent: out of time: no response came within 3.000 s: started again (1 of 1)" in notes, f"the notes are {notes}")
 
 
 @test

@@ -8,7 +8,7 @@ import subprocess
 import threading
 import time
 
-from serving import NAMES, TOP, loaded, patience, want, waited
+from serving import NAMES, TOP, in_time, loaded, patience, reached, want, waited
 
 from processes_match import PACE, Bot, Match, at_random, test
 from table import Game, turn_of
@@ -53,7 +53,8 @@ class League(Match):
             words = status.answer_at(f"{self.address(node)}:{self.statuses[node]}").split()
         except OSError:
             return {}
-        want(words[::2] == status.COLUMNS, f"node {node} tells {words}")
+        # (one that ends meanwhile says nothing)
+        want(words[::2] == status.COLUMNS or not words, f"node {node} tells {words}")
         return dict(zip(words[::2], words[1::2]))
 
     def await_told(self, node, word, *parts):
@@ -106,12 +107,13 @@ def another_key(seed, is_long):
     match.ends()
 
 
-def came(port, words, seconds):
-    """Comes to a seat's port and says this; what it got within so long, and when the connection ended, if it did."""
-    got, begun = b"", time.monotonic()
-    with socket.create_connection(("127.0.0.1", port), timeout=1) as bot:
+def came(port, words, seconds, most=1 << 20):
+    """Comes to a seat's port and says this; what it got within so long, or until it got so many bytes, and when the connection
+    ended, if it did."""
+    with reached(("127.0.0.1", port)) as bot:
+        got, begun = b"", time.monotonic()
         bot.sendall(words)
-        while time.monotonic() - begun < seconds:
+        while time.monotonic() - begun < seconds and len(got) < most:
             bot.settimeout(max(0.001, seconds - (time.monotonic() - begun)))
             try:
                 piece = bot.recv(4096)
@@ -134,7 +136,7 @@ def told_times(notes, text):
 @test()
 def wrong_tokens(seed, is_long):
     """Who shows no token, a wrong one or another seat's gets no line; who shows the right one takes the seat over."""
-    match = League(pace=PACE / 2, hands=240).begin()
+    match = League(pace=PACE / 2, hands=60).begin()
     match.goes_on(20)
     match.may_act.clear()
     time.sleep(0.2)
@@ -146,7 +148,7 @@ def wrong_tokens(seed, is_long):
     want(got == b"" and ended is not None and ended >= 1.5, f"who says nothing more gets {got[:80]!r}, and it ends after {ended}")
     waited(lambda: told_times(match.notes(0), "seat 0 (alice) at node 0: wrong token") == 7, "a count of all who were refused", match.last_notes)
     for end in (b"\n", b"\r\n"):
-        got, _ = came(match.seats[0], b"#TOKEN " + right + end + version, 1)
+        got, _ = came(match.seats[0], b"#TOKEN " + right + end + version, patience(), most=len(b"MATCHSTATE:"))
         want(got.startswith(b"MATCHSTATE:"), f"with the right token and {end!r} comes {got[:80]!r}: {match.last_notes()}")
     match.may_act.set()
     match.goes_on(20)
@@ -156,25 +158,27 @@ def wrong_tokens(seed, is_long):
 @test()
 def hung_bot(seed, is_long):
     """A bot that hangs is played for, and another that takes its time isn't; then one that is nowhere is."""
-    match = League(hands=6, wait=1)
+    match = League(hands=6, wait=3)
     game, has_hung = Game(match.game), []
+    orders = lambda who: [note for node in range(3) for note in match.notes(node) if who in note and "default action ordered" in note]
 
     def choice(seat, line):
         if turn_of(game, line) is None:
             return None
         if seat == 1 and not has_hung:
             has_hung.append(line)
-            time.sleep(4)
+            # (a node that has no quorum for a moment, on a busy machine, begins its patience anew)
+            while len(orders("(bob)")) < 2 and not match.has_ended.is_set():
+                time.sleep(0.05)
         elif len(match.seen) % 10 == 3:
             time.sleep(0.5)
         return "c"
 
     match.begin(choice=choice)
-    waited(lambda: any("(bob)" in note and "default action ordered" in note for node in range(3) for note in match.notes(node)), "an order", match.last_notes)
+    waited(lambda: len(orders("(bob)")) >= 2, "two orders", match.last_notes)
     match.goes_on(5)
     match.ends()
-    orders = [note for node in range(3) for note in match.notes(node) if "default action ordered" in note]
-    want(not [note for note in orders if "(alice)" in note], f"who only takes his time is played for: {orders}")
+    want(not orders("(alice)"), f"who only takes his time is played for: {orders('')}")
     log = match.log(0).splitlines()[-1]
     time.sleep(2.5)
     want(match.log(0).splitlines()[-1] == log, "the log grows behind its end")
@@ -199,13 +203,14 @@ def told_statuses(seed, is_long):
     for node in range(3):
         told = match.await_told(node, "quorum", "yes")
         want((told["node"], told["over"]) == (str(node), "no") and len(told["seats"].split(",")) == 2, f"node {node} tells {told}")
-    ran = tool()
-    want(ran.returncode == 0 and len(ran.stdout.splitlines()) == 4, f"tools/status says {ran.returncode} {ran.stdout!r} {ran.stderr!r}")
+    # (on a busy machine a node may take longer than the tool waits)
+    ran = waited(lambda: (lambda ran: ran if ran.returncode == 0 else None)(tool()), "all rows of tools/status", match.last_notes)
+    want(len(ran.stdout.splitlines()) == 4, f"tools/status says {ran.stdout!r} {ran.stderr!r}")
     match.kill(2)
     match.await_told(0, "peers", "2:gone")
     fronts = []
     for _ in range(2):
-        fronts.append(int(match.asked(0)["front"]))
+        fronts.append(int(match.await_told(0, "node", "0")["front"]))
         match.goes_on(5)
     want(fronts[0] < fronts[1], f"the front stays: {fronts}")
     ran = tool()
@@ -213,8 +218,8 @@ def told_statuses(seed, is_long):
     match.start(2)
     match.await_told(2, "quorum", "yes")
     match.ways.silent = {(0, 2), (2, 0), (1, 2), (2, 1)}
-    match.await_told(2, "peers", "0:gone", "1:gone")
-    want(match.asked(2)["quorum"] == "no", "a node that is cut off tells that it has a quorum")
+    told = match.await_told(2, "peers", "0:gone", "1:gone")
+    want(told["quorum"] == "no", "a node that is cut off tells that it has a quorum")
     match.goes_on(5)
     match.ways.silent = set()
     match.await_told(2, "quorum", "yes")
@@ -243,6 +248,7 @@ def table_of_statuses(seed, is_long):
             asked.start()
             found = status.row(1, f"127.0.0.1:{server.getsockname()[1]}")
             asked.join()
+        in_time(found != "not reached", "a line that was said at once isn't heard within a second")
         want(found == said, f"of {text!r} the row is {found}")
     want(status.row(1, "127.0.0.1:99999") == "not reached", "a port that there isn't")
     helped = subprocess.run([TOP / "tools/status", "--help"], capture_output=True, text=True, timeout=patience())

@@ -12,9 +12,9 @@ COMMANDS, LONG_COMMANDS, PATIENCE = 2000, 30_000, 1
 LEARNT, LONG_LEARNT = 2, 20
 
 
-def orders(match):
-    """How many notes tell that a seat was played for."""
-    return sum("default action ordered" in note for node in range(match.count) for note in match.notes(node))
+def orders(match, node):
+    """How many notes of a node tell that a seat was played for."""
+    return sum("default action ordered" in note for note in match.notes(node))
 
 
 def killed_after(commands):
@@ -31,18 +31,25 @@ def killed_after(commands):
 
 def learned(match, length, most, seats, think):
     """Starts all, with bots at these seats that think for so long; how long it took until each log was as long as this, in
-    seconds. Then all are killed again."""
-    match.pace, ordered = think, orders(match)
+    seconds. Then all are killed again. No node orders anything before its log is."""
+    match.pace, ordered = think, [orders(match, node) for node in range(match.count)]
     files = [match.home(node) / f"logs/node{node}.log" for node in range(match.count)]
     for file in files:
         file.unlink()
+
+    def are_whole():
+        now = [orders(match, node) for node in range(match.count)]
+        whole = [file.exists() and file.stat().st_size >= length for file in files]
+        early = [node for node in range(match.count) if now[node] != ordered[node] and not whole[node]]
+        want(not early, f"nodes {early} played for a seat before they knew the match: {match.last_notes()}")
+        return match.is_alive() and all(whole)
+
     started = time.monotonic()
     match.start(*range(match.count))
     match.let_bots_come(seats)
-    waited(lambda: match.is_alive() and all(file.exists() and file.stat().st_size >= length for file in files), "logs", match.last_notes)
+    waited(are_whole, "logs", match.last_notes)
     took = time.monotonic() - started
-    want(took <= most, f"it took {took:.2f} s to learn the match again")
-    want(orders(match) == ordered, f"a seat was played for: {match.last_notes()}")
+    match.in_time(took <= most, f"it took {took:.2f} s to learn the match again")
     match.kill(*range(match.count))
     match.send_bots_away()
     return took

@@ -1,4 +1,5 @@
 """A match of tests/processes: its files, its processes and its bots."""
+import contextlib
 import random
 import shutil
 import signal
@@ -13,7 +14,7 @@ from pathlib import Path
 sys.dont_write_bytecode = True
 sys.path.insert(0, str(Path(__file__).resolve().parent))
 
-from serving import FAST, NAMES, TOP, Wrong, is_free, loaded, patience, want, waited
+from serving import FAST, NAMES, TOP, Wrong, in_time, is_free, loaded, patience, reached, size_of, want, waited
 
 from player import batches, dial, send
 from processes_ways import Hosts, Ways
@@ -22,12 +23,14 @@ from table import Game, turn_of
 raiser = loaded("examples/bots/raiser")
 serve = loaded("tests/serve")
 
-# How long it may take until a match goes on after something happened, and until its processes have ended, in seconds.
-GOES_ON, ENDS = 20, 40
+# How long it may take until a match goes on after something happened, in seconds.
+GOES_ON = 20
 # How long a bot thinks where a test needs time to do something to its match, in seconds.
 PACE = 0.02
 # How long a bot waits until a process is reached, and then for the line that follows what it said, in seconds.
 PATIENT = 2.0
+# How much longer than they run nodes wait for a processor where the machine is too busy to measure their speed.
+STARVED = 3
 # Below those that a system gives to connections; tests that run side by side have a part of these each.
 PORTS = [10000, 32000]
 TESTS = {}
@@ -134,7 +137,7 @@ class Match:
         rules = Game(self.game)
         # What bots choose, by their seat and a line; they call if nothing else is said.
         self.players, self.choice = rules.players, lambda seat, line: "c" if turn_of(rules, line) else None
-        self.processes, self.bots, self.others, self.has_ended = [None] * count, [], [], threading.Event()
+        self.processes, self.bots, self.others, self.has_ended, self.windows = [None] * count, [], [], threading.Event(), []
         # Bots think for so long, and act while they may; in the last hand only when all else was done.
         self.pace, self.may_act, self.may_end = pace, threading.Event(), threading.Event()
         # The commands that lines told, when each was told first, the last hand among them, and at how many the bots stop.
@@ -289,6 +292,27 @@ class Match:
             if len(self.seen) == self.stop_at:
                 self.may_act.clear()
 
+    def calmly(self, is_so, text):
+        """What has to be so where nothing is lost. A node without a quorum, which a busy machine takes from it, disconnects its
+        bots: then the test is tried again."""
+        lost = any("quorum lost" in note for node in range(self.count) for note in self.notes(node))
+        (self.in_time if lost else want)(is_so, text)
+
+    @contextlib.contextmanager
+    def measured(self):
+        """While something is measured: whether the nodes had a processor when they wanted one is looked at."""
+        begun = self.processor_times()
+        yield
+        self.windows.append([end - begin for begin, end in zip(begun, self.processor_times())])
+
+    def processor_times(self):
+        """How long the processes that are there now have run on a processor, and how long they have waited for one, in seconds."""
+        return processor_times([process for process in self.processes if process and process.poll() is None])
+
+    def in_time(self, is_so, text):
+        """What has to be so on a machine that isn't busy: the test is tried again where it isn't."""
+        in_time(is_so, text, any(waited > STARVED * ran for ran, waited in [self.processor_times(), *self.windows]))
+
     def is_alive(self):
         """No process has ended that the test didn't kill."""
         ended = [node for node, process in enumerate(self.processes) if process and process.poll() not in (None, -signal.SIGKILL)]
@@ -296,29 +320,40 @@ class Match:
         return True
 
     def goes_on(self, more=5):
-        """Waits until so many more commands were seen."""
-        count, until = len(self.seen) + more, time.monotonic() + min(GOES_ON, patience())
-        while len(self.seen) < count and self.is_alive():
+        """Waits until so many more commands were seen, for each of them so long."""
+        seen, goal = len(self.seen), len(self.seen) + more
+        until = time.monotonic() + min(GOES_ON, patience())
+        while len(self.seen) < goal and self.is_alive():
+            if len(self.seen) > seen:
+                seen, until = len(self.seen), time.monotonic() + min(GOES_ON, patience())
             want(time.monotonic() < until, f"the match doesn't go on: {self.last_notes()}")
             time.sleep(0.001)
 
     def stands(self, seconds):
-        """No command comes for so long."""
+        """No command comes for so long, once each bot has read what it had been told before."""
+        sittings = [len(bot.sittings) for bot in self.bots]
+        has_read = lambda: all(len(bot.sittings) > before for bot, before in zip(self.bots, sittings))
+        waited(has_read, "each bot to dial anew", self.last_notes)
         count, until = len(self.seen), time.monotonic() + seconds
         while time.monotonic() < until:
             time.sleep(0.01)
         want(len(self.seen) == count, f"{len(self.seen) - count} commands came where none can be chosen")
 
+    def await_start(self, node, before=0):
+        """Waits until a process of a node has its store and goes on, where its notes so far told of so many starts."""
+        waited(lambda: self.starts(node) > before, f"the start of node {node}", self.last_notes)
+
+    def starts(self, node):
+        """How many processes of a node have come so far, by its notes."""
+        return sum(": started, first unchosen slot" in note for note in self.notes(node))
+
     def ends(self, *nodes):
-        """The processes of these nodes, or of all, end with status 0, and printed nothing."""
+        """The processes of these nodes, or of all, end with status 0, and printed nothing. While hands are played they may go on."""
         self.pace = 0.0
         self.may_end.set()
         nodes = nodes or range(self.count)
         has_ended = lambda: all(self.processes[node].poll() is not None for node in nodes)
-        until = time.monotonic() + min(ENDS, patience())
-        while not has_ended():
-            want(time.monotonic() < until, f"processes don't end: {self.last_notes()}")
-            time.sleep(0.005)
+        waited(has_ended, f"the end of the processes of nodes {list(nodes)}", self.last_notes, seen=self.played)
         self.has_ended.set()
         want(all(self.processes[node].returncode == 0 for node in nodes), f"statuses aren't 0: {self.last_notes()}")
         printed = [node for node in nodes if (self.home(node) / "printed").read_bytes()]
@@ -328,10 +363,19 @@ class Match:
     def log(self, node):
         return (self.home(node) / f"logs/node{node}.log").read_text()
 
+    def played(self):
+        """How far the match is: how many commands were seen, and how long all logs are."""
+        return len(self.seen), [size_of(self.home(node) / f"logs/node{node}.log") for node in range(self.count)]
+
     def await_hands(self, node, hands):
         """Waits until a node has logged so many hands."""
-        file = self.home(node) / f"logs/node{node}.log"
-        waited(lambda: file.exists() and file.read_text().count("\n") > hands, f"{hands} hands of node {node}", self.last_notes)
+        def logged():
+            try:
+                return self.log(node).count("\n")
+            except FileNotFoundError:
+                return 0
+
+        waited(lambda: logged() > hands, f"{hands} hands of node {node}", self.last_notes, seen=logged)
 
     def is_right(self, *nodes):
         """The logs of these nodes are one, `check` accepts it, and what was kept and told before is of it."""
@@ -372,11 +416,21 @@ def at_random(match, seed):
     return lambda seat, line: raiser.choice(game, seed * 10 + seat, line)
 
 
+def processor_times(processes):
+    """How long processes have run on a processor, and how long they have waited for one, in seconds, by Linux's /proc."""
+    times = [0, 0]
+    for process in processes:
+        for file in Path(f"/proc/{process.pid}/task").glob("*/schedstat"):
+            with contextlib.suppress(OSError):
+                times = [sum(pair) for pair in zip(times, map(int, file.read_text().split()))]
+    return [it / 1e9 for it in times]
+
+
 def meanwhile(match, seconds):
-    """For so long something is wrong, and the match goes on."""
-    count = len(match.seen)
-    time.sleep(seconds)
-    want(len(match.seen) >= count + 3, f"the match doesn't go on meanwhile: {match.last_notes()}")
+    """For so long something is wrong, and on a busy machine for longer: until the match has gone on meanwhile."""
+    until = time.monotonic() + seconds
+    match.goes_on(3)
+    time.sleep(max(0.0, until - time.monotonic()))
 
 
 def refused(match, node, status, last):
@@ -387,14 +441,15 @@ def refused(match, node, status, last):
     want(ran.stdout == "", f"standard output has {ran.stdout!r}")
 
 
-def said(port, *pieces):
-    """Says this at a port, and goes away a moment later; what it got."""
+def said(port, *pieces, seconds=0.05):
+    """Says this at a port, and goes away as soon as something came, or so much later; what it got."""
     got = b""
     try:
-        with socket.create_connection(("127.0.0.1", port), timeout=1) as stranger:
+        with reached(("127.0.0.1", port)) as stranger:
             for piece in pieces:
+                stranger.settimeout(1)
                 stranger.sendall(piece)
-            stranger.settimeout(0.05)
+            stranger.settimeout(seconds)
             got = stranger.recv(1 << 16)
     except OSError:
         pass

@@ -11,7 +11,7 @@ import threading
 import time
 from pathlib import Path
 
-from serving import FAST, want, waited
+from serving import FAST, patience, reached, want, waited
 
 from processes_keys import League
 from processes_match import PACE, Match, meanwhile, random_bytes, said, test
@@ -40,6 +40,16 @@ SAID = {
 }
 
 
+def is_told(match, node, note, words):
+    """Says this at a node's port; whether a note tells it soon."""
+    said(match.ports[node], words)
+    until, has_note = time.monotonic() + 2, False
+    while not has_note and time.monotonic() < until:
+        has_note = any(note in line for line in match.notes(node))
+        time.sleep(0.01)
+    return has_note
+
+
 @test()
 def strangers(seed, is_long):
     """Ten million random bytes at each port, half records, and what isn't the speaker's to say."""
@@ -60,8 +70,8 @@ def strangers(seed, is_long):
         for node in range(3):
             match.await_note(node, f"inbound connection refused: {note}")
     for node in (0, 1):
-        said(match.ports[node], hello(match, 2, node))
-        match.await_note(node, "128 AlreadyHere")
+        # (on a busy machine node 2 may be gone for a moment, and its Hello is taken)
+        waited(lambda: is_told(match, node, "128 AlreadyHere", hello(match, 2, node)), f"128 at node {node}", match.last_notes)
     match.goes_on(20)
     match.ends()
 
@@ -77,7 +87,7 @@ def half_records(seed, is_long):
     for node in (0, 1):
         begin = hello(match, 2, node, life=bytes.fromhex(kept["life"]))
         for rest in (b"", frame[:3], frame[:20], record(3, bytes(14)), frame, begin):
-            got = said(match.ports[node], begin, rest)
+            got = said(match.ports[node], begin, rest, seconds=patience())
             want(got[5:9] == b"HDN1", f"node {node} doesn't greet node 2, but says {got[:20]!r}: {match.last_notes()}")
             match.goes_on(2)
     match.start(2)
@@ -201,6 +211,8 @@ def said_again(seed, is_long):
     """All that a node said over an earlier connection is said again by another, alone and within a later connection."""
     match = League(proxied=True, pace=PACE / 2, hands=240).begin()
     match.goes_on(20)
+    match.await_note(2, "peer 0: connected")
+    match.await_note(0, "peer 2: connected")
     first = newest(match, (2, 0))
     match.kill(2)
     match.goes_on(5)
@@ -251,7 +263,8 @@ def besieged(seed, net=slow_hosts, **more):
 def hands_a_second(match, seconds):
     """How fast a match goes on, for so long."""
     count = len(match.seen)
-    time.sleep(seconds)
+    with match.measured():
+        time.sleep(seconds)
     match.is_alive()
     return (len(match.seen) - count) / COMMANDS / seconds
 
@@ -298,8 +311,8 @@ def withstands(match, delay, rate, *nodes):
         after = hands_a_second(match, 3)
     seconds = time.monotonic() - begun
     figures = f"{1000 * delay:.0f} ms a way, {them.told.split()[0]} strangers in {seconds:.0f} s: {calm:.1f} hands a second before, {during:.1f} and {after:.1f} meanwhile, nodes 2 and 0 join {' and '.join(map(told, joins))}, {notes_bytes(match) - before} bytes of notes"
-    want(min(during, after) >= calm / 3 and all(it is not None and it <= SOON for it in joins), figures)
     want(are_few(match, before, seconds), figures)
+    match.in_time(min(during, after) >= calm / 3 and all(it is not None and it <= SOON for it in joins), figures)
     match.ends()
     return figures
 
@@ -364,12 +377,12 @@ def strangers_at_seats(seed, is_long):
         during = hands_a_second(match, 3)
         times = [time_to_be_seated(match, 0, node) for node in (0, 1, 2)]
     figures = f"{1000 * delay:.0f} ms a way, {them.told.split()[0]} strangers: {calm:.1f} hands a second before, {during:.1f} meanwhile, a line comes {', '.join(map(told, times))}, {notes_bytes(match)} bytes of notes"
-    want(during >= calm / 3 and all(it is not None and it <= 2 * SOON for it in times), figures)
+    match.in_time(during >= calm / 3 and all(it is not None and it <= 2 * SOON for it in times), figures)
     match.ends()
     return figures
 
 
-@test(seeds=3, by_name=True)
+@test(seeds=3)
 def flooding_seat(seed, is_long):
     """A seat's client with its token sends a million empty lines a second to each node, and answers rightly."""
     match, delay = besieged(seed)
@@ -382,11 +395,15 @@ def flooding_seat(seed, is_long):
     with flooding(match, 1_000_000, 0, 0, 1, 2) as flood:
         match.goes_on(1)
         during = hands_a_second(match, 5)
+        ran = match.windows[-1][0] / 5
         notes, seconds = notes_bytes(match) - before, time.monotonic() - begun
         is_quiet = are_few(match, before, seconds)
         join = time_to_join(match, 2)
-    figures = f"{1000 * delay:.0f} ms a way, {int(flood.told.split()[1]) // 1000} KB of empty lines: {calm:.1f} hands a second before, {during:.1f} meanwhile, node 2 joins {told(join)}, {notes} bytes of notes in {seconds:.0f} s"
-    want(during >= calm / 3 and join is not None and join <= SOON and is_quiet, figures)
+    lines = int(flood.told.split()[1])
+    cost = ran / (lines / (time.monotonic() - begun))
+    figures = f"{1000 * delay:.0f} ms a way, {lines // 1000} KB of empty lines: {calm:.1f} hands a second before, {during:.1f} meanwhile, node 2 joins {told(join)}, {notes} bytes of notes in {seconds:.0f} s, {1e6 * cost:.2f} us of a processor a line"
+    want(is_quiet, figures)
+    match.in_time(during >= calm / 3 and join is not None and join <= SOON, figures)
     match.let_bots_come([0])
     match.ends()
     return figures
@@ -456,7 +473,8 @@ def lines_before_answers(seed, is_long):
     seconds = time.monotonic() - begun
     figures = f"90 commands in {seconds:.1f} s, {notes_bytes(match)} bytes of notes"
     is_quiet = are_few(match, 0, seconds)
-    want(seconds <= 10 and is_quiet, figures)
+    want(is_quiet, figures)
+    match.in_time(seconds <= 10, figures)
     match.ends()
     return figures
 
@@ -478,7 +496,7 @@ def shown_again(seed, is_long):
     match.let_bots_come([0])
     match.ends()
     figures = f"{1000 * delay:.0f} ms a way: an act takes {max(times):.1f} s at most, {notes_bytes(match)} bytes of notes"
-    want(max(times) <= match.count + 1 + SOON, figures)
+    match.in_time(max(times) <= match.count + 1 + SOON, figures)
     return figures
 
 
@@ -494,7 +512,8 @@ def shown_without_end(seed, is_long):
         join = time_to_join(match, 2)
     seconds = time.monotonic() - begun
     figures = f"{1000 * delay:.0f} ms a way, {shown.told.split()[0]} tokens in {seconds:.0f} s: {during:.1f} hands a second, node 2 joins {told(join)}, {notes_bytes(match) - before} bytes of notes"
-    want(are_few(match, before, seconds) and during > 0 and join is not None and join <= SOON, figures)
+    want(are_few(match, before, seconds), figures)
+    match.in_time(during > 0 and join is not None and join <= SOON, figures)
     match.ends()
     return figures
 
@@ -502,7 +521,8 @@ def shown_without_end(seed, is_long):
 def time_to_line(match, node):
     """How long a node takes to say how it is, in seconds."""
     begun = time.monotonic()
-    with socket.create_connection((match.address(node), match.statuses[node]), timeout=60) as asker:
+    with reached((match.address(node), match.statuses[node]), match.last_notes) as asker:
+        asker.settimeout(60)
         want(asker.recv(4096).startswith(b"node "), "something else than a status came")
     return time.monotonic() - begun
 
@@ -526,7 +546,8 @@ def many_askers(seed, is_long):
         match.may_act.set()
     figures = f"{1000 * delay:.0f} ms a way: a line comes after {times[0]:.2f} s, at an idle table after {times[1]:.2f} s; {calm:.1f} hands a second before, {during:.1f} meanwhile"
     is_quiet = are_few(match, before, 3)
-    want(max(times) <= 1 and during >= calm / 3 and is_quiet, figures)
+    want(is_quiet, figures)
+    match.in_time(max(times) <= 1 and during >= calm / 3, figures)
     match.ends()
     return figures
 
@@ -547,7 +568,7 @@ def besieged_match(seed, is_long):
             while time.monotonic() < until and match.hand < match.hands - 1 and match.is_alive():
                 time.sleep(0.01)
             speeds.append((match.hand + 1) / (time.monotonic() - begun))
-        want(match.hand == match.hands - 1 and speeds[-1] >= speeds[0] / 3, f"{match.hand} of {match.hands} hands: {speeds} a second")
+        match.in_time(match.hand == match.hands - 1 and speeds[-1] >= speeds[0] / 3, f"{match.hand} of {match.hands} hands: {speeds} a second")
         match.let_bots_come([0])
         match.ends()
         Match.made.pop().remove()

@@ -4,14 +4,15 @@ import random
 import signal
 import socket
 import subprocess
+import threading
 import time
 
 from serving import TOP, Wrong, patience, want, waited
 
 from processes_keys import League
-from processes_match import Match, serve
+from processes_match import Match, free_ports, serve
 from processes_ways import NoHosts
-from relay_match import GAME, REFUSED, VERSION, Dialler, Relay, RelayMatch, StockBot, in_words, test
+from relay_match import GAME, Dialler, Relay, RelayMatch, StockBot, in_words, test
 
 # How long a stock bot thinks where nodes are lost meanwhile, in seconds.
 PACE = 0.001
@@ -19,19 +20,24 @@ PACE = 0.001
 
 @test(long_seeds=3)
 def calm(folder, seed, is_long):
-    """Nothing is lost."""
+    """Nothing is lost: the relays end with the match, and not by the loss of its nodes."""
     match = RelayMatch(60, seed, count=(3, 5, 7)[seed % 3]).begin()
     match.ends()
     match.are_whole()
+    for relay in match.relays:
+        over = next(place for place, note in enumerate(relay.notes()) if "the match is over" in note)
+        match.calmly(not any("connection lost" in note for note in relay.notes()[:over]), f"{relay.notes()}")
 
 
-def lost_every_second(match, lose, last):
-    """Loses a node each second until a hand is reached. How often it did."""
+def lost_every_second(match, lose, last, lives=0.0):
+    """Loses a node each second until a hand is reached, the next one only where a further hand has come, and no sooner than so
+    many seconds behind the last one's return. How often it did."""
     match.await_hand(0)
     count, due = 0, time.monotonic()
-    while match.newest_hand() < last:
-        due += 1
-        waited(lambda: match.is_alive() and (time.monotonic() >= due or match.newest_hand() >= last), "time", match.last_notes)
+    while (hand := match.newest_hand()) < last:
+        due = max(due + 1, time.monotonic() + lives)
+        is_due = lambda: match.newest_hand() >= last or (match.newest_hand() > hand and time.monotonic() >= due)
+        waited(lambda: match.is_alive() and is_due(), "a further hand", match.last_notes)
         if match.newest_hand() < last:
             lose(match.dice.randrange(match.count))
             count += 1
@@ -79,8 +85,7 @@ def stops(folder, seed, is_long):
 
 @test(long_seeds=5)
 def all_killed(folder, seed, is_long):
-    """All nodes are killed at once, and started. No line comes twice; those that were chosen while the relays had no
-    connection may be missing, and are counted."""
+    """All nodes are killed at once, and started: no line is missing, from the first deal on."""
     hands = 1000 if is_long else 150
     match = RelayMatch(hands, seed, pace=PACE).begin()
 
@@ -89,12 +94,159 @@ def all_killed(folder, seed, is_long):
         time.sleep(match.dice.random() * 0.5)
         match.start(*range(match.count))
 
-    count = lost_every_second(match, lose, hands - 10)
-    missing = [match.missing(seat) for seat in range(2)]
-    # At most the lines of one moment may be missing at each time: those that were chosen before any node was reached again.
-    want(sum(missing) <= 4 * count, f"{missing} lines are missing of {count} times")
+    # Where each connection to each node ends within a second, a relay that is starved takes it that it is turned away.
+    count = lost_every_second(match, lose, hands - 10, lives=1.5)
+    match.are_whole()
     match.are_shared()
-    return f"{count} times, {missing} lines missing"
+    return f"{count} times"
+
+
+class CutMatch(RelayMatch):
+    """A match whose relays reach the nodes through doors that can be shut. A seat that is nowhere is played for soon."""
+
+    doors = []
+
+    def entries(self):
+        return ["patience = 1"]
+
+    def places(self, seat):
+        doors = [Door(self.address(node), self.seats[node] + seat) for node in range(self.count)]
+        self.doors = [*self.doors, *doors]
+        return [f"127.0.0.1:{door.port}" for door in doors]
+
+    def begin(self):
+        super().begin()
+        for door in self.doors:
+            door.open()
+        return self
+
+    def cut(self):
+        """All connections end at once, and none begins until a further hand is over."""
+        for door in self.doors:
+            door.shut()
+        hands = lambda: self.longest_log().count("STATE:")
+        before = hands()
+        waited(lambda: self.is_alive() and hands() > before + 1, "the match to go on meanwhile", self.last_notes)
+        for door in self.doors:
+            door.open()
+
+    def remove(self):
+        for door in self.doors:
+            door.shut()
+        super().remove()
+
+
+class Door:
+    """Hands on what comes from a relay to a node and back. While it is shut it refuses connections."""
+
+    def __init__(self, host, port):
+        self.place, self.sockets, self.listener, self.port = (host, port), [], None, free_ports(1)
+
+    def open(self):
+        waited(self.is_reached, "a node")
+        self.listener = socket.create_server(("127.0.0.1", self.port))
+        self.listener.settimeout(None)
+        threading.Thread(target=self.run, args=(self.listener,), daemon=True).start()
+
+    def is_reached(self):
+        """Whether the node takes connections."""
+        try:
+            socket.create_connection(self.place, timeout=5).close()
+        except OSError:
+            return False
+        return True
+
+    def run(self, listener):
+        while True:
+            try:
+                near, _ = listener.accept()
+            except OSError:
+                return
+            try:
+                far = socket.create_connection(self.place, timeout=5)
+            except OSError:
+                near.close()
+                continue
+            for one, other in ((near, far), (far, near)):
+                one.settimeout(None)
+                self.sockets.append(one)
+                threading.Thread(target=self.hand_on, args=(one, other), daemon=True).start()
+
+    def hand_on(self, one, other):
+        try:
+            while piece := one.recv(65536):
+                other.sendall(piece)
+        except OSError:
+            pass
+        for end in (one, other):
+            try:
+                end.shutdown(socket.SHUT_RDWR)
+            except OSError:
+                pass
+
+    def shut(self):
+        """Ends all connections."""
+        listener, self.listener = self.listener, None
+        for one in [listener, *self.sockets]:
+            try:
+                one.shutdown(socket.SHUT_RDWR)
+            except (OSError, AttributeError):
+                pass
+        if listener is not None:
+            listener.close()
+        self.sockets = []
+
+
+@test(long_seeds=5)
+def all_connections_cut(folder, seed, is_long):
+    """All connections of both relays are cut at once, again and again, and the match goes on meanwhile, since absent seats are
+    played for: no line is missing, from the first deal on."""
+    match = CutMatch(400 if is_long else 40, seed, pace=0.005).begin()
+    match.await_hand(2)
+    for _ in range(20 if is_long else 4):
+        match.cut()
+        hand = match.newest_hand()
+        match.await_hand(min(hand + 2, match.hands - 1))
+    match.ends()
+    match.are_whole()
+
+
+@test()
+def all_nodes_away(folder, seed, is_long):
+    """All nodes are away for longer than ten seconds, in the long form for a minute: the relays wait, and no line is missing."""
+    match = RelayMatch(60, seed, pace=PACE).begin()
+    match.await_hand(20)
+    match.kill(*range(match.count))
+    time.sleep(60 if is_long else 13)
+    match.start(*range(match.count))
+    match.ends()
+    match.are_whole()
+
+
+@test()
+def a_match_in_the_place_of_another(folder, seed, is_long):
+    """All nodes are killed, and another match is begun under the same ports and played beyond the bots' last lines: these are none
+    of it, so each relay ends with status 1."""
+    match = RelayMatch(2000, seed).begin()
+    match.await_hand(10)
+    for relay in match.relays:
+        relay.process.send_signal(signal.SIGSTOP)
+    match.kill(*range(match.count))
+    match.init_again()
+    match.start(*range(match.count))
+    hand = match.newest_hand()
+    match.let_bots_come()
+    waited(lambda: match.hand > hand + 5, "the other match to come so far", match.last_notes)
+    match.has_ended.set()
+    match.kill(*range(match.count))
+    match.send_bots_away()
+    match.start(*range(match.count))
+    for relay in match.relays:
+        relay.process.send_signal(signal.SIGCONT)
+    for relay in match.relays:
+        relay.ends(1, "the nodes have another match: the bot's last line isn't theirs")
+    for bot in match.stock:
+        bot.ends()
 
 
 class AskedMatch(RelayMatch):
@@ -181,8 +333,8 @@ def refused_answer(folder, seed, is_long):
     bots[0].say(line.rstrip() + b":f\r\n")
     time.sleep(6)
     refusals = [[note for note in match.notes(node) if note.endswith(f"at node {node}, hand 0: 85 Illegal 21 FoldNotFacing")] for node in range(3)]
-    want([len(notes) for notes in refusals] == [1, 1, 1], f"notes of refusals: {refusals}")
-    want(not any("lost" in note for note in relays[0].notes()), f"a connection ended: {relays[0].notes()}")
+    match.calmly([len(notes) for notes in refusals] == [1, 1, 1], f"notes of refusals: {refusals}")
+    match.calmly(not any("lost" in note for note in relays[0].notes()), f"a connection ended: {relays[0].notes()}")
     bots[0].say(line.rstrip() + b":c\r\n")
     want(bots[0].line().split(b":")[3] == b"cc/", "the legal answer is taken")
     for bot in bots:
@@ -203,7 +355,7 @@ def wrong_actions_with_nodes(folder, seed, is_long):
         match.set_up()
         Match.ends(match)
         for relay in relays:
-            relay.ends(3)
+            relay.ends(0)
         want([one.wait(patience()) for one in bots] == [0, 0], "the bots end with 0")
     finally:
         for one in bots:
@@ -259,7 +411,7 @@ def tokens(folder, seed, is_long):
     stock = [StockBot(match.folder, seat, relay.port, seed, is_in_c=seat == 0) for seat, relay in enumerate(relays)]
     match.ends()
     for seat, relay in enumerate(relays):
-        relay.ends(3)
+        relay.ends(0)
         stock[seat].ends()
         lines = b"".join(line.encode() + b"\r\n" for line in serve.lines_of(match, match.log(0), seat))
         want(stock[seat].record() == lines, f"bot {seat} got {stock[seat].record().count(10)} lines")

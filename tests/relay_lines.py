@@ -8,10 +8,10 @@ import time
 from pathlib import Path
 
 from refuser import refuser_in
-from serving import TOP, is_free, want, waited
+from serving import TOP, is_free, patience, want, waited
 
 from processes_match import Match, free_ports
-from relay_match import GAME, VERSION, Dialler, Node, Relay, test
+from relay_match import GAME, OTHER_TIME, VERSION, Dialler, Node, Relay, test
 
 # The button's first line of a hand, and the line behind his call: the big blind, at position 0, faces nothing.
 LINE = b"MATCHSTATE:0:0:c:5d5c|"
@@ -21,8 +21,8 @@ TRACED = re.compile(rb"([0-9]+\.[0-9]{6}) (TO|FROM) (.*)\n")
 
 
 def relayed(folder, nodes, *options, name="relay"):
-    """A relay for these nodes."""
-    return Relay(folder, name, *(node.address for node in nodes), options=options)
+    """A relay for these nodes, whose lines may begin anywhere."""
+    return Relay(folder, name, *(node.address for node in nodes), options=["--newest", *options])
 
 
 def got_by(nodes, place=0):
@@ -97,27 +97,118 @@ def a_node_that_is_back_ahead(folder, seed, is_long):
         nodes[2].said = b""
         nodes[2].hang_up()
         waited(lambda: len(nodes[2].got) > connections and nodes[2].got[-1] == VERSION, "the next connection")
-        begun, first, tries = time.monotonic(), 3 * tries + 1, tries + 1
+        begun, connections, first, tries = time.monotonic(), len(nodes[2].got), 3 * tries + 1, tries + 1
         nodes[2].say(lines[first + 2] + END)
         time.sleep(0.03)
         for node in nodes[:2]:
-            node.say(lines[first] + END + lines[first + 1] + END)
-        if time.monotonic() - begun > 0.1:
-            break  # (a busy machine: the lines between came too late)
+            node.say(END.join(lines[first : first + 3]) + END)
+        is_soon = time.monotonic() - begun < 0.1
         for line in lines[first : first + 3]:
             want(bot.line() == line + END, f"{line} comes next")
+        # (on a busy machine the lines between may come too late)
+        want(len(nodes[2].got) == connections or not is_soon or time.monotonic() - begun > 0.15, "its connection lasts where the lines between come soon")
+        time.sleep(1.1)
         newest += 1
-    alone = time.monotonic()
     connections = len(nodes[2].got)
     nodes[2].hang_up()
     waited(lambda: len(nodes[2].got) > connections and nodes[2].got[-1] == VERSION, "the next connection")
+    alone, connections, last = time.monotonic(), len(nodes[2].got), nodes[2].asked[-1]
     nodes[2].say(lines[-1] + END)
-    while (line := bot.line()) != lines[-1] + END:
-        want(line in [each + END for each in lines], f"{line!r} came")
+    # Nobody tells the lines between: it is dialled anew, and asked for the bot's last line again.
+    waited(lambda: len(nodes[2].got) > connections and nodes[2].got[-1] == VERSION, "another connection")
     took = time.monotonic() - alone
     want(took >= 0.2, f"a line that is ahead waited {took:.2f} s")
+    want(last is not None and nodes[2].asked[-1] == last, f"asked for are {nodes[2].asked[-2:]}")
+    relay.await_note("node 2: disconnected, it began with a line that wasn't asked for")
+    bot.gets_nothing()
+    nodes[2].say(END.join(lines[lines.index(last) :]) + END)
+    for line in lines[lines.index(last) + 1 :]:
+        want(bot.line() == line + END, f"{line} comes next")
     bot.close()
     relay.ends(1)
+
+
+@test()
+def all_lines_from_the_first(folder, seed, is_long):
+    """Without --newest each node is asked for the first line, and one that begins with another is left. From then on each
+    connection asks for the bot's last line, and no line is missing where all end at once."""
+    lines = [b"MATCHSTATE:0:%d::5d5c|" % hand for hand in range(200)]
+    nodes = [Node() for _ in range(3)]
+    relay = Relay(folder, "relay", *(node.address for node in nodes))
+    bot = Dialler(relay)
+    waited(lambda: all(node.got == [VERSION] for node in nodes), "all nodes to be dialled")
+    want([node.asked for node in nodes] == [[b"FIRST"]] * 3, f"asked for are {[node.asked for node in nodes]}")
+    nodes[0].say(lines[1] + END)
+    relay.await_note("node 0: disconnected, it began with a line that wasn't asked for")
+    bot.gets_nothing()
+    told = 0
+    for count in range(10, 60, 10):
+        dialled = [len(node.got) for node in nodes]
+        teller = nodes[1 + (count // 10) % 2]
+        teller.say(END.join(lines[told:count]) + END)
+        for line in lines[told:count]:
+            want(bot.line() == line + END, f"{line} comes next")
+        # (where connections end sooner another client has the seat, and the relay holds back)
+        time.sleep(1.2)
+        for node in nodes:
+            node.hang_up()
+        for node, before in zip(nodes, dialled):
+            waited(lambda: len(node.got) > before and node.got[-1] == VERSION, "the next connection")
+        want([node.asked[-1] for node in nodes] == [lines[count - 1]] * 3, f"asked for are {[node.asked[-1] for node in nodes]}, not {lines[count - 1]}")
+        told = count - 1
+        # (the line that was asked for comes first, and only its followers are told)
+        for node in nodes:
+            node.say(lines[told] + END)
+        told += 1
+    bot.close()
+    relay.ends(1)
+
+
+@test()
+def the_match_is_over(folder, seed, is_long):
+    """#OVER behind the bot's last line ends the relay with status 0, once the bot has all lines, and whatever other nodes do;
+    behind an earlier line it doesn't. The bot isn't told it."""
+    lines = [b"MATCHSTATE:0:%d::5d5c|" % hand for hand in range(3000)]
+    nodes = [Node(), Node()]
+    relay = relayed(folder, nodes)
+    bot = Dialler(relay, room=4096)
+    waited(lambda: all(node.got == [VERSION] for node in nodes), "all nodes to be dialled")
+    nodes[0].say(END.join(lines[:2000]) + END)
+    nodes[1].say(lines[0] + END + b"#OVER\r\n")
+    relay.await_note("node 1: the match is over")
+    for line in lines[:2000]:
+        want(bot.line() == line + END, f"{line} comes next")
+    bot.gets_nothing()
+    nodes[0].say(END.join(lines[2000:]) + END + b"#OVER\r\n")
+    waited(lambda: sum("the match is over" in note for note in relay.notes()) >= 2, "the note of the end", lambda: str(relay.notes()))
+    for line in lines[2000:]:
+        want(bot.line() == line + END, f"a bot that reads late: {line} comes next")
+    want(bot.line() == b"", "the connection ends behind the last line")
+    relay.ends(0, "the match is over")
+
+
+@test()
+def another_match(folder, seed, is_long):
+    """Each node says #OTHER for ten seconds: the relay ends with status 1. One that tells lines, or lasts, keeps it."""
+    nodes = [Node(LINE + END), Node(LINE + END)]
+    relay = relayed(folder, nodes)
+    bot = Dialler(relay)
+    want(bot.line() == LINE + END, "the line")
+    for node in range(2):
+        relay.await_note(f"node {node}: seated")
+    nodes[0].said, nodes[0].stays = b"#OTHER\r\n", False
+    nodes[0].hang_up()
+    relay.await_note("node 0: it has another match: the bot's last line isn't one of it")
+    time.sleep(OTHER_TIME + 2)
+    want(relay.process.poll() is None, f"the relay goes on: {relay.notes()}")
+    want(nodes[0].asked[0] == b"NEWEST", f"asked for are {nodes[0].asked}")
+    begun = time.monotonic()
+    nodes[1].said, nodes[1].stays = b"#OTHER\r\n", False
+    nodes[1].hang_up()
+    want(bot.line() == b"", "the connection ends")
+    took = time.monotonic() - begun
+    relay.ends(1, "the nodes have another match: the bot's last line isn't theirs")
+    want(OTHER_TIME - 0.5 <= took < OTHER_TIME + 15, f"the connection ended after {took:.1f} s")
 
 
 @test()
@@ -158,56 +249,83 @@ def answers_go_to_one_node(folder, seed, is_long):
     further = b"MATCHSTATE:0:0:cr300:5d5c|"
     nodes[0].say(further + END)
     want(bot.line() == further + END, "the next line")
-    time.sleep(1)
-    want(got_by(nodes) == [answer, answer, answer + LINE + b":r300" + END, answer], "an answer is said no more once there is a further line")
+    # (what a busy machine had said to others before that line came is with them by then)
+    time.sleep(0.5)
+    before = got_by(nodes)
+    time.sleep(2.5)
+    want(got_by(nodes) == before, f"an answer is said once there is a further line: {before}, {got_by(nodes)}")
     bot.close()
     relay.ends(1, "the bot ended its connection")
     want("bot: disconnected (3 lines were no answers to the newest line, 1 too long)" in relay.notes(), f"{relay.notes()}")
-    want([note for note in relay.notes() if "said again" in note] == [f"node {number}: answer said again" for number in (3, 0, 1)], f"{relay.notes()}")
+    want([note for note in relay.notes() if "said again" in note][:3] == [f"node {number}: answer said again" for number in (3, 0, 1)], f"{relay.notes()}")
+
+
+# How often what is to come at once is tried, since on a busy machine it may be late.
+TRIES = 10
+
+
+def is_at_once(once, most):
+    """Of so many tries, each of which says how long it took, one took less than so many seconds."""
+    times = []
+    while not times or times[-1] >= most:
+        want(len(times) < TRIES, f"what is to come at once came after {', '.join(f'{it:.2f}' for it in times)} s")
+        times.append(once(len(times)))
 
 
 @test()
 def answers_of_lost_connections(folder, seed, is_long):
     """Where a connection ends over which an answer was said it is said to another node at once, and over the next one again
     once that tells the line."""
-    nodes = [Node(LINE + END), Node(LINE + END)]
-    relay = relayed(folder, nodes)
-    bot = Dialler(relay)
-    want(bot.line() == LINE + END, "the line")
-    time.sleep(0.2)
     answer = LINE + b":c" + END
-    bot.say(answer)
-    waited(lambda: answer in got_by(nodes), "the answer at a node")
-    first = got_by(nodes).index(answer)
-    ended = time.monotonic()
-    nodes[first].hang_up()
-    waited(lambda: got_by(nodes)[1 - first] == answer, "the answer at the other node")
-    want(time.monotonic() - ended < 0.3, "at once")
-    waited(lambda: len(nodes[first].got) > 1 and nodes[first].got[1] == VERSION + answer, "the answer over the next connection")
-    bot.close()
-    relay.ends(1)
+
+    def once(number):
+        nodes = [Node(LINE + END), Node(LINE + END)]
+        relay = relayed(folder, nodes, name=f"relay{number}")
+        bot = Dialler(relay)
+        want(bot.line() == LINE + END, "the line")
+        for node in range(2):
+            relay.await_note(f"node {node}: seated")
+        begun = time.monotonic()
+        bot.say(answer)
+        waited(lambda: answer in got_by(nodes), "the answer at a node")
+        first = got_by(nodes).index(answer)
+        nodes[first].hang_up()
+        waited(lambda: got_by(nodes)[1 - first] == answer, "the answer at the other node")
+        took = time.monotonic() - begun
+        waited(lambda: len(nodes[first].got) > 1 and nodes[first].got[1] == VERSION + answer, "the answer over the next connection")
+        bot.close()
+        relay.ends(1)
+        return took
+
+    # (where no connection ends the other is told half a second later)
+    is_at_once(once, 0.45)
 
 
 @test()
 def only_node_with_the_line_hangs(folder, seed, is_long):
     """The only node that has told the newest line hangs with the answer: once another tells the line, that is told it."""
-    nodes = [Node(), Node()]
-    relay = relayed(folder, nodes)
-    bot = Dialler(relay)
-    waited(lambda: all(node.connections for node in nodes), "all nodes to be dialled")
-    nodes[0].say(LINE + END)
-    want(bot.line() == LINE + END, "the line")
     answer = LINE + b":c" + END
-    bot.say(answer)
-    waited(lambda: got_by(nodes)[0] == answer, "the answer at the node")
-    time.sleep(1.2)
-    want(got_by(nodes)[1] == b"", "who hasn't told the line isn't told the answer")
-    told = time.monotonic()
-    nodes[1].say(LINE + END)
-    waited(lambda: got_by(nodes)[1] == answer, "the answer at the other")
-    want(time.monotonic() - told < 0.3, "at once")
-    bot.close()
-    relay.ends(1)
+
+    def once(number):
+        nodes = [Node(), Node()]
+        relay = relayed(folder, nodes, name=f"relay{number}")
+        bot = Dialler(relay)
+        waited(lambda: all(node.connections for node in nodes), "all nodes to be dialled")
+        nodes[0].say(LINE + END)
+        want(bot.line() == LINE + END, "the line")
+        bot.say(answer)
+        waited(lambda: got_by(nodes)[0] == answer, "the answer at the node")
+        time.sleep(1.2)
+        want(got_by(nodes)[1] == b"", "who hasn't told the line isn't told the answer")
+        told = time.monotonic()
+        nodes[1].say(LINE + END)
+        waited(lambda: got_by(nodes)[1] == answer, "the answer at the other")
+        took = time.monotonic() - told
+        bot.close()
+        relay.ends(1)
+        return took
+
+    is_at_once(once, 0.3)
 
 
 # Each kind of the table of docs/BOTS.md, by game: the betting before it, what the bot says, and what is said for it.
@@ -402,7 +520,7 @@ def ports_and_words(folder, seed, is_long):
         if text is not None:
             (folder / name).write_bytes(text)
     for words in (
-        [], ["host:1"], ["127.0.0.1"], ["127.0.0.1:70000"], ["127.0.0.1:1"] * 8, ["--port", "70000", node.address], ["--listen", "host", node.address],
+        [], ["--newest"], ["host:1"], ["127.0.0.1"], ["127.0.0.1:70000"], ["127.0.0.1:1"] * 8, ["--port", "70000", node.address], ["--listen", "host", node.address],
         ["--give-up", "0", node.address], ["--mend", folder / "none", node.address], ["--mend", folder / "empty", node.address],
         ["--trace", folder / "none/none", node.address], *(["--token-file", folder / name, node.address] for name in files),
     ):
@@ -418,7 +536,7 @@ def token_of_a_file(folder, seed, is_long):
     relay = relayed(folder, [node], "--token-file", folder / "token")
     bot = Dialler(relay)
     bot.line()
-    waited(lambda: node.got == [b"#TOKEN abc.~!\r\n" + VERSION], "the node to get the first lines", lambda: str(node.got))
+    waited(lambda: node.got == [b"#TOKEN abc.~!\r\n" + VERSION] and node.asked == [b"NEWEST"], "the node to get the first lines", lambda: str(node.got))
     time.sleep(1.2)
     node.hang_up()
     waited(lambda: len(node.got) > 1 and node.got[1], "another dial")
@@ -498,37 +616,34 @@ def no_node_is_reached(folder, seed, is_long):
     want(bot.line() == b"", "the connection ends")
     took = time.monotonic() - begun
     relay.ends(1, "no node was reached")
-    want(2 <= took < 3.5, f"it gave up after {took:.1f} s")
+    # (a busy machine may be late, and never early)
+    want(2 <= took < 9, f"it gave up after {took:.1f} s")
 
 
 @test()
-def over_or_lost(folder, seed, is_long):
-    """Ten seconds after each node has refused, its bot's connection ends, with status 3. A node that is back counts anew. A bot
-    that reads late gets all lines before that."""
-    lines = [b"MATCHSTATE:0:%d::5d5c|" % hand for hand in range(3000)]
-    node = Node(END.join(lines) + END)
+def nodes_that_are_away(folder, seed, is_long):
+    """While each node refuses a relay waits, longer than ten seconds, and goes on where its bot was. With --give-up that is its
+    end, with status 1."""
+    lines = [b"MATCHSTATE:0:%d::5d5c|" % hand for hand in range(10)]
+    node = Node(END.join(lines[:5]) + END)
     port = int(node.address.split(":")[1])
-    relay = relayed(folder, [node])
-    slow = relayed(folder, [node], name="slow")
-    bot, late = Dialler(relay), Dialler(slow, room=4096)
-    for line in lines:
-        want(bot.line() == line + END, f"{line} comes next")
-    time.sleep(1)
+    relay, other = relayed(folder, [node]), relayed(folder, [node], "--give-up", "12", name="other")
+    bot, late = Dialler(relay), Dialler(other)
+    for line in lines[:5]:
+        want([bot.line(), late.line()] == [line + END] * 2, f"{line} comes next")
+    time.sleep(1.2)
     node.remove()
-    time.sleep(5)
-    again = Node(lines[-1] + END, port=port)
-    waited(lambda: again.connections, "the node to be dialled again")
-    time.sleep(1)
-    again.remove()
     begun = time.monotonic()
-    want(bot.line() == b"", "the connection ends")
-    took = time.monotonic() - begun
-    relay.ends(3, "each node has refused for ten seconds: over or lost")
-    want(9.5 <= took < 30, f"the connection ended after {took:.1f} s")
-    for line in lines:
-        want(late.line() == line + END, f"a bot that reads late: {line} comes next")
     want(late.line() == b"", "the connection ends")
-    slow.ends(3)
+    took = time.monotonic() - begun
+    other.ends(1, "no node was reached")
+    want(11 <= took < 30, f"the connection ended after {took:.1f} s")
+    again = Node(END.join(lines[4:]) + END, port=port)
+    for line in lines[5:]:
+        want(bot.line() == line + END, f"{line} comes next")
+    waited(lambda: again.asked[0] == lines[4], "the bot's last line to be asked for", lambda: str(again.asked))
+    bot.close()
+    relay.ends(1, "the bot ended its connection")
 
 
 @test()
@@ -538,10 +653,13 @@ def turned_away(folder, seed, is_long):
     relay = relayed(folder, nodes)
     bot = Dialler(relay)
     relay.await_note("turned away: wrong token? dials again in 5 s")
-    time.sleep(0.5)
-    counts = [len(node.connections) for node in nodes]
-    time.sleep(3.5)
-    want([len(node.connections) for node in nodes] == counts, "nodes are dialled meanwhile")
+    # (the file was written when the note was: a busy machine may have it read late)
+    told, counts = relay.notes_file.stat().st_mtime, []
+    while time.time() < told + 4.5:
+        time.sleep(0.1)
+        if told + 1 < time.time() < told + 4.5:
+            counts.append([len(node.connections) for node in nodes])
+    want(counts[:1] * len(counts) == counts, f"nodes are dialled meanwhile: {counts}")
     relay.await_note("turned away: wrong token? dials again in 10 s")
     bot.close()
     relay.ends(1)
@@ -561,8 +679,8 @@ def another_client(folder, seed, is_long):
     relay = relayed(folder, nodes, name="other")
     bot = Dialler(relay)
     time.sleep(3)
+    waited(lambda: len(nodes[0].connections) > 5, "it is dialled again and again")
     want(not [note for note in relay.notes() if "another client" in note], f"{relay.notes()}")
-    want(len(nodes[0].connections) > 5, "it is dialled again and again")
     bot.close()
     relay.ends(1)
 
@@ -584,23 +702,24 @@ def an_answer_before_the_end(folder, seed, is_long):
 def with_refusal(folder, library, number):
     """A relay of whose growths one is refused, and what came of it: the status, the notes, what the node and the bot got."""
     node, said, got = Node(LINE + END), LINE + b":r1" + END, b""
-    words = [Match.program, "relay", "--mend", TOP / "examples" / GAME, "--trace", folder / "trace", node.address]
+    words = [Match.program, "relay", "--newest", "--mend", TOP / "examples" / GAME, "--trace", folder / "trace", node.address]
     environment = {**os.environ, "LD_PRELOAD": str(library), "REFUSED_GROWTH": str(number)}
     process = subprocess.Popen(words, stdin=subprocess.DEVNULL, stdout=subprocess.PIPE, stderr=subprocess.PIPE, env=environment)
     try:
         port = process.stdout.readline()
         if port.strip():
-            with socket.create_connection(("127.0.0.1", int(port))) as bot:
-                try:
+            try:
+                # (it may end as the bot comes)
+                with socket.create_connection(("127.0.0.1", int(port))) as bot:
                     bot.sendall(VERSION)
                     while not got.endswith(END) and (piece := bot.recv(4096)):
                         got += piece
                     bot.sendall(said)
                     waited(lambda: node.got and node.got[-1].endswith(b":r200" + END) or process.poll() is not None, "an answer or the end")
-                except OSError:
-                    pass
-        notes = process.stderr.read().decode(errors="replace").splitlines()
-        return process.wait(10), notes, node.got, got
+            except OSError:
+                pass
+        notes = process.communicate(timeout=patience())[1].decode(errors="replace").splitlines()
+        return process.returncode, notes, node.got, got
     finally:
         process.kill()
         process.wait()

@@ -1,6 +1,8 @@
 """What tests/relay stands on: relays, stock bots behind them, matches of these, and clients in place of nodes and bots."""
 import os
 import random
+import re
+import shutil
 import signal
 import socket
 import subprocess
@@ -19,8 +21,10 @@ from serving import FAST, TOP, is_free, patience, want, waited
 
 GAME = "n2.game"
 VERSION = b"VERSION:2.0.0\r\n"
-# How long after the end of all nodes a relay takes the match for over or lost, in seconds.
-REFUSED = 10
+# What a relay says first over each connection: the token's line, if there is one, what it asks for, and the version's line.
+FIRST_LINES = re.compile(rb"(#TOKEN [^\n]*\n)?(?:#RESUME ([^\r\n]*)\r\n)(.*)", re.DOTALL)
+# For how long each node that is reached says that it has another match until a relay ends, in seconds.
+OTHER_TIME = 10
 TESTS = {}
 # Whether a line that comes late is a failure.
 IS_TIMED = [False]
@@ -146,7 +150,7 @@ class RelayMatch(Match):
 
     def await_hand(self, hand):
         """Waits until a bot has a line of this hand."""
-        waited(lambda: self.is_alive() and self.newest_hand() >= hand, f"hand {hand}", self.last_notes)
+        waited(lambda: self.is_alive() and self.newest_hand() >= hand, f"hand {hand}", self.last_notes, seen=self.newest_hand)
 
     def is_alive(self):
         """No process has ended that the test didn't kill, nor a relay, nor a bot."""
@@ -167,16 +171,30 @@ class RelayMatch(Match):
         """The nodes end, and with them relays and bots."""
         super().ends()
         for relay in self.relays:
-            relay.ends(3, "each node has refused for ten seconds: over or lost")
+            relay.ends(0, "the match is over")
         for bot in self.stock:
             bot.ends()
+
+    def longest_log(self):
+        """What is the longest log of all nodes."""
+        return max((self.log(node) for node in range(self.count) if (self.home(node) / f"logs/node{node}.log").exists()), key=len, default="")
+
+    def init_again(self):
+        """Another match's stores in the place of these: other cards come."""
+        for node in range(self.count):
+            for name in ("stores", "logs"):
+                shutil.rmtree(self.home(node) / name)
+                (self.home(node) / name).mkdir()
+            self.write(node, seeds={other: 1000 + other for other in range(self.count)})
+        for node in range(self.count):
+            self.init(node)
 
     def lines(self, seat):
         """The lines that one sequential dealer has for a seat over the whole log, as bytes."""
         return [line.encode() + b"\r\n" for line in serve.lines_of(self, self.log(0), seat)]
 
     def missing(self, seat):
-        """How many of these a bot's record lacks behind the first one that it has. None comes twice, and none is another."""
+        """How many of these a bot's record lacks. None comes twice, and none is another."""
         got, lines = self.stock[seat].record().splitlines(keepends=True), self.lines(seat)
         places = {line: place for place, line in enumerate(lines)}
         want(len(places) == len(lines), "the dealer tells a line twice")
@@ -184,17 +202,13 @@ class RelayMatch(Match):
         want(not others, f"bot {seat} got {others[:3]}, which no dealer tells it")
         order = [places[line] for line in got]
         want(all(one < next for one, next in zip(order, order[1:])), f"bot {seat} got lines twice, or of before")
-        want(order, f"bot {seat} got nothing")
-        return len(lines) - order[0] - len(got)
+        return len(lines) - len(got)
 
     def are_whole(self):
-        """Each bot's record is the dealer's lines for its seat, byte for byte, from its first line on. The other bot may have acted
-        before its relay was connected: a node begins with its newest line."""
+        """Each bot's record is the dealer's lines for its seat, byte for byte, from the first deal on."""
         for seat, bot in enumerate(self.stock):
             missing, got, lines = self.missing(seat), bot.record(), self.lines(seat)
-            begun = lines.index(got.splitlines(keepends=True)[0])
-            is_whole = begun <= 2 and got == b"".join(lines[begun:])
-            want(is_whole, f"bot {seat} got {got.count(10)} lines of {len(lines)}, from line {begun} on; {missing} are missing: {self.losses(seat, lines[begun:])}")
+            want(got == b"".join(lines), f"bot {seat} got {got.count(10)} lines of {len(lines)}; {missing} are missing: {self.losses(seat, lines)}")
 
     def losses(self, seat, lines):
         """The first lines that a bot's record lacks; when it got the next one, and when nodes were killed before that."""
@@ -240,7 +254,8 @@ def in_words(gaps, median, worst):
 
 
 class Node(threading.Thread):
-    """A listener in place of a node: over each connection it says these bytes, and keeps what it got."""
+    """A listener in place of a node: over each connection it says these bytes, and keeps what it was asked for and what else it
+    got."""
 
     made = []
 
@@ -248,7 +263,7 @@ class Node(threading.Thread):
         super().__init__(daemon=True)
         self.listener = socket.create_server(("127.0.0.1", port))
         self.address = f"127.0.0.1:{self.listener.getsockname()[1]}"
-        self.said, self.stays, self.got, self.connections = said, stays, [], []
+        self.said, self.stays, self.got, self.asked, self.connections = said, stays, [], [], []
         self.made.append(self)
         self.start()
 
@@ -259,10 +274,12 @@ class Node(threading.Thread):
             except OSError:
                 return
             self.got.append(b"")
+            self.asked.append(None)
             self.connections.append(connection)
             threading.Thread(target=self.speak, args=(connection, len(self.got) - 1), daemon=True).start()
 
     def speak(self, connection, place):
+        raw = b""
         try:
             connection.settimeout(None)
             connection.sendall(self.said)
@@ -272,7 +289,12 @@ class Node(threading.Thread):
                 piece = connection.recv(4096)
                 if not piece:
                     return
-                self.got[place] += piece
+                raw += piece
+                found = FIRST_LINES.fullmatch(raw)
+                if found:
+                    self.asked[place], self.got[place] = found[2], (found[1] or b"") + found[3]
+                elif not raw.startswith(b"#"):
+                    self.got[place] = raw
         except OSError:
             return
 

@@ -26,8 +26,10 @@ from table import Game, turn_of
 
 # The longest wait for anything that has to happen, and how long is waited for what must not, in seconds.
 WAIT, QUIET = 40, 0.4
-# How long a player goes on dialling who never got a line, in seconds.
-FIRST_LINE = 10
+# How long a player goes on dialling who never got a line, and how long one dial may take, in seconds.
+FIRST_LINE, REACHED = 10, 2
+# How often a test is tried that measures times: one that is late each time fails.
+TRIES = 3
 # When all tests have to be done; nothing that has to happen is waited for beyond it.
 END = [None]
 # Where nothing waits for a disk, if there is such a place.
@@ -51,9 +53,24 @@ class Wrong(Exception):
     """What a test found otherwise than it must be."""
 
 
+class Late(Wrong):
+    """What a test measured took longer than it may. A busy machine may be late: the test is tried again. Where the programs had no
+    processor for the most part, each time, nothing was measured."""
+
+    def __init__(self, text, was_starved):
+        super().__init__(text)
+        self.was_starved = was_starved
+
+
 def want(is_so, text):
     if not is_so:
         raise Wrong(text)
+
+
+def in_time(is_so, text, was_starved=False):
+    """What has to be so where the machine isn't too busy for it."""
+    if not is_so:
+        raise Late(text, was_starved)
 
 
 def patience():
@@ -61,15 +78,33 @@ def patience():
     return WAIT if END[0] is None else max(0.1, min(WAIT, END[0] - time.monotonic()))
 
 
-def waited(happened, text, notes=lambda: ""):
-    """Waits until something has happened, and fails where that takes too long, telling the notes. Its value."""
-    until = time.monotonic() + patience()
-    while time.monotonic() < until:
-        value = happened()
+def waited(happened, text, notes=lambda: "", seen=lambda: None):
+    """Waits until something has happened, and fails where that takes too long, telling the notes. Its value. Whenever what `seen`
+    says has changed the wait begins anew, until all tests have to be done: what goes on slowly, on a busy machine, isn't stuck."""
+    steps, until = seen(), time.monotonic() + patience()
+    while True:
+        # (a test that didn't run itself for long looks once more)
+        is_late, value = time.monotonic() >= until, happened()
         if value:
             return value
+        if seen() != steps and (END[0] is None or time.monotonic() < END[0]):
+            steps, until = seen(), time.monotonic() + patience()
+        elif is_late:
+            raise Wrong(f"waited in vain: {text}; {notes()}")
         time.sleep(0.005)
-    raise Wrong(f"waited in vain: {text}; {notes()}")
+
+
+def reached(address, notes=lambda: ""):
+    """A connection to an address at which a program was started a moment before: it is dialled until it is there."""
+    return waited(lambda: player.dial(address, REACHED), f"a connection to {address[0]}:{address[1]}", notes)
+
+
+def size_of(file):
+    """How many bytes a file has; one that a start has just renamed has none."""
+    try:
+        return file.stat().st_size
+    except FileNotFoundError:
+        return 0
 
 
 def is_free(port):
@@ -321,16 +356,29 @@ def follow(client, answer):
         line = client.line()
 
 
-def faults(function):
-    """What a test found, in words; nothing where it passed. Its matches' programs are killed, and their folders go."""
+def in_tries(once):
+    """What a test found, in words, and what it tells. Where it was late it is tried again, and tells that too."""
+    late, found, told = [], None, None
+    while len(late) < TRIES:
+        found, told = once()
+        if not isinstance(found, Late):
+            break
+        late.append(found)
+    if len(late) == TRIES and all(it.was_starved for it in late):
+        found, told = None, "not measured, since the programs had no processor"
+    return found and str(found), told if found else "; ".join([*([told] if told else []), *(f"late: {it}" for it in late)]) or None
+
+
+def tried(function):
+    """What a test found, and that it tells nothing. Its matches' programs are killed, and their folders go."""
     try:
         want(time.monotonic() < END[0], "the tests took too long")
         function()
-        return None
+        return None, None
     except Wrong as why:
-        return str(why)
+        return why, None
     except Exception:
-        return traceback.format_exc()
+        return traceback.format_exc(), None
     finally:
         while Match.made:
             Match.made.pop().remove()
@@ -347,8 +395,8 @@ def run_all(name, about, tests, most, words):
     END[0], failed = time.monotonic() + most, 0
     for function in tests:
         begun = time.monotonic()
-        found = faults(function)
-        title = function.__name__.replace("_", " ")
+        found, told = in_tries(lambda: tried(function))
+        title = function.__name__.replace("_", " ") + (f" ({told})" if told else "")
         print(f"{name}: {time.monotonic() - begun:5.1f} s  {title}" + (f": {found}" if found else ""), flush=True)
         failed += found is not None
     print(f"{len(tests) - failed} passed, {failed} failed")
