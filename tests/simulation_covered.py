@@ -71,7 +71,6 @@ NEVER = {
     "fault 124": "all nodes have one key, and strangers say no proof",
     "fault 125": "nothing changes what is on its way",
     "fault 129": "the logs of earlier starts aren't kept here",
-    "all that is read of a node": "no node sends so much before it is read",
     "ended StoreReplaced": NO_STORE,
     "ended LogFailed": "the log of a process that lives is always written",
 }
@@ -79,6 +78,7 @@ NEVER = {
 SELDOM = {
     "order end": "all processes end before, but one that is started once more behind the match's end",
     "fault 23": "a bot raises by what is drawn, hardly ever by all that it has",
+    "all that is read of a node": "a node sends so much before it is read only where it was behind by far",
     "all that waits for a bot": "a match has hardly so many hands; a script of tests/simulation.d has",
     "command of no account": "fresh commands are proposed one by one; two leaders after each other would have to bring one",
 }
