@@ -26,8 +26,8 @@ YES, BALLOT = "(yes|no)", r"(-|\d+\.\d+)"
 STATUS = re.compile(rf"node (\d) front (\d+) hand (-|\d+) over {YES} replaying {YES} promised {BALLOT} leads {YES} quorum {YES} peers (\S+) seats (\S+) pending {YES} backlog (\S+) commands (\d+)/s\n")
 
 # What waits, and what is read, in bytes. For a bot 64 KiB wait at most, and one line of 4,096 bytes with its end (docs/OPERATING-NODES.md,
-# `backlog`). In a turn a process reads of a bot one piece of 512, and of another node's connection 64 KiB (docs/DECISIONS.md). Of one
-# who hasn't shown the token it reads the line for that, 73 with its end (docs/FORMATS.md), and of one who asks for the status
+# `backlog`). In a turn a process reads of a bot one piece of 512, and of another node's connection 64 KiB (docs/DECISIONS.md), as many
+# as can wait there. Of one who hasn't shown the token it reads the line for that, 73 with its end (docs/FORMATS.md), and of one who asks for the status
 # nothing. Behind a line above 4,096 it reads nothing more of a bot (docs/FAULTS.md, 81 LineTooLong).
 LINE, PIECE, TOKEN_LINE = 4_096, 512, 73
 MOST_WAITING = 65_536 + LINE + 2
