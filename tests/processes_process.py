@@ -203,7 +203,7 @@ class Peer:
         self.wire, self.since, self.heard_ever = None, now, now
         self.last, self.repeated, self.asked = None, -1e9, (None, -1e9)
         self.forwarded, self.forwarded_at = None, -1e9
-        self.waiting, self.owed, self.lost = [], None, None
+        self.waiting, self.owed = [], None
         self.dialled, self.unanswered_dials = None, 0
         self.measures = Measures(limits)
         self.clear()
@@ -407,7 +407,7 @@ class Process:
         if message[0] == nodes.FORWARD:
             peer.forwarded, peer.forwarded_at = message, self.world.now
         if message[0] in (nodes.PREPARE, nodes.ACCEPT):
-            peer.owed, peer.lost = message, None
+            peer.owed = message
         if peer.wire is None:
             peer.waiting = [*peer.waiting, message][-WAITING_FRAMES:]
         else:
@@ -513,8 +513,9 @@ class Process:
     def open(self, peer, wire):
         now = self.world.now
         peer.clear()
-        peer.wire, peer.opened, peer.heard, peer.heard_ever, peer.unanswered = wire, now, now, now, peer.lost
-        peer.lost = None
+        peer.wire, peer.opened, peer.heard, peer.heard_ever = wire, now, now, now
+        # What waits goes over this connection; what was asked last and doesn't wait is lost.
+        peer.unanswered = None if any(message is peer.owed for message in peer.waiting) else peer.owed
         self.beat(peer)
         waiting, peer.waiting = peer.waiting, []
         for message in waiting:
@@ -526,7 +527,7 @@ class Process:
         peer.wire.close(self.number)
         peer.measures.settle(peer.number_got, peer.heard, self.world.now)
         peer.wire, peer.since = None, self.world.now
-        peer.lost, peer.unanswered = peer.owed, None
+        peer.unanswered = None
         if peer.number < self.number:
             self.world.after(REDIAL / 10, self.dial, peer.number, self.life)
 
@@ -563,7 +564,7 @@ class Process:
         self.hear(peer)
         if peer.owed is not None and message[0] in (nodes.PROMISE, nodes.ACCEPTED, nodes.REFUSE):
             if message[1:3] == peer.owed[1:3]:
-                peer.owed = peer.lost = peer.unanswered = None
+                peer.owed = peer.unanswered = None
         self.backlog.append(lambda: self.node.call(lambda: self.node.frame(peer.number, message)))
 
     def hear(self, peer):
@@ -613,7 +614,7 @@ class Process:
         lost, node = peer.unanswered, self.node
         if lost is None or node.state == "idle" or lost[1] != node.ballot:
             return False
-        return node.state == "preparing" if lost[0] == nodes.PREPARE else lost[2] >= node.front
+        return node.state == "preparing" if lost[0] == nodes.PREPARE else lost[2] + len(lost[3]) > node.front
 
     def known(self):
         """A line for the program."""

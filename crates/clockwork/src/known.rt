@@ -85,7 +85,8 @@ pub struct OpenLink {
     /// When something last came over it; at first, when it opened.
     pub heard: u64,
     /// A Prepare or an Accept that was sent to the peer before this connection opened is unanswered, and its answer would
-    /// still serve: it is of the ballot in which this node campaigns, and of no slot below the front.
+    /// still serve: it is of the ballot in which this node campaigns; for a Prepare no Accept went to the peer since, and an
+    /// Accept is not only of slots below the front.
     pub unanswered: bool,
     /// What the peer has told of itself, once a beat came over this connection.
     pub beat: Option<PeerReport>,

@@ -15,6 +15,7 @@ use Rattle.peer_codes.specs.Spelling.{record_text}
 use Rattle.node_links.specs.declared.own.Own.{Own}
 use Rattle.node_links.specs.declared.own.Met.{Met}
 use Rattle.node_links.specs.declared.peer_fault.Mismatch.TheVariants.{Digest, Nodes, Number}
+use Rattle.node_links.specs.declared.peer_fault.WrongNumber.TheVariants.{Speaker, Called, Caller}
 use Rattle.node_links.specs.declared.peer_fault.Whose.TheVariants as whose
 use Rattle.node_links.specs.declared.peer_fault.PeerFault.{PeerFault}
 use Rattle.node_links.specs.declared.heard.Heard.{Heard}
@@ -29,7 +30,7 @@ use Rattle.node_links.specs.declared.dial.Dial.TheVariants as dials
 use Rattle.node_links.specs.declared.dial.DialDue.TheVariants as dues
 use Rattle.node_links.specs.declared.pulse.Pulse.{Pulse}
 use Rattle.node_links.specs.Lines.{peer_fault_code, peer_fault_line}
-use Rattle.node_links.specs.Judging.{is_awaited, judged}
+use Rattle.node_links.specs.Judging.{is_awaited, wrong_number, judged}
 use Rattle.node_links.specs.Steps.{closed, stepped, settled}
 use Rattle.node_links.specs.Waits.{Waits}
 use Rattle.node_links.specs.Waiting.{newest, has_next, next_of, rest_of}
@@ -43,10 +44,13 @@ use Rattle.node_links.specs.Asking.{asked_slot, is_again}
 use Rattle.node_links.specs.Repeating.{accepted_slot, ends_block, is_due}
 use Rattle.node_links.specs.Forwarding.{is_forward, forwarded_after, again_in}
 use Rattle.node_links.specs.declared.forwarded.Forwarded.{Forwarded}
+use Rattle.node_links.specs.declared.owed.Request.TheVariants.{Prepare, Accept}
+use Rattle.node_links.specs.declared.owed.Subject.{Subject}
 use Rattle.node_links.specs.declared.owed.Question.{Question}
 use Rattle.node_links.specs.declared.owed.Owed.{Owed}
 use Rattle.node_links.specs.declared.refusals.Refusals.{Refusals}
-use Rattle.node_links.specs.Owing.{question_in, answered_in, asked_by, heard_by, serves}
+use Rattle.node_links.specs.Frames.{frame_of}
+use Rattle.node_links.specs.Owing.{question_in, answered_in, lost_of, asked_by, heard_by, serves}
 use Rattle.node_links.specs.Refusing.{refused_by, due_at}
 use Rattle.node_links.specs.declared.own.Known.TheVariants.{Nothing, One, Two}
 use Rattle.node_links.specs.declared.lives.Lives.{Lives}
@@ -67,6 +71,23 @@ store_replaced_line = refl
 pub other_digest_line : peer_fault_line (faults.OtherMatch (Digest (record { here = 439041101; there = 10 }))) ≡ codes "123 OtherMatch digest: here 1a2b3c4d, there 0000000a"
 unfolding digits
 other_digest_line = refl
+
+-- the number that came first, then the expected one
+pub other_node_line : peer_fault_line (faults.OtherMatch (Number (Speaker (record { said = 1; expected = 0 })))) ≡ codes "123 OtherMatch number 1, not 0"
+unfolding digits
+other_node_line = refl
+
+pub called_another_line : peer_fault_line (faults.OtherMatch (Number (Called (record { said = 2; expected = 0 })))) ≡ codes "123 OtherMatch number 2 called, not 0"
+unfolding digits
+called_another_line = refl
+
+pub lesser_caller_line : peer_fault_line (faults.OtherMatch (Number (Caller (record { said = 1; expected = 2 })))) ≡ codes "123 OtherMatch number 1, not above 2"
+unfolding digits
+lesser_caller_line = refl
+
+pub other_count_line : peer_fault_line (faults.OtherMatch (Nodes (record { said = 5; expected = 3 }))) ≡ codes "123 OtherMatch nodes 5, not 3"
+unfolding digits
+other_count_line = refl
 
 pub bad_hello_is_122 : peer_fault_code (faults.Record BadHello) ≡ 122
 bad_hello_is_122 = refl
@@ -120,11 +141,11 @@ other_digest = refl
 pub digest_before_nodes : judged own None known (hello_by 1 0 5 8 None Plain) ≡ Err (faults.OtherMatch (Digest (record { here = 151587081; there = 134744072 })))
 digest_before_nodes = refl
 
-pub five_nodes : judged own None known (hello_by 1 0 5 9 None Plain) ≡ Err (faults.OtherMatch Nodes)
+pub five_nodes : judged own None known (hello_by 1 0 5 9 None Plain) ≡ Err (faults.OtherMatch (Nodes (record { said = 5; expected = 3 })))
 five_nodes = refl
 
 -- it speaks to node 2
-pub to_another : judged own None known (hello_by 1 2 3 9 None Plain) ≡ Err (faults.OtherMatch Number)
+pub to_another : judged own None known (hello_by 1 2 3 9 None Plain) ≡ Err (faults.OtherMatch (Number (Called (record { said = 2; expected = 0 }))))
 to_another = refl
 
 -- node 1 is dialled by node 2 alone, never by node 0
@@ -137,6 +158,20 @@ greater_dials = refl
 -- node 2 dialled node 0, and node 1 answers
 pub another_answers : is_awaited 2 (Some 0) (record { from = 1; to = 2; nodes = 3 }) ≡ false
 another_answers = refl
+
+-- the number that came is that of the node that speaks, also where it speaks to a third
+pub another_speaks : wrong_number 2 (Some 0) (record { from = 1; to = 2; nodes = 3 }) ≡ Speaker (record { said = 1; expected = 0 })
+another_speaks = refl
+
+pub another_speaks_to_a_third : wrong_number 2 (Some 0) (record { from = 1; to = 0; nodes = 3 }) ≡ Speaker (record { said = 1; expected = 0 })
+another_speaks_to_a_third = refl
+
+-- the dialled one takes this node for another
+pub taken_for_another : wrong_number 2 (Some 0) (record { from = 0; to = 1; nodes = 3 }) ≡ Called (record { said = 1; expected = 2 })
+taken_for_another = refl
+
+pub lesser_is_told : wrong_number 1 None (record { from = 0; to = 1; nodes = 3 }) ≡ Caller (record { said = 0; expected = 1 })
+lesser_is_told = refl
 
 pub dialled_answers : is_awaited 2 (Some 0) (record { from = 0; to = 2; nodes = 3 }) ≡ true
 dialled_answers = refl
@@ -262,7 +297,7 @@ more_behind_the_first = refl
 pub taken_hello_opens : settled own None known (phases.Asked hello) ≡ phases.Open hello
 taken_hello_opens = refl
 
-pub refused_hello_closes : settled own None known (phases.Asked (hello_by 1 0 5 9 None Plain)) ≡ phases.Closed (faults.OtherMatch Nodes)
+pub refused_hello_closes : settled own None known (phases.Asked (hello_by 1 0 5 9 None Plain)) ≡ phases.Closed (faults.OtherMatch (Nodes (record { said = 5; expected = 3 })))
 refused_hello_closes = refl
 
 -- ---- what waits, and what is written
@@ -496,10 +531,16 @@ ask-keeps_no_forward frame old = refl
 abbrev of_kind : ℕ → List ℕ
 of_kind kind = 0 ∷ 0 ∷ 0 ∷ 11 ∷ 2 ∷ kind ∷ 0 ∷ 0 ∷ 0 ∷ 1 ∷ 0 ∷ 0 ∷ 0 ∷ 0 ∷ 0 ∷ []
 
-abbrev asked : Question
-asked = record { ballot = record { round = 1; node = 0 }; slot = 0 }
+abbrev subject : Subject
+subject = record { ballot = record { round = 1; node = 0 }; slot = 0 }
 
-pub prepare_asks : question_in (of_kind 1) ≡ Some asked
+abbrev prepared : Question
+prepared = record { request = Prepare; subject = subject }
+
+abbrev asked : Question
+asked = record { request = Accept 1; subject = subject }
+
+pub prepare_asks : question_in (of_kind 1) ≡ Some prepared
 prepare_asks = refl
 
 pub accept_asks : question_in (of_kind 4) ≡ Some asked
@@ -508,30 +549,66 @@ accept_asks = refl
 pub promise-no_question : question_in (of_kind 2) ≡ None
 promise-no_question = refl
 
-pub refuse_answers : answered_in (of_kind 3) ≡ Some asked
+pub refuse_answers : answered_in (of_kind 3) ≡ Some subject
 refuse_answers = refl
 
 pub accept-no_answer : answered_in (of_kind 4) ≡ None
 accept-no_answer = refl
 
 abbrev owed : Owed
-owed = record { last = Some asked; lost = None; unanswered = Some asked }
+owed = record { last = Some asked; unanswered = Some asked }
 
-pub answer_ends_all : heard_by (Some asked) owed ≡ record { last = None; lost = None; unanswered = None }
+pub answer_ends_all : heard_by (Some subject) owed ≡ record { last = None; unanswered = None }
 answer_ends_all = refl
 
-pub other_slot-no_answer : heard_by (Some (record asked { slot = 1 })) owed ≡ owed
+pub other_slot-no_answer : heard_by (Some (record subject { slot = 1 })) owed ≡ owed
 other_slot-no_answer = refl
 
--- what is asked while none is open waits for the next connection: it isn't lost
-pub asked_anew : asked_by (Some asked) (record { last = Some asked; lost = Some asked; unanswered = None }) ≡ record { last = Some asked; lost = None; unanswered = None }
-asked_anew = refl
+-- what waits goes over the connection that opens, and isn't lost; what doesn't is
+pub waits-not_lost : lost_of (frame_of (of_kind 4) ∷ []) (Some asked) ≡ None
+waits-not_lost = refl
+
+pub gone-lost : lost_of [] (Some asked) ≡ Some asked
+gone-lost = refl
+
+pub promise-lost_beside_an_accept : lost_of (frame_of (of_kind 4) ∷ []) (Some prepared) ≡ Some prepared
+promise-lost_beside_an_accept = refl
+
+-- a promise that was lost is still owed when another is asked for, and not once the node asks for a vote; a lost vote is
+pub promise-owed_beside_another : (asked_by (Some prepared) (record owed { unanswered = Some prepared })).unanswered ≡ Some prepared
+promise-owed_beside_another = refl
+
+pub promise-not_owed_behind_an_accept : (asked_by (Some asked) (record owed { unanswered = Some prepared })).unanswered ≡ None
+promise-not_owed_behind_an_accept = refl
+
+pub vote-owed_beside_another : (asked_by (Some asked) owed).unanswered ≡ Some asked
+vote-owed_beside_another = refl
 
 pub serves_at_its_slot : serves asked (Some (record { round = 1; node = 0 })) 0 ≡ true
 serves_at_its_slot = refl
 
 pub chosen_since : serves asked (Some (record { round = 1; node = 0 })) 1 ≡ false
 chosen_since = refl
+
+-- an Accept of three commands at slot 0 asks for the slots 0 to 2: its votes are of use until all of these are chosen
+abbrev three_asked : Question
+three_asked = record { request = Accept 3; subject = subject }
+
+pub accept_asks_for_all_its_slots : question_in (of_kind 4 ++ 3 ∷ []) ≡ Some three_asked
+accept_asks_for_all_its_slots = refl
+
+pub serves_at_its_last_slot : serves three_asked (Some (record { round = 1; node = 0 })) 2 ≡ true
+serves_at_its_last_slot = refl
+
+pub all_chosen_since : serves three_asked (Some (record { round = 1; node = 0 })) 3 ≡ false
+all_chosen_since = refl
+
+-- the promise of a quorum is needed, whatever was chosen since
+pub promise-serves_behind_its_slot : serves prepared (Some (record { round = 1; node = 0 })) 1 ≡ true
+promise-serves_behind_its_slot = refl
+
+pub promise-other_ballot : serves prepared (Some (record { round = 1; node = 1 })) 0 ≡ false
+promise-other_ballot = refl
 
 pub other_ballot : serves asked (Some (record { round = 1; node = 1 })) 0 ≡ false
 other_ballot = refl
@@ -541,7 +618,7 @@ other_ballot = refl
 abbrev refusals : Refusals
 refusals = record {
   peer = None;
-  since = None ∷ None ∷ None ∷ Some (record { count = 1; fault = faults.OtherMatch Nodes }) ∷ None ∷ None ∷ Some (record { count = 2; fault = faults.UnexpectedRecord }) ∷ None ∷ None ∷ [];
+  since = None ∷ None ∷ None ∷ Some (record { count = 1; fault = faults.OtherMatch (Nodes (record { said = 5; expected = 3 })) }) ∷ None ∷ None ∷ Some (record { count = 2; fault = faults.UnexpectedRecord }) ∷ None ∷ None ∷ [];
   noted = None ∷ None ∷ None ∷ None ∷ None ∷ None ∷ Some 5000 ∷ None ∷ None ∷ [];
 }
 
@@ -552,10 +629,10 @@ pub noted_a_second_later : due_at refusals 6 1005000 ≡ Some (record { count = 
 noted_a_second_later = refl
 
 -- one of another number is noted at once, whatever that one had
-pub other_number_noted : due_at refusals 3 5001 ≡ Some (record { count = 1; fault = faults.OtherMatch Nodes })
+pub other_number_noted : due_at refusals 3 5001 ≡ Some (record { count = 1; fault = faults.OtherMatch (Nodes (record { said = 5; expected = 3 })) })
 other_number_noted = refl
 
-pub counted : due_at (refused_by (faults.OtherMatch Number) refusals) 3 5001 ≡ Some (record { count = 2; fault = faults.OtherMatch Number })
+pub counted : due_at (refused_by (faults.OtherMatch (Number (Called (record { said = 2; expected = 0 })))) refusals) 3 5001 ≡ Some (record { count = 2; fault = faults.OtherMatch (Number (Called (record { said = 2; expected = 0 }))) })
 counted = refl
 
 pub none_goes_again : is_due (record { last = None; sent = 0 }) 900000 ≡ false

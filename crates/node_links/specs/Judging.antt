@@ -13,6 +13,8 @@ use Rattle.node_links.specs.declared.own.Known.TheVariants.{Nothing}
 use Rattle.node_links.specs.declared.own.Met.{Met}
 use Rattle.node_links.specs.declared.peer_fault.Digests.{Digests}
 use Rattle.node_links.specs.declared.peer_fault.Mismatch.TheVariants.{Digest, Nodes, Number}
+use Rattle.node_links.specs.declared.peer_fault.WrongNumber.{WrongNumber}
+use Rattle.node_links.specs.declared.peer_fault.WrongNumber.TheVariants.{Speaker, Called, Caller}
 use Rattle.node_links.specs.declared.peer_fault.Whose.TheVariants as whose
 use Rattle.node_links.specs.declared.peer_fault.PeerFault.{PeerFault}
 use Rattle.node_links.specs.declared.peer_fault.PeerFault.TheVariants as faults
@@ -27,6 +29,15 @@ is_coded (Coded nonce) = true
 abbrev pub is_awaited : ℕ → Option ℕ → Ends → Bool
 is_awaited number (Some peer) ends = ends.to == number && ends.from == peer
 is_awaited number None ends = ends.to == number && nat_lt number ends.from
+
+-- which number is wrong of one that isn't awaited: of the dialled one its own comes first, of one that dialled the number that it calls
+abbrev pub wrong_number : ℕ → Option ℕ → Ends → WrongNumber
+wrong_number number (Some peer) ends =
+    if ends.from == peer then Called (record { said = ends.to; expected = number })
+    else Speaker (record { said = ends.from; expected = peer })
+wrong_number number None ends =
+    if ends.to == number then Caller (record { said = ends.from; expected = number })
+    else Called (record { said = ends.to; expected = number })
 
 -- another life is kept than this one
 abbrev pub is_other : Option Life → Life → Bool
@@ -56,8 +67,8 @@ heads_of own hello = record { here = big_number 4 own.digest.bytes; there = big_
 abbrev pub judged_match : Own → Option ℕ → Hello → Result (Unit {0}) PeerFault
 judged_match own dialled hello =
     if not (bytes_eq hello.digest.bytes own.digest.bytes) then Err (faults.OtherMatch (Digest (heads_of own hello)))
-    else (if not (hello.ends.nodes == own.nodes) then Err (faults.OtherMatch Nodes)
-    else (if not (is_awaited own.number dialled hello.ends) then Err (faults.OtherMatch Number)
+    else (if not (hello.ends.nodes == own.nodes) then Err (faults.OtherMatch (Nodes (record { said = hello.ends.nodes; expected = own.nodes })))
+    else (if not (is_awaited own.number dialled hello.ends) then Err (faults.OtherMatch (Number (wrong_number own.number dialled hello.ends)))
     else Ok tt))
 
 -- and then as the node that it is

@@ -1,8 +1,12 @@
 -- What faults print as.
-use Rattle.std.specs.Prelude.{ℕ, ◌^◌, nat_lt, false, if◌then◌else◌, List, [], ◌++◌, codes}
+use Rattle.std.specs.Prelude.{ℕ, ◌^◌, nat_lt, false, if◌then◌else◌, List, [], ◌++◌, codes, decimal}
 use Rattle.std.specs.Fmt.{digits}
 use Rattle.peer_codes.specs.Lines.{record_fault_code, record_fault_line}
+use Rattle.node_links.specs.declared.peer_fault.Mismatch.{Mismatch}
 use Rattle.node_links.specs.declared.peer_fault.Mismatch.TheVariants.{Digest, Nodes, Number}
+use Rattle.node_links.specs.declared.peer_fault.Numbers.{Numbers}
+use Rattle.node_links.specs.declared.peer_fault.WrongNumber.{WrongNumber}
+use Rattle.node_links.specs.declared.peer_fault.WrongNumber.TheVariants.{Speaker, Called, Caller}
 use Rattle.node_links.specs.declared.peer_fault.Digests.{Digests}
 use Rattle.node_links.specs.declared.peer_fault.PeerFault.{PeerFault}
 use Rattle.node_links.specs.declared.peer_fault.PeerFault.TheVariants as faults
@@ -36,12 +40,30 @@ eight_digits n = zeros n ++ digits 16 false n
 abbrev pub digests_line : Digests → List ℕ
 digests_line d = codes "here " ++ (eight_digits d.here ++ (codes ", there " ++ eight_digits d.there))
 
+abbrev pub numbers_of : WrongNumber → Numbers
+numbers_of (Speaker numbers) = numbers
+numbers_of (Called numbers) = numbers
+numbers_of (Caller numbers) = numbers
+
+abbrev pub between : WrongNumber → List ℕ
+between (Speaker numbers) = codes ", not "
+between (Called numbers) = codes " called, not "
+between (Caller numbers) = codes ", not above "
+
+-- the number that came, then the one that was expected
+abbrev pub wrong_number_line : WrongNumber → List ℕ
+wrong_number_line wrong = decimal (numbers_of wrong).said ++ (between wrong ++ decimal (numbers_of wrong).expected)
+
+-- in what they differ, and what both say
+abbrev pub mismatch_line : Mismatch → List ℕ
+mismatch_line (Digest heads) = codes "digest: " ++ digests_line heads
+mismatch_line (Nodes n) = codes "nodes " ++ (decimal n.said ++ (codes ", not " ++ decimal n.expected))
+mismatch_line (Number wrong) = codes "number " ++ wrong_number_line wrong
+
 -- a fault prints as its number and its name, and 123 with what differs
 abbrev pub peer_fault_line : PeerFault → List ℕ
 peer_fault_line (faults.Record fault) = record_fault_line fault
-peer_fault_line (faults.OtherMatch (Digest heads)) = codes "123 OtherMatch digest: " ++ digests_line heads
-peer_fault_line (faults.OtherMatch Nodes) = codes "123 OtherMatch nodes"
-peer_fault_line (faults.OtherMatch Number) = codes "123 OtherMatch number"
+peer_fault_line (faults.OtherMatch what) = codes "123 OtherMatch " ++ mismatch_line what
 peer_fault_line faults.WrongProof = codes "124 WrongProof"
 peer_fault_line faults.WrongTag = codes "125 WrongTag"
 peer_fault_line faults.UnexpectedRecord = codes "126 UnexpectedRecord"

@@ -2,11 +2,11 @@
 
 ghost use Rattle.std.specs.Prelude.{◌≡◌};
 ghost use Rattle.std.specs.Str.{bytes_eq};
-ghost use Rattle.node_links.specs.Judging.{is_coded, is_awaited, is_other, met_at, judged_node, heads_of, judged_match, judged_known, judged};
+ghost use Rattle.node_links.specs.Judging.{is_coded, is_awaited, wrong_number, is_other, met_at, judged_node, heads_of, judged_match, judged_known, judged};
 ghost use Rattle.node_links.specs.Knowing.{is_replaced};
 
 use crate::own::{Known, Met, Own};
-use crate::peer_fault::{Digests, Mismatch, PeerFault, Whose};
+use crate::peer_fault::{Digests, Mismatch, Numbers, PeerFault, Whose, WrongNumber};
 use byteorder::{BigEndian, ByteOrder};
 use peer_codes::{Ends, Hello, Life, Link, RecordFault};
 
@@ -35,6 +35,29 @@ fn is_awaited(number: u8, dialled: Option<u8>, ends: Ends) -> bool
     match dialled {
         Some(peer) => ends.to == number && ends.from == peer,
         None => ends.to == number && number < ends.from,
+    }
+}
+
+/// Which number is wrong where it isn't that node, or not to this one. Of a node that was dialled its own number comes first,
+/// since it tells where the dial led to; of one that dialled the number that it called.
+fn wrong_number(number: u8, dialled: Option<u8>, ends: Ends) -> WrongNumber
+    ensures { result ≡ wrong_number number dialled ends }
+{
+    let called = WrongNumber::Called(Numbers {
+        said: ends.to,
+        expected: number,
+    });
+    match dialled {
+        Some(peer) if ends.from == peer => called,
+        Some(peer) => WrongNumber::Speaker(Numbers {
+            said: ends.from,
+            expected: peer,
+        }),
+        None if ends.to != number => called,
+        None => WrongNumber::Caller(Numbers {
+            said: ends.from,
+            expected: number,
+        }),
     }
 }
 
@@ -108,10 +131,15 @@ pub(crate) fn judge_match(own: &Own, dialled: Option<u8>, hello: &Hello) -> Resu
         return Err(PeerFault::OtherMatch(Mismatch::Digest(heads_of(own, hello))));
     }
     if hello.ends.nodes != own.nodes {
-        return Err(PeerFault::OtherMatch(Mismatch::Nodes));
+        return Err(PeerFault::OtherMatch(Mismatch::Nodes(Numbers {
+            said: hello.ends.nodes,
+            expected: own.nodes,
+        })));
     }
     if !is_awaited(own.number, dialled, hello.ends) {
-        return Err(PeerFault::OtherMatch(Mismatch::Number));
+        return Err(PeerFault::OtherMatch(Mismatch::Number(wrong_number(
+            own.number, dialled, hello.ends,
+        ))));
     }
     Ok(())
 }

@@ -1,10 +1,12 @@
 ghost use Rattle.std.specs.Prelude.{◌≡◌, ◌≤◌, ◌+◌, ◌-◌, ◌++◌, ◌∷◌, [], None, Some, drop, length};
 ghost use Rattle.peer_codes.specs.declared.version.Version.TheVariants.{Second};
 ghost use Rattle.node_links.specs.Frames.{frame_of};
+ghost use Rattle.node_links.specs.Owing.{waits_in};
 ghost use Rattle.node_links.specs.Waiting.{newest, has_more, has_next, more_of, without_more, first_of, Puts};
 
 use crate::kept_frame::KeptFrame;
 use crate::lives::Lives;
+use crate::owed::Question;
 use crate::settings::Settings;
 use peer_codes::limits::MOST_FRAME;
 use peer_codes::{Beat, Frame, More, Version};
@@ -113,6 +115,15 @@ impl Outbox {
         ensures { result ≡ length self.now.frames }
     {
         self.frames.len()
+    }
+
+    /// Whether a frame waits that asks this.
+    pub(crate) fn asks(&self, question: Question) -> bool
+        ensures { result ≡ waits_in self.now.frames question }
+    {
+        self.frames
+            .iter()
+            .any(|frame| question.is_asked_by(frame.as_slice()))
     }
 
     /// Whether a record of a further kind waits that may be said on a connection of this version.

@@ -1,5 +1,5 @@
 ghost use Rattle.std.specs.Prelude.{◌≡◌, Some};
-ghost use Rattle.node_links.specs.Lines.{peer_fault_code, peer_fault_line, zeros, digests_line};
+ghost use Rattle.node_links.specs.Lines.{peer_fault_code, peer_fault_line, zeros, digests_line, numbers_of, between, wrong_number_line, mismatch_line};
 
 use peer_codes::RecordFault;
 use std::fmt;
@@ -16,15 +16,39 @@ pub struct Digests {
     pub there: u32,
 }
 
+/// Two numbers that differ, of nodes or of how many there are: one that came, and the one that was expected.
+#[derive(Clone, Copy, Debug, PartialEq, Eq)]
+pub struct Numbers {
+    /// What the other's Hello says.
+    pub said: u8,
+    /// What this node expected.
+    pub expected: u8,
+}
+
+/// Which number of a node that a Hello says isn't the expected one.
+///
+/// It prints the number that came, then the one that was expected.
+#[derive(Clone, Copy, Debug, PartialEq, Eq)]
+pub enum WrongNumber {
+    /// That of the node that speaks: this node dialled another.
+    Speaker(Numbers),
+    /// That of the node that is called: this node has another.
+    Called(Numbers),
+    /// That of the node that dialled: it isn't above this node's own, which is the second number.
+    Caller(Numbers),
+}
+
 /// In what two nodes differ that play different matches, or aren't those that they are taken for.
+///
+/// It prints the word for it, then what the two of them say.
 #[derive(Clone, Copy, Debug, PartialEq, Eq)]
 pub enum Mismatch {
     /// The setting of the match.
     Digest(Digests),
     /// How many nodes the match has.
-    Nodes,
+    Nodes(Numbers),
     /// Which node speaks, or to which.
-    Number,
+    Number(WrongNumber),
 }
 
 /// Whose store was lost and made anew.
@@ -74,6 +98,30 @@ impl PeerFault {
     }
 }
 
+impl WrongNumber {
+    /// The number that came, and the one that was expected.
+    fn numbers(self) -> Numbers
+        ensures { result ≡ numbers_of self }
+    {
+        match self {
+            WrongNumber::Speaker(numbers)
+            | WrongNumber::Called(numbers)
+            | WrongNumber::Caller(numbers) => numbers,
+        }
+    }
+
+    /// What is printed between them.
+    fn between(self) -> &'static str
+        ensures { result.now ≡ between self }
+    {
+        match self {
+            WrongNumber::Speaker(_) => ", not ",
+            WrongNumber::Called(_) => " called, not ",
+            WrongNumber::Caller(_) => ", not above ",
+        }
+    }
+}
+
 /// The zeros in front of a number's hexadecimal digits, so that there are eight.
 fn zeros(number: u32) -> &'static str
     ensures { result.now ≡ zeros number }
@@ -109,6 +157,30 @@ impl fmt::Display for Digests {
     }
 }
 
+impl fmt::Display for WrongNumber {
+    ghost output = { λ wrong. Some (wrong_number_line wrong) };
+
+    fn fmt<W: fmt::Write>(&self, f: &mut fmt::Formatter<W>) -> fmt::Result {
+        let Numbers { said, expected } = self.numbers();
+        let between = self.between();
+        write!(f, "{said}{between}{expected}")
+    }
+}
+
+impl fmt::Display for Mismatch {
+    ghost output = { λ what. Some (mismatch_line what) };
+
+    fn fmt<W: fmt::Write>(&self, f: &mut fmt::Formatter<W>) -> fmt::Result {
+        match self {
+            Mismatch::Digest(digests) => write!(f, "digest: {digests}"),
+            Mismatch::Nodes(Numbers { said, expected }) => {
+                write!(f, "nodes {said}, not {expected}")
+            }
+            Mismatch::Number(wrong) => write!(f, "number {wrong}"),
+        }
+    }
+}
+
 impl fmt::Display for PeerFault {
     ghost output = { λ fault. Some (peer_fault_line fault) };
 
@@ -117,11 +189,7 @@ impl fmt::Display for PeerFault {
             PeerFault::Record(RecordFault::BadLength) => f.write_str("120 BadLength"),
             PeerFault::Record(RecordFault::BadKind) => f.write_str("121 BadKind"),
             PeerFault::Record(RecordFault::BadHello) => f.write_str("122 BadHello"),
-            PeerFault::OtherMatch(Mismatch::Digest(digests)) => {
-                write!(f, "123 OtherMatch digest: {digests}")
-            }
-            PeerFault::OtherMatch(Mismatch::Nodes) => f.write_str("123 OtherMatch nodes"),
-            PeerFault::OtherMatch(Mismatch::Number) => f.write_str("123 OtherMatch number"),
+            PeerFault::OtherMatch(what) => write!(f, "123 OtherMatch {what}"),
             PeerFault::WrongProof => f.write_str("124 WrongProof"),
             PeerFault::WrongTag => f.write_str("125 WrongTag"),
             PeerFault::UnexpectedRecord => f.write_str("126 UnexpectedRecord"),
