@@ -8,7 +8,7 @@ use crate::lines::Came;
 use crate::link::line_at;
 use crate::peer::Peer;
 use crate::peers::Peers;
-use node_links::{Further, Lives, Question};
+use node_links::{Further, Lives, Subject};
 use node_wires::Wire;
 use node_wires::limits::STRANGERS;
 use peer_codes::{Beat, Hello};
@@ -19,7 +19,7 @@ pub(crate) fn take_frame(
     peers: &mut Vec<Peer>,
     from: u8,
     place: usize,
-    answered: Option<Question>,
+    answered: Option<Subject>,
     now: u64,
 )
     ensures { GoBack peers.old.items peers.new.items }

@@ -8,8 +8,10 @@
 //! Hello (`Peers::next`). Whatever wires give, what is promised of nodes holds. Peers tell each other the lives of stores that
 //! they know (`Lives` of `node_links`): of a node of which two are known no frame is told any more, and it is let go.
 //!
-//! `peers` has the public calls, `greeting`, `dialling`, `hearing`, `replacing`, `ending` and `writing` the rules, `knowing` which lives are known; `peer` what is known of one, with `measures`, what is measured of it; `lines` the connections by their lines and what waits to be told,
-//! over `links`, the connections of all places, and `link`, one of them; `saying` what one says.
+//! `peers` has the public calls, `greeting`, `dialling`, `hearing`, `replacing`, `ending` and `writing` the rules, `knowing`
+//! which lives are known; `peer` what is known of one, with `measures`, what is measured of it; `lines` the connections by
+//! their lines and what waits to be told, over `links`, the connections of all places, and `link`, one of them; `saying` what
+//! one says. Of a peer `dials` has how it is dialled, `frames` what goes to it, and `reports` what it is told of this node.
 #![tactic(auto)]
 
 mod dialling;

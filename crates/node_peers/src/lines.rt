@@ -23,7 +23,7 @@ use crate::notice::Notice;
 use crate::saying::Saying;
 use arrayvec::ArrayVec;
 use node_links::{
-    Connection, Further, KeptFrame, Met, Outbox, Own, PeerFault, Question, Settings, answered_in,
+    Connection, Further, KeptFrame, Met, Outbox, Own, PeerFault, Settings, Subject, answered_in,
 };
 use node_wires::limits::NODES;
 use node_wires::{Line, Passages, Wire};
@@ -58,20 +58,11 @@ pub(crate) enum Came {
     /// That this Hello is proved.
     Proved(Hello),
     /// A frame of this peer, which waits to be told, and what it answers.
-    Frame {
-        from: u8,
-        answered: Option<Question>,
-    },
+    Frame { from: u8, answered: Option<Subject> },
     /// How this peer is.
-    Beat {
-        from: u8,
-        beat: Beat,
-    },
+    Beat { from: u8, beat: Beat },
     /// What a record of a further kind of this peer tells.
-    Further {
-        from: u8,
-        further: Further,
-    },
+    Further { from: u8, further: Further },
     /// Something over a connection by which no peer is there any more.
     Nothing,
 }
