@@ -35,6 +35,8 @@ struct Table {
     seats: Seats,
     /// Whether who sits there has named the version.
     greeted: bool,
+    /// The seats at which nobody is taken in, a bit each.
+    closed: u16,
 }
 
 /// Whether this is the address of all who come over wires in memory.
@@ -52,6 +54,7 @@ fn two_seats(alloc: Global) -> Result<Table, AllocError> {
         wire: MemoryWire::new(alloc, 0)?,
         seats: Seats::new(alloc, 2, Some(tokens))?,
         greeted: false,
+        closed: 0,
     })
 }
 
@@ -61,6 +64,7 @@ fn open_seats(alloc: Global) -> Result<Table, AllocError> {
         wire: MemoryWire::new(alloc, 0)?,
         seats: Seats::new(alloc, 2, None)?,
         greeted: false,
+        closed: 0,
     })
 }
 
@@ -69,7 +73,10 @@ impl Table {
     /// one, 4 a refusal with its address, the length of a piece, 0 nothing.
     fn hears(&mut self, now: u64) -> u64 {
         for at in 0..self.seats.looks() {
-            match self.seats.next(&mut self.wire, at, self.greeted, now) {
+            match self
+                .seats
+                .next(&mut self.wire, at, self.greeted, self.closed, now)
+            {
                 Some(SeatNotice::Came { seat }) => return seat as u64 + 1,
                 Some(SeatNotice::Gone { seat: _ }) => return 3,
                 Some(SeatNotice::Refused { seat: _, source }) => {
@@ -280,6 +287,43 @@ fn a_seat_is_taken_over(rt: HostRuntime) -> Result<(), Fail> {
     }
     assert!(rt; table.seats.flush(&mut table.wire).is_none());
     assert_bytes(&rt, table.wire.written(Line::Seat(0)), b"#OVER\r\n");
+    Ok(())
+}
+
+/// Who comes to the port of a closed seat waits there; at another seat a bot is taken in.
+#[test]
+fn nobody_is_taken_in_at_a_closed_seat(rt: HostRuntime) -> Result<(), Fail> {
+    let mut table = open_seats(rt.alloc())?;
+    table.closed = 1;
+    for seat in 0..2u8 {
+        table.wire.come_to_seat(seat);
+    }
+    table.assert_hears(&rt, 0, 2);
+    assert_number(&rt, table.seats.taken_bits() as u64, 2);
+    table.assert_hears(&rt, 0, 0);
+    table.closed = 2;
+    table.assert_hears(&rt, 0, 1);
+    assert_number(&rt, table.seats.taken_bits() as u64, 3);
+    Ok(())
+}
+
+/// At a closed seat the bot makes room for who shows the token, and he stays a guest until the seat is open again.
+#[test]
+fn a_guest_waits_for_a_closed_seat(rt: HostRuntime) -> Result<(), Fail> {
+    let mut table = two_seats(rt.alloc())?;
+    for _ in 0..2u64 {
+        assert_number(&rt, table.comes(0, 0, FIRST, 0)?, 0);
+        table.wire.come(Line::Guest(0), b"\n")?;
+        table.closed = table.seats.taken_bits();
+        if table.closed == 1 {
+            table.assert_hears(&rt, 0, 3);
+            table.assert_hears(&rt, 60_000_000, 0);
+            assert!(rt; table.stands(0));
+            table.closed = 0;
+        }
+        table.assert_hears(&rt, 60_000_000, 1);
+        assert!(rt; !table.stands(0));
+    }
     Ok(())
 }
 

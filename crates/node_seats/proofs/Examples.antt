@@ -4,7 +4,7 @@ use Rattle.std.specs.Prelude.{codes, Some, None}
 use Rattle.std.proofs.lemmas.List.{length-append}
 use Rattle.sha2.specs.Sha256.{sha256}
 use Rattle.node_wires.specs.declared.line.Line.TheVariants.{Guest, Seat}
-use Rattle.node_wires.specs.Passages.{Passage, Began, Came, Wrote, Gave}
+use Rattle.node_wires.specs.Passages.{Passage, Began, Came, Wrote, Gave, came_over}
 use Rattle.node_seats.specs.declared.token_digest.TokenDigest.{TokenDigest}
 use Rattle.node_seats.specs.declared.seat_notice.SeatNotice.TheVariants as notices
 use Rattle.node_seats.specs.Lines.{line_of}
@@ -13,11 +13,12 @@ use Rattle.node_seats.specs.Writing.{AreToSeats, WritesToSeats}
 use Rattle.node_seats.specs.Tokens.{is_token_digit, IsTokenLine}
 use Rattle.node_seats.specs.Guesting.{ShowsToken, IsToldOf, IsGuested, Passes}
 use Rattle.node_seats.specs.declared.seat.Seat.{Seat as SeatOf}
-use Rattle.node_seats.specs.Seating.{newcomer}
+use Rattle.node_seats.specs.Seating.{newcomer, nobody, KeepsClosed}
+use Rattle.node_seats.specs.Telling.{IsAsked, AreSaid}
 use Rattle.node_seats.specs.Hurrying.{HasTime, Hurries}
 use Rattle.node_seats.specs.declared.words.Asked.{Asked}
 use Rattle.node_seats.specs.declared.words.Asked.TheVariants as asks
-use Rattle.node_seats.specs.Words.{read_of}
+use Rattle.node_seats.specs.Words.{Reading, fresh, read_of}
 use Rattle.node_seats.proofs.Tokens.{token_length}
 
 end_of_a_line : line_of (65 ∷ []) ≡ 65 ∷ 13 ∷ 10 ∷ []
@@ -78,6 +79,13 @@ none_for_seat_2 came shows = omega (arith, shows.has_one)
 -- a bot that is taken in without tokens isn't let in with them
 pub not_taken_in : (old : List Passage) → IsGuested (Some tokens) (Some (notices.Came 1)) old [] → ⊥
 not_taken_in old seated = omega (arith, ap length seated.given ∙ length-append seated.front (Gave seated.place 1 ∷ []))
+
+-- of the seats 0 and 2, which are closed, and of seat 1
+open_at_seat_1 : KeepsClosed 5 (Some (notices.Came 1))
+open_at_seat_1 = refl
+
+taken_in_at_seat_2 : KeepsClosed 5 (Some (notices.Came 2)) → ⊥
+taken_in_at_seat_2 none = absurd (cc none)
 
 -- ---- what is told of guests
 
@@ -154,3 +162,36 @@ asks_by_a_line = refl
 
 asks_twice : asked_by_all (codes "#RESUME FIRST\r\n#RESUME NEWEST\r\n") ≡ asks.Other
 asks_twice = refl
+
+-- ---- what is known of a bot
+
+-- one that showed its token asks in two pieces: what came of it behind the token is all that is read
+abbrev pub asked_in_two : List Passage
+asked_in_two = said ++ Gave 3 1 ∷ Came (Seat 1) (codes "#RESUME F") ∷ Came (Seat 1) (codes "IRST\r\n") ∷ []
+
+came_behind_its_token : came_over asked_in_two (Seat 1) ≡ codes "#RESUME FIRST\r\n"
+came_behind_its_token = refl
+
+abbrev pub asks_first : Reading
+asks_first = record { line = []; named = codes "FIRST"; asked = asks.First; is_over = false }
+
+read_off_both : IsAsked (came_over asked_in_two (Seat 1)) asks_first
+read_off_both = refl
+
+-- the first piece isn't forgotten
+second_piece_alone : IsAsked (came_over asked_in_two (Seat 1)) (read_of (codes "IRST\r\n")) → ⊥
+second_piece_alone is = let over : true ≡ false = ap (λ (r : Reading). r.is_over) is in absurd (cc over)
+
+-- and of who sat there before nothing is kept, by whichever way the next one came
+next_one_asked_nothing : IsAsked (came_over (asked_in_two ++ Gave 4 1 ∷ []) (Seat 1)) fresh
+next_one_asked_nothing = refl
+
+asked_by_who_sat_there : IsAsked (came_over (asked_in_two ++ Began (Seat 1) ∷ []) (Seat 1)) asks_first → ⊥
+asked_by_who_sat_there is = let asked : asks.First ≡ asks.Nothing = ap (λ (r : Reading). r.asked) is in absurd (cc asked)
+
+-- a seat whose bot is told nothing yet, and asked so
+abbrev pub seat_of : Reading → SeatOf
+seat_of words = record { bot = record { sits = true; words = words; telling = None; parting = None }; since = None; waiting = record { waiting = []; room = 0 } }
+
+its_words_are_lost : AreSaid asked_in_two (nobody ∷ seat_of fresh ∷ []) → ⊥
+its_words_are_lost are = let asked : asks.Nothing ≡ asks.First = ap (λ (r : Reading). r.asked) (are 1).1 in absurd (cc asked)

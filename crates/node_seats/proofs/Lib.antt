@@ -8,5 +8,6 @@ pub mod Seating
 pub mod Hurrying
 pub mod SeatBits
 pub mod Coming
+pub mod Asking
 pub mod Telling
 mod Examples

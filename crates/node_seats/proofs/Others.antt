@@ -77,7 +77,7 @@ pub wrote_both : (line : Line) (before : List ℕ) (xs ys : List Passage) → wr
 wrote_both line before [] ys = refl
 wrote_both line before (x ∷ xs) ys = wrote_both line (wrote_by line before x) xs ys
 
-came_both : (line : Line) (before : List ℕ) (xs ys : List Passage) → came_behind line before (xs ++ ys) ≡ came_behind line (came_behind line before xs) ys
+pub came_both : (line : Line) (before : List ℕ) (xs ys : List Passage) → came_behind line before (xs ++ ys) ≡ came_behind line (came_behind line before xs) ys
 came_both line before [] ys = refl
 came_both line before (x ∷ xs) ys = came_both line (came_by line before x) xs ys
 

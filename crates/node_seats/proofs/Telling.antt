@@ -1,4 +1,4 @@
--- What was told to seats is what is written to them, call by call.
+-- What was told to seats is what is written to them, and what they asked is what came of them, call by call.
 use Rattle.std.proofs.Common.{◌≡◌, ◌≢◌, inl, inr, ℕ, ◌<◌, ◌≤◌, ◌+◌, ◌==◌, Bool, true, false, if◌then◌else◌, List, [], ◌∷◌, ◌++◌, append_assoc, append-nil, length, set, get_or, refl, ap, sym, subst, ◌∙◌, arith}
 use Rattle.std.proofs.lemmas.Bool.{cond-true, cond-false, eq-eqb, ne_eqb}
 use Rattle.std.proofs.lemmas.Bool.Decides.{eqb_tells}
@@ -8,7 +8,7 @@ use Rattle.slot_log.specs.Hand.{Match}
 use Rattle.line_cursor.specs.declared.cursor.Cursor.{Cursor}
 use Rattle.line_cursor.specs.Cursors.{next_cursor}
 use Rattle.node_wires.specs.declared.line.Line.TheVariants.{Peer, Caller, Seat as SeatOf, Guest, Asker}
-use Rattle.node_wires.specs.Passages.{Passage, Began, Came, Wrote, Gave, Logged, wrote_behind, wrote_over}
+use Rattle.node_wires.specs.Passages.{Passage, Began, Came, Wrote, Gave, Logged, came_over, wrote_behind, wrote_over}
 use Rattle.node_seats.specs.declared.bot.Bot.{Bot}
 use Rattle.node_seats.specs.declared.bot.Parting.{Parting}
 use Rattle.node_seats.specs.declared.bot.Telling.{Telling}
@@ -18,14 +18,15 @@ use Rattle.node_seats.specs.declared.seat_notice.SeatNotice.{SeatNotice}
 use Rattle.node_seats.specs.declared.seat_notice.SeatNotice.TheVariants as notices
 use Rattle.node_seats.specs.declared.token_digest.TokenDigest.{TokenDigest}
 use Rattle.node_seats.specs.Lines.{line_of}
-use Rattle.node_seats.specs.Passing.{AreOfGuests, TakesNobody, passed_by}
+use Rattle.node_seats.specs.Passing.{AreOfGuests, HearsNothing, passed_by}
 use Rattle.node_seats.specs.Guesting.{IsGuested, behind_by}
-use Rattle.node_seats.specs.Writing.{Writes}
+use Rattle.node_seats.specs.Writing.{Writes, WritesToSeats}
 use Rattle.node_seats.specs.Coming.{Comes, tokens_of, passed_of}
 use Rattle.node_seats.specs.Seating.{nobody, no_bot, gone, heard, waits_at, sits_at, bot_at, Follows, Changes, Flushes}
 use Rattle.node_seats.specs.Telling.{texts_in, lines_of, text_of, text_told, parting_line, parting_text, text_for, IsSaid, AreSaid, TellsFrom, telling_from, Told, TellsOn, TellsMore, TellsBot, SaysMore, SaysAt, Loses}
 use Rattle.node_seats.proofs.Seating.{waits_here}
 use Rattle.node_seats.proofs.Others.{wrote_both}
+use Rattle.node_seats.proofs.Asking.{asked_coming, asked_leaving, asked_telling, nothing_came}
 
 -- ---- lines off a table
 
@@ -92,6 +93,7 @@ says_nothing old new waits_old waits_new e f = record {
   text = ap text_for e ∙ sym (append-nil (text_for old));
   waits = f ∙ sym (append-nil waits_old);
   sits = ap (λ (b : Bot). b.sits) e;
+  words = ap (λ (b : Bot). b.words) e;
 }
 
 -- it is told lines from here on
@@ -102,6 +104,7 @@ says_begun old new at waits_old waits_new none e f = record {
   text = ap text_for e ∙ (ap (λ (t : Option Telling). text_told t ++ parting_text old.parting) (sym none) ∙ sym (append-nil (text_for old)));
   waits = f ∙ sym (append-nil waits_old);
   sits = ap (λ (b : Bot). b.sits) e;
+  words = ap (λ (b : Bot). b.words) e;
 }
 
 -- it is told lines
@@ -120,6 +123,7 @@ says_told table seat old new before after waits_old waits_new sits is none e tel
       (sym (append-nil (text_of (lines_of before))) ∙ (ap (λ (p : Option Parting). text_of (lines_of before) ++ parting_text p) (sym none) ∙ ap (λ (t : Option Telling). text_told t ++ parting_text old.parting) (sym is)))))));
   waits = tells.waits;
   sits = ap (λ (b : Bot). b.sits) e;
+  words = ap (λ (b : Bot). b.words) e;
 }
 
 pub says_parted : (parting : Parting) (old new : Bot) (waits_old waits_new : List ℕ) → old.sits ≡ true → old.parting ≡ None → new ≡ record old { parting = Some parting } → waits_new ≡ waits_old ++ line_of (parting_line parting)
@@ -130,6 +134,7 @@ says_parted parting old new waits_old waits_new sits none e waits = record {
   text = ap text_for e ∙ ap (λ (t : List ℕ). t ++ line_of (parting_line parting)) (sym (append-nil (text_told old.telling)) ∙ ap (λ (p : Option Parting). text_told old.telling ++ parting_text p) (sym none));
   waits = waits;
   sits = ap (λ (b : Bot). b.sits) e;
+  words = ap (λ (b : Bot). b.words) e;
 }
 
 more_none : (table : Match) (seat : ℕ) (telling : Option Telling) → TellsMore table seat telling telling
@@ -183,12 +188,12 @@ WroteBy (Some (notices.Piece number bytes)) seat old new = new ≡ old
 WroteBy (Some (notices.Gone number)) seat old new = new ≡ old
 WroteBy (Some (notices.Refused number source)) seat old new = new ≡ old
 
-nobody_writes : (notice : Option SeatNotice) (seat : ℕ) (old new : List ℕ) → TakesNobody notice → new ≡ old → WroteBy notice seat old new
-nobody_writes None seat old new takes e = e
-nobody_writes (Some (notices.Came number)) seat old new takes e = absurd takes
-nobody_writes (Some (notices.Piece number bytes)) seat old new takes e = e
-nobody_writes (Some (notices.Gone number)) seat old new takes e = e
-nobody_writes (Some (notices.Refused number source)) seat old new takes e = e
+nobody_writes : (notice : Option SeatNotice) (seat : ℕ) (old new : List ℕ) → HearsNothing notice → new ≡ old → WroteBy notice seat old new
+nobody_writes None seat old new hears e = e
+nobody_writes (Some (notices.Came number)) seat old new hears e = absurd hears
+nobody_writes (Some (notices.Piece number bytes)) seat old new hears e = absurd hears
+nobody_writes (Some (notices.Gone number)) seat old new hears e = e
+nobody_writes (Some (notices.Refused number source)) seat old new hears e = absurd hears
 
 by_guests : (seat : ℕ) (before : List ℕ) (ps : List Passage) → AreOfGuests ps → wrote_behind (SeatOf seat) before ps ≡ before
 by_guests seat before [] are = refl
@@ -275,17 +280,21 @@ comes_at (Some (notices.Gone number)) seat passed_old passed_new old new wrote w
 pub said_coming : (notice : Option SeatNotice) (old new : Seats) (wired_old wired_new : List Passage) → Comes notice old new wired_old wired_new → AreSaid wired_old old.seats.items → AreSaid wired_new new.seats.items
 said_coming notice old new wired_old wired_new comes are seat =
     let wrote : wrote_over wired_new (SeatOf seat) ≡ wrote_behind (SeatOf seat) (wrote_over wired_old (SeatOf seat)) (comes.passes.more ++ behind_by (tokens_of old) notice) =
-    ap (λ (ps : List Passage). wrote_over ps (SeatOf seat)) comes.passes.wired ∙ wrote_both (SeatOf seat) [] wired_old (comes.passes.more ++ behind_by (tokens_of old) notice) in
-    comes_at notice seat wired_old wired_new old.seats.items new.seats.items
-    (subst (λ (w : List ℕ). WroteBy notice seat (wrote_over wired_old (SeatOf seat)) w) (sym wrote)
-    (by_more (tokens_of old) notice (passed_of old) comes.passes.more seat (wrote_over wired_old (SeatOf seat)) comes.passes.guested))
-    comes.waits comes.sits (are seat)
+    ap (λ (ps : List Passage). wrote_over ps (SeatOf seat)) comes.passes.wired ∙ wrote_both (SeatOf seat) [] wired_old (comes.passes.more ++ behind_by (tokens_of old) notice) in (
+      comes_at notice seat wired_old wired_new old.seats.items new.seats.items
+          (subst (λ (w : List ℕ). WroteBy notice seat (wrote_over wired_old (SeatOf seat)) w) (sym wrote)
+          (by_more (tokens_of old) notice (passed_of old) comes.passes.more seat (wrote_over wired_old (SeatOf seat)) comes.passes.guested))
+          comes.waits comes.sits (are seat).0,
+      asked_coming notice old new wired_old wired_new comes seat (are seat).1,
+    )
 
-pub said_leaving : (notice : Option SeatNotice) (wired_old wired_new : List Passage) (old new : List Seat) → TakesNobody notice → wired_new ≡ wired_old → Follows notice old new → Changes notice old new → AreSaid wired_old old
+pub said_leaving : (notice : Option SeatNotice) (wired_old wired_new : List Passage) (old new : List Seat) → HearsNothing notice → wired_new ≡ wired_old → Follows notice old new → Changes notice old new → AreSaid wired_old old
     → AreSaid wired_new new
-said_leaving notice wired_old wired_new old new takes same waits sits are seat =
-    comes_at notice seat wired_old wired_new old new (nobody_writes notice seat (wrote_over wired_old (SeatOf seat)) (wrote_over wired_new (SeatOf seat)) takes (ap (λ (ps : List Passage). wrote_over ps (SeatOf seat)) same)) waits sits
-    (are seat)
+said_leaving notice wired_old wired_new old new hears same waits sits are seat = (
+  comes_at notice seat wired_old wired_new old new (nobody_writes notice seat (wrote_over wired_old (SeatOf seat)) (wrote_over wired_new (SeatOf seat)) hears (ap (λ (ps : List Passage). wrote_over ps (SeatOf seat)) same)) waits
+      sits (are seat).0,
+  asked_leaving notice seat wired_old wired_new old new hears (ap (λ (ps : List Passage). came_over ps (SeatOf seat)) same) sits (are seat).1,
+)
 
 moved_at : (seat : ℕ) (passed_old passed_new : List Passage) (old new : List Seat) (bot : Bot) → bot_at new seat ≡ bot → bot.sits ≡ sits_at old seat → text_for bot ≡ text_for (bot_at old seat)
     → wrote_over passed_new (SeatOf seat) ++ waits_at new seat ≡ wrote_over passed_old (SeatOf seat) ++ waits_at old seat → SaidAt seat passed_old old → SaidAt seat passed_new new
@@ -301,25 +310,25 @@ lost_at seat passed_old passed_new old new lost e loses is =
     (ap (λ (b : Bot). b.sits) e) refl refl (ap text_for e)
     (said_lost (sits_at old seat) (wrote_over passed_old (SeatOf seat)) (waits_at old seat) (wrote_over passed_new (SeatOf seat)) (waits_at new seat) lost (text_for (bot_at old seat)) loses is)
 
-flushed_at : (notice : Option SeatNotice) (seat : ℕ) (passed_old passed_new : List Passage) (old new : List Seat) → TakesNobody notice → Flushes notice old new passed_old passed_new → Changes notice old new
+flushed_at : (notice : Option SeatNotice) (seat : ℕ) (passed_old passed_new : List Passage) (old new : List Seat) → HearsNothing notice → Flushes notice old new passed_old passed_new → Changes notice old new
     → Loses notice old new passed_old passed_new → SaidAt seat passed_old old → SaidAt seat passed_new new
-flushed_at None seat passed_old passed_new old new takes said sits loses is = moved_at seat passed_old passed_new old new (bot_at old seat) (sits seat) refl refl (said seat (λ never. never)) is
-flushed_at (Some (notices.Piece number bytes)) seat passed_old passed_new old new takes said sits loses is = elim (eqb_tells seat number) as (λ _. SaidAt seat passed_new new) [
-  | inl here ↦ moved_at seat passed_old passed_new old new (heard bytes.items (bot_at old seat)) (subst (λ (n : ℕ). bot_at new n ≡ heard bytes.items (bot_at old n)) (sym here.1) sits.0) refl refl (said seat (λ never. never)) is
-  | inr there ↦ moved_at seat passed_old passed_new old new (bot_at old seat) (sits.1 seat there.1) refl refl (said seat (λ never. never)) is
-]
-flushed_at (Some (notices.Refused number source)) seat passed_old passed_new old new takes said sits loses is = absurd takes
-flushed_at (Some (notices.Came number)) seat passed_old passed_new old new takes said sits loses is = absurd takes
-flushed_at (Some (notices.Gone number)) seat passed_old passed_new old new takes said sits loses is = elim (eqb_tells seat number) as (λ _. SaidAt seat passed_new new) [
+flushed_at None seat passed_old passed_new old new hears said sits loses is = moved_at seat passed_old passed_new old new (bot_at old seat) (sits seat) refl refl (said seat (λ never. never)) is
+flushed_at (Some (notices.Piece number bytes)) seat passed_old passed_new old new hears said sits loses is = absurd hears
+flushed_at (Some (notices.Refused number source)) seat passed_old passed_new old new hears said sits loses is = absurd hears
+flushed_at (Some (notices.Came number)) seat passed_old passed_new old new hears said sits loses is = absurd hears
+flushed_at (Some (notices.Gone number)) seat passed_old passed_new old new hears said sits loses is = elim (eqb_tells seat number) as (λ _. SaidAt seat passed_new new) [
   | inl here ↦
       let lost = loses seat here.1 in
       lost_at seat passed_old passed_new old new lost.0 (subst (λ (n : ℕ). bot_at new n ≡ gone (bot_at old n)) (sym here.1) sits.0) lost.1 is
   | inr there ↦ moved_at seat passed_old passed_new old new (bot_at old seat) (sits.1 seat there.1) refl refl (said seat there.1) is
 ]
 
-pub said_flushed : (notice : Option SeatNotice) (wired_old wired_new : List Passage) (old new : List Seat) → TakesNobody notice → Flushes notice old new wired_old wired_new → Changes notice old new
-    → Loses notice old new wired_old wired_new → AreSaid wired_old old → AreSaid wired_new new
-said_flushed notice wired_old wired_new old new takes said sits loses are seat = flushed_at notice seat wired_old wired_new old new takes said sits loses (are seat)
+pub said_flushed : (notice : Option SeatNotice) (wired_old wired_new : List Passage) (old new : List Seat) → HearsNothing notice → Flushes notice old new wired_old wired_new → Changes notice old new
+    → Loses notice old new wired_old wired_new → WritesToSeats wired_old wired_new → AreSaid wired_old old → AreSaid wired_new new
+said_flushed notice wired_old wired_new old new hears said sits loses writes are seat = (
+  flushed_at notice seat wired_old wired_new old new hears said sits loses (are seat).0,
+  asked_leaving notice seat wired_old wired_new old new hears (nothing_came wired_old wired_new (SeatOf seat) writes) sits (are seat).1,
+)
 
 -- more is told of one seat
 said_more : (sits : Bool) (wrote waits more : List ℕ) (text : List ℕ) → IsSaid sits wrote waits text → (sits ≡ false → more ≡ []) → IsSaid sits wrote (waits ++ more) (text ++ more)
@@ -329,20 +338,23 @@ said_more false wrote waits more text is none =
     let nothing : more ≡ [] = none refl in
     said_as false false wrote wrote waits (waits ++ more) text (text ++ more) refl refl (ap (λ (m : List ℕ). waits ++ m) nothing ∙ append-nil waits) (ap (λ (m : List ℕ). text ++ m) nothing ∙ append-nil text) is
 
-pub said_telling : (number : ℕ) (old new : List Seat) → SaysAt number old new → (passed : List Passage) → AreSaid passed old → AreSaid passed new
-said_telling number old new says passed are seat =
+said_telling_at : (number : ℕ) (old new : List Seat) → SaysAt number old new → (passed : List Passage) (seat : ℕ) → SaidAt seat passed old → SaidAt seat passed new
+said_telling_at number old new says passed seat is =
     elim (eqb_tells seat number) as (λ _. SaidAt seat passed new) [
       | inl here ↦
           subst (λ (n : ℕ). SaidAt n passed new) (sym here.1)
           (said_as (sits_at old number) (sits_at new number) (wrote_over passed (SeatOf number)) (wrote_over passed (SeatOf number)) (waits_at old number ++ says.here.more) (waits_at new number) (text_for (bot_at old number) ++ says.here.more)
           (text_for (bot_at new number)) says.here.sits refl says.here.waits says.here.text
-          (said_more (sits_at old number) (wrote_over passed (SeatOf number)) (waits_at old number) says.here.more (text_for (bot_at old number)) (are number) says.here.none))
-      | inr there ↦ stays_at seat passed passed old new (says.bots seat there.1) refl (says.others seat there.1) (are seat)
+          (said_more (sits_at old number) (wrote_over passed (SeatOf number)) (waits_at old number) says.here.more (text_for (bot_at old number)) (subst (λ (n : ℕ). SaidAt n passed old) here.1 is) says.here.none))
+      | inr there ↦ stays_at seat passed passed old new (says.bots seat there.1) refl (says.others seat there.1) is
     ]
+
+pub said_telling : (number : ℕ) (old new : List Seat) → SaysAt number old new → (passed : List Passage) → AreSaid passed old → AreSaid passed new
+said_telling number old new says passed are seat = (said_telling_at number old new says passed seat (are seat).0, asked_telling number old new says passed seat (are seat).1)
 
 -- nothing is told yet
 pub said_first : (seats : List Seat) → ((seat : ℕ) → waits_at seats seat ≡ []) → ((seat : ℕ) → bot_at seats seat ≡ no_bot) → AreSaid [] seats
-said_first seats none nobody seat = anew_at seat [] seats (ap text_for (nobody seat)) refl (none seat)
+said_first seats none nobody seat = (anew_at seat [] seats (ap text_for (nobody seat)) refl (none seat), ap (λ (b : Bot). b.words) (nobody seat))
 
 -- whoever sits there is let go of behind what was written
 pub loses_it : (number : ℕ) (seats : List Seat) (old new : Seat) (waiting : List ℕ) (passed_old passed passed_new : List Passage) → number < length seats → old ≡ get_or seats number old

@@ -44,6 +44,14 @@ TakesNobody (Some (notices.Gone seat)) = Unit {0}
 TakesNobody (Some (notices.Refused seat source)) = ⊥
 TakesNobody (Some (notices.Came seat)) = ⊥
 
+-- and nothing came: at most one who sat there is gone
+abbrev pub HearsNothing : Option SeatNotice → Type 0
+HearsNothing None = Unit {0}
+HearsNothing (Some (notices.Gone seat)) = Unit {0}
+HearsNothing (Some (notices.Piece seat bytes)) = ⊥
+HearsNothing (Some (notices.Refused seat source)) = ⊥
+HearsNothing (Some (notices.Came seat)) = ⊥
+
 -- ---- guests
 
 abbrev pub IsGuests : Line → Type 0

@@ -1,5 +1,6 @@
 -- What waits for the bots of seats, call by call.
 use Rattle.std.specs.Prelude.{◌≡◌, ◌≢◌, ℕ, ◌&&◌, not, Bool, true, false, List, [], ◌++◌, get_or, Option, Some, None, is_none}
+use Rattle.std.specs.Int.{bit_at}
 use Rattle.node_wires.specs.declared.line.Line.TheVariants.{Seat as SeatOf}
 use Rattle.node_wires.specs.Passages.{Passage, wrote_over}
 use Rattle.node_seats.specs.declared.bot.Bot.{Bot}
@@ -94,6 +95,14 @@ Sits (Some (notices.Piece number bytes)) old new = new ≡ heard bytes.items old
 Sits (Some (notices.Refused number source)) old new = new ≡ old
 Sits (Some (notices.Came number)) old new = (old.sits ≡ false) × (new ≡ newcomer)
 Sits (Some (notices.Gone number)) old new = new ≡ gone old
+
+-- nobody was taken in at a closed seat, one whose bit is set
+abbrev pub KeepsClosed : ℕ → Option SeatNotice → Type 0
+KeepsClosed closed None = Unit {0}
+KeepsClosed closed (Some (notices.Piece number bytes)) = Unit {0}
+KeepsClosed closed (Some (notices.Refused number source)) = Unit {0}
+KeepsClosed closed (Some (notices.Came number)) = bit_at closed number ≡ 0
+KeepsClosed closed (Some (notices.Gone number)) = Unit {0}
 
 -- of this seat something was told
 abbrev pub IsOf : Option SeatNotice → ℕ → Type 0

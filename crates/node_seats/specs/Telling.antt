@@ -1,11 +1,11 @@
--- What the bots of seats are told, and what of it is written to them.
+-- What the bots of seats are told, what of it is written to them, and what they asked.
 use Rattle.std.specs.Prelude.{◌≡◌, ◌⊎◌, ℕ, ◌≤◌, Bool, true, false, List, [], ◌∷◌, ◌++◌, length, codes, Option, Some, None, IfSome}
 use Rattle.slot_log.specs.Hand.{Match}
 use Rattle.line_cursor.specs.declared.cursor.Cursor.{Cursor}
 use Rattle.line_cursor.specs.Past.{seat_line_at}
 use Rattle.line_cursor.specs.Cursors.{next_cursor}
 use Rattle.node_wires.specs.declared.line.Line.TheVariants.{Seat as SeatOf}
-use Rattle.node_wires.specs.Passages.{Passage, Began, Came, Wrote, Gave, Logged, wrote_over}
+use Rattle.node_wires.specs.Passages.{Passage, Began, Came, Wrote, Gave, Logged, came_over, wrote_over}
 use Rattle.node_seats.specs.declared.limits.TheConstants.{BACKLOG}
 use Rattle.node_seats.specs.declared.bot.Bot.{Bot}
 use Rattle.node_seats.specs.declared.bot.Parting.{Parting}
@@ -14,6 +14,7 @@ use Rattle.node_seats.specs.declared.bot.Telling.{Telling}
 use Rattle.node_seats.specs.declared.seat.Seat.{Seat}
 use Rattle.node_seats.specs.declared.seat_notice.SeatNotice.{SeatNotice}
 use Rattle.node_seats.specs.Lines.{line_of}
+use Rattle.node_seats.specs.Words.{Reading, read_of}
 use Rattle.node_seats.specs.Seating.{waits_at, sits_at, bot_at, IsOf}
 
 -- ---- the lines that a bot was told
@@ -55,8 +56,14 @@ text_for bot = text_told bot.telling ++ parting_text bot.parting
 abbrev pub IsSaid : Bool → (wrote waits : List ℕ) → List ℕ → Type 0
 IsSaid sits wrote waits text = (lost : List ℕ) × ((text ≡ (wrote ++ waits) ++ lost) × (sits ≡ true → lost ≡ []))
 
+-- what a bot asked is read off all that came over the connection that its seat's line has, or had last
+abbrev pub IsAsked : (came : List ℕ) → Reading → Type 0
+IsAsked came words = words ≡ read_of came
+
+-- so it is with what was said over the line of each seat, by its bot and to it
 abbrev pub AreSaid : List Passage → List Seat → Type 0
-AreSaid passed seats = (seat : ℕ) → IsSaid (sits_at seats seat) (wrote_over passed (SeatOf seat)) (waits_at seats seat) (text_for (bot_at seats seat))
+AreSaid passed seats =
+    (seat : ℕ) → IsSaid (sits_at seats seat) (wrote_over passed (SeatOf seat)) (waits_at seats seat) (text_for (bot_at seats seat)) × IsAsked (came_over passed (SeatOf seat)) (bot_at seats seat).words
 
 -- ---- off a table
 
@@ -123,13 +130,14 @@ MayPart Other bot = (bot.telling ≡ None) × (bot.words.is_over ≡ true)
 abbrev pub Parts : Parting → (old new : Bot) → Type 0
 Parts parting old new = (new ≡ old) ⊎ ((old.parting ≡ None) × (MayPart parting old × (new ≡ record old { parting = Some parting })))
 
--- what a bot is told more waits for it, behind the rest; one that is gone is told nothing
+-- what a bot is told more waits for it, behind the rest, and what it asked stays; one that is gone is told nothing
 pub record SaysMore (old new : Bot) (waits_old waits_new : List ℕ) : Type 0 where
   pub more : List ℕ
   pub none : old.sits ≡ false → more ≡ []
   pub text : text_for new ≡ text_for old ++ more
   pub waits : waits_new ≡ waits_old ++ more
   pub sits : new.sits ≡ old.sits
+  pub words : new.words ≡ old.words
 
 -- the same of one of the seats, and nothing of the others
 pub record SaysAt (number : ℕ) (old new : List Seat) : Type 0 where

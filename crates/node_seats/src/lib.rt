@@ -4,7 +4,8 @@
 //! end. Who asks each of them (`looks`) once a turn takes no more of one seat than one piece. `begin` says from which line on a
 //! bot is told the lines of its seat, `tell` tells those to which a table has come, and `part` what comes behind the last;
 //! `flush` writes what waits. From which line on a bot asks to be told is read of what it says before the version (`asked`).
-//! A seat has one bot at a time: who comes meanwhile waits in the system's queue.
+//! A seat has one bot at a time: who comes meanwhile waits in the system's queue. So does who comes to a seat that the caller
+//! closes for a call of `next`.
 //!
 //! Where seats have tokens, who comes to a seat's port is a guest first: his first line is to be `#TOKEN ` and the 64
 //! hexadecimal digits whose SHA-256 is the seat's `TokenDigest`. Then he is the seat's bot, in place of the one that sits

@@ -2,11 +2,11 @@ ghost use Rattle.std.specs.Prelude.{◌≡◌, ◌≢◌, ◌++◌, ◌+◌, ◌
 ghost use Rattle.std.specs.Int.{bit_at};
 ghost use Rattle.node_wires.specs.declared.line.Line.TheVariants.{Guest as GuestAt};
 ghost use Rattle.node_wires.specs.Passages.{Passage, came_over, seats_in, logged_in};
-ghost use Rattle.node_seats.specs.Passing.{Passed, TakesNobody, passed_by};
+ghost use Rattle.node_seats.specs.Passing.{Passed, HearsNothing, passed_by, seat_of};
 ghost use Rattle.node_seats.specs.Guesting.{IsToldOf, Passes};
 ghost use Rattle.node_seats.specs.Others.{KeepsOthers, TellsNoGuest};
 ghost use Rattle.node_seats.specs.Writing.{WritesToSeats};
-ghost use Rattle.node_seats.specs.Seating.{Follows, Changes, bit_of, waits_at, bot_at, sits_at, is_silent, no_bot, KeepsOtherBots};
+ghost use Rattle.node_seats.specs.Seating.{Follows, Changes, KeepsClosed, bit_of, waits_at, bot_at, sits_at, is_silent, no_bot, KeepsOtherBots};
 ghost use Rattle.node_seats.specs.Hurrying.{LastsAt};
 ghost use Rattle.node_seats.specs.Telling.{AreSaid, Loses};
 ghost use Rattle.node_seats.specs.Coming.{passed_in, tokens_in};
@@ -63,6 +63,17 @@ fn with_bit(bits: u16, number: usize, sits: bool) -> u16
     if sits { bits | 1 << number } else { bits }
 }
 
+/// Whether the bit of a seat is set.
+#[tactic(auto, using(crate::proofs::SeatBits::is_lowest, crate::proofs::SeatBits::none_above))]
+fn is_set(bits: u16, seat: u8) -> bool
+    ensures { bit_at bits seat ≡ bit_of result }
+{
+    if seat >= 16 {
+        return false;
+    }
+    bits >> seat & 1 == 1
+}
+
 /// Nobody came yet to the ports of seats that have tokens, if they have.
 fn no_guests(alloc: Global, tokens: Option<Vec<TokenDigest>>) -> Result<Option<Guests>, AllocError>
     ensures tokens { IfOk result (λ guests. tokens_in guests ≡ option_map (λ t. t.items) tokens) }
@@ -75,14 +86,17 @@ fn no_guests(alloc: Global, tokens: Option<Vec<TokenDigest>>) -> Result<Option<G
 }
 
 /// Hears the guest at a place: who showed the token of a seat sits there from now on, and who sits there is let go of before.
+/// Where nobody sits at a closed seat he stays a guest, and is heard again by a later call.
 #[tactic(auto, using(crate::proofs::Coming::heard_passes, crate::proofs::Coming::refused_passes, crate::proofs::Coming::passed_on, crate::proofs::Coming::nothing_passes))]
 fn hear_guest<W: Wire>(
     guests: &mut Guests,
     seats: &mut Vec<Seat>,
     wire: &mut W,
     place: u8,
+    closed: u16,
     now: u64,
 ) -> Option<SeatNotice>
+    ensures closed { KeepsClosed closed result }
     ensures passes { Passes (Some guests.old.tokens.items) result guests.old.passed.items guests.new.passed.items (W.passed wire.old) (W.passed wire.new) }
     ensures told { IsToldOf guests.old.tokens.items (came_over guests.new.passed.items (GuestAt place)) result }
     ensures tokens { guests.new.tokens ≡ guests.old.tokens }
@@ -97,8 +111,10 @@ fn hear_guest<W: Wire>(
             Some(SeatNotice::Refused { seat, source })
         }
         Found::Shown { seat } => match seats.get_mut(seat as usize) {
-            Some(at) => at.welcome(guests, wire, place, seat, now),
-            None => None,
+            Some(at) if at.bot.sits || !is_set(closed, seat) => {
+                at.welcome(guests, wire, place, seat, now)
+            }
+            _ => None,
         },
     }
 }
@@ -143,15 +159,20 @@ impl Seats {
         wire: &mut W,
         number: u8,
         greeted: bool,
+        closed: u16,
         now: u64,
     ) -> Option<SeatNotice>
         requires { number < self.old.count }
+        ensures closed { KeepsClosed closed result }
         ensures time { HurriesAt greeted now number result self.old self.new }
         ensures comes { Comes result self.old self.new (W.passed wire.old) (W.passed wire.new) }
         ensures piece { IsPieceOf number LONGEST result }
     {
         let seat = self.seats.get_mut(number as usize)?;
         match &mut self.guests {
+            None if is_set(closed, number) => {
+                seat.next_piece(self.alloc, &mut self.buffer, wire, number, greeted, now)
+            }
             None => seat.next(self.alloc, &mut self.buffer, wire, number, greeted, now),
             Some(guests) => {
                 guests.accept(wire, number, now);
@@ -162,27 +183,42 @@ impl Seats {
 
     /// What came next of the guest at a place.
     #[tactic(auto, using(crate::proofs::Coming::nothing_passes, crate::proofs::Coming::no_piece))]
-    fn look_at_guest<W: Wire>(&mut self, wire: &mut W, place: u8, now: u64) -> Option<SeatNotice>
+    fn look_at_guest<W: Wire>(
+        &mut self,
+        wire: &mut W,
+        place: u8,
+        closed: u16,
+        now: u64,
+    ) -> Option<SeatNotice>
+        ensures closed { KeepsClosed closed result }
         ensures comes { Comes result self.old self.new (W.passed wire.old) (W.passed wire.new) }
         ensures piece { (seat most : ℕ) → IsPieceOf seat most result }
         ensures time { (seat : ℕ) → LastsAt now result self.old.seats.items self.new.seats.items seat }
         ensures count { self.new.count ≡ self.old.count }
     {
         match &mut self.guests {
-            Some(guests) => hear_guest(guests, &mut self.seats, wire, place, now),
+            Some(guests) => hear_guest(guests, &mut self.seats, wire, place, closed, now),
             None => None,
         }
     }
 
     /// What came next of a seat or, by numbers behind those of all seats, of the guest at a place.
-    fn look<W: Wire>(&mut self, wire: &mut W, at: u8, greeted: bool, now: u64) -> Option<SeatNotice>
+    fn look<W: Wire>(
+        &mut self,
+        wire: &mut W,
+        at: u8,
+        greeted: bool,
+        closed: u16,
+        now: u64,
+    ) -> Option<SeatNotice>
+        ensures closed { KeepsClosed closed result }
         ensures time { HurriesAt greeted now at result self.old self.new }
         ensures comes { Comes result self.old self.new (W.passed wire.old) (W.passed wire.new) }
         ensures piece { IsPieceOf at LONGEST result }
     {
         match at.checked_sub(self.count) {
-            None => self.look_at_seat(wire, at, greeted, now),
-            Some(place) => self.look_at_guest(wire, place, now),
+            None => self.look_at_seat(wire, at, greeted, closed, now),
+            Some(place) => self.look_at_guest(wire, place, closed, now),
         }
     }
 
@@ -201,6 +237,9 @@ impl Seats {
     /// With tokens who was taken in was a guest who showed the token of that seat, and nothing else had come of him; who sat
     /// there is told to be gone before. Nothing that came of a guest is told.
     ///
+    /// `closed` has the bits of the seats at which nobody is taken in now. Who comes to one of them waits at its port, or as a
+    /// guest, and is taken in by a later call; who sits there still makes room for a guest who showed the token.
+    ///
     /// A bot has 10 seconds to name the version. `greeted` says whether the one at this seat has. Once they are over, one more
     /// call takes what came of it, and the call behind that one lets go of it.
     #[tactic(auto, using(crate::proofs::Coming::plain_passed, crate::proofs::Coming::seats_come, crate::proofs::Coming::log_stays, crate::proofs::Others::keeps_coming, crate::proofs::Telling::said_coming))]
@@ -209,10 +248,12 @@ impl Seats {
         wire: &mut W,
         at: u8,
         greeted: bool,
+        closed: u16,
         now: u64,
     ) -> Option<SeatNotice>
         ensures time { HurriesAt greeted now at result self.old self.new }
         ensures comes { Comes result self.old self.new (W.passed wire.old) (W.passed wire.new) }
+        ensures closed { KeepsClosed closed result }
         ensures piece { IsPieceOf at LONGEST result }
         ensures plain { tokens_of self.old ≡ None → Passed result (W.passed wire.old) (W.passed wire.new) }
         ensures seats { seats_in (W.passed wire.new) ≡ seats_in (W.passed wire.old) ++ seats_in (passed_by result) }
@@ -221,7 +262,7 @@ impl Seats {
         ensures unsaid { TellsNoGuest (W.passed wire.old) (W.passed wire.new) }
         ensures said { AreSaid (W.passed wire.old) self.old.seats.items → AreSaid (W.passed wire.new) self.new.seats.items }
     {
-        self.look(wire, at, greeted, now)
+        self.look(wire, at, greeted, closed, now)
     }
 
     /// From now on the bot of a seat is told the lines of its seat from this place on, where it has named the version, isn't told
@@ -367,7 +408,7 @@ impl Seats {
     /// Lets go of him, as `hang_up` does.
     #[tactic(auto, using(crate::proofs::Lists::nothing_more, crate::proofs::Lists::nothing_passed))]
     fn let_go<W: Wire>(&mut self, wire: &mut W, seat: u8) -> Option<SeatNotice>
-        ensures nobody { TakesNobody result }
+        ensures nothing { HearsNothing result }
         ensures guests { self.new.guests ≡ self.old.guests }
         ensures passed { W.passed wire.new ≡ W.passed wire.old }
         ensures waits { Follows result self.old.seats.items self.new.seats.items }
@@ -393,11 +434,12 @@ impl Seats {
     /// of.
     #[tactic(auto, using(crate::proofs::Others::keeps_same, crate::proofs::Writing::none_to_seats))]
     fn flush_one<W: Wire>(&mut self, wire: &mut W, number: u8) -> Option<SeatNotice>
+        ensures waits { IfSome result (λ notice. waits_at self.new.seats.items (seat_of notice) ≡ []) }
         ensures said { Flushes result self.old.seats.items self.new.seats.items (W.passed wire.old) (W.passed wire.new) }
         ensures sits { Changes result self.old.seats.items self.new.seats.items }
         ensures seats { seats_in (W.passed wire.new) ≡ seats_in (W.passed wire.old) }
         ensures log { logged_in (W.passed wire.new) ≡ logged_in (W.passed wire.old) }
-        ensures nobody { TakesNobody result }
+        ensures nothing { HearsNothing result }
         ensures loses { Loses result self.old.seats.items self.new.seats.items (W.passed wire.old) (W.passed wire.new) }
         ensures others { KeepsOthers (W.passed wire.old) (W.passed wire.new) }
         ensures wrote { WritesToSeats (W.passed wire.old) (W.passed wire.new) }
@@ -415,6 +457,7 @@ impl Seats {
     /// the others behind it are written to by the next call.
     #[tactic(auto, using(crate::proofs::Telling::said_flushed))]
     pub fn flush<W: Wire>(&mut self, wire: &mut W) -> Option<SeatNotice>
+        ensures waits { IfSome result (λ notice. waits_at self.new.seats.items (seat_of notice) ≡ []) }
         ensures flushes { Flushes result self.old.seats.items self.new.seats.items (W.passed wire.old) (W.passed wire.new) }
         ensures sits { Changes result self.old.seats.items self.new.seats.items }
         ensures seats { seats_in (W.passed wire.new) ≡ seats_in (W.passed wire.old) }
@@ -432,11 +475,12 @@ impl Seats {
     /// Writes what waits for all seats, as `flush` does.
     #[tactic(auto, using(crate::proofs::Others::keeps_same, crate::proofs::Others::keeps_on, crate::proofs::Writing::none_to_seats, crate::proofs::Writing::to_seats_on))]
     fn flush_all<W: Wire>(&mut self, wire: &mut W) -> Option<SeatNotice>
+        ensures waits { IfSome result (λ notice. waits_at self.new.seats.items (seat_of notice) ≡ []) }
         ensures said { Flushes result self.old.seats.items self.new.seats.items (W.passed wire.old) (W.passed wire.new) }
         ensures sits { Changes result self.old.seats.items self.new.seats.items }
         ensures seats { seats_in (W.passed wire.new) ≡ seats_in (W.passed wire.old) }
         ensures log { logged_in (W.passed wire.new) ≡ logged_in (W.passed wire.old) }
-        ensures nobody { TakesNobody result }
+        ensures nothing { HearsNothing result }
         ensures loses { Loses result self.old.seats.items self.new.seats.items (W.passed wire.old) (W.passed wire.new) }
         ensures others { KeepsOthers (W.passed wire.old) (W.passed wire.new) }
         ensures wrote { WritesToSeats (W.passed wire.old) (W.passed wire.new) }
@@ -479,6 +523,18 @@ impl Seats {
         let mut bits = 0u16;
         for number in 0..16usize {
             bits = with_bit(bits, number, self.is_here(number));
+        }
+        bits
+    }
+
+    /// The seats where somebody sits, a bit each, seat 0 the lowest.
+    #[tactic(auto, using(crate::proofs::SeatBits::no_bits, crate::proofs::SeatBits::one_more))]
+    pub fn taken_bits(&self) -> u16
+        ensures { (seat : ℕ) → seat < 16 → bit_at result seat ≡ bit_of (sits_at self.now.seats.items seat) }
+    {
+        let mut bits = 0u16;
+        for number in 0..16usize {
+            bits = with_bit(bits, number, self.sits(number));
         }
         bits
     }
