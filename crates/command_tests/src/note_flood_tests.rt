@@ -235,16 +235,73 @@ fn each_kind_has_its_own_line(rt: HostRuntime) -> Result<(), Fail> {
         rt.alloc(),
         &waves,
         b"seat 0 (alice) at node 0: seated
+seat 0 (alice) at node 0: seated
+seat 0 (alice) at node 0: seated
+seat 0 (alice) at node 0: disconnected
+seat 0 (alice) at node 0: disconnected
 seat 0 (alice) at node 0: disconnected
 inbound connection refused: 120 BadLength (3 times)
 inbound connection refused: 124 WrongProof
 inbound connection refused: 124 WrongProof (from peer 2's address)
 seat 0 (alice) at node 0: wrong token (from 10.0.0.7) (4 times)
 peer 2: disconnected
-seat 0 (alice) at node 0: seated (2 times)
-seat 0 (alice) at node 0: disconnected (2 times)
 seat 0 (alice) at node 0: wrong token (from 10.0.0.7) (4 times)
 inbound connection refused: 120 BadLength (3 times)
+",
+        b"",
+    )
+}
+
+/// That a seat is taken and that it is free are told in one order: whole at first, and what comes then by the newest, with the
+/// count of both.
+#[test]
+fn the_last_note_of_a_seat_is_of_the_newest(rt: HostRuntime) -> Result<(), Fail> {
+    let seated = ServerNotice::Seated { seat: 1 };
+    let left = ServerNotice::Left { seat: 1 };
+    let waves = [
+        Wave {
+            at: 0,
+            times: 1,
+            told: seated,
+        },
+        Wave {
+            at: 1,
+            times: 1,
+            told: left,
+        },
+        Wave {
+            at: 2,
+            times: 9,
+            told: seated,
+        },
+        Wave {
+            at: 3,
+            times: 2,
+            told: left,
+        },
+        Wave {
+            at: 4,
+            times: 1,
+            told: seated,
+        },
+        nothing(999_999),
+        nothing(SECOND),
+    ];
+    tells(
+        &rt,
+        rt.alloc(),
+        &waves,
+        b"seat 1 (bob) at node 0: seated
+seat 1 (bob) at node 0: disconnected
+seat 1 (bob) at node 0: seated
+seat 1 (bob) at node 0: seated
+seat 1 (bob) at node 0: seated
+seat 1 (bob) at node 0: seated
+seat 1 (bob) at node 0: seated
+seat 1 (bob) at node 0: seated
+seat 1 (bob) at node 0: seated
+seat 1 (bob) at node 0: seated
+seat 1 (bob) at node 0: seated (4 times)
 ",
         b"",
     )

@@ -160,11 +160,11 @@ many_wrong_lines : group_lines names 1 7010 (Some (told.Faulty 0 LineTooLong Non
 unfolding digits
 many_wrong_lines = refl
 
-eleven_others : group_lines names 1 7010 (Some told.Quorum) 197 11 ≡ (codes "11 notes left out" ++ 10 ∷ []) ∷ []
+eleven_others : group_lines names 1 7010 (Some told.Quorum) 180 11 ≡ (codes "11 notes left out" ++ 10 ∷ []) ∷ []
 unfolding digits
 eleven_others = refl
 
-one_other : group_lines names 1 7010 (Some told.Quorum) 197 1 ≡ (codes "quorum: more than half of the nodes are connected" ++ 10 ∷ []) ∷ []
+one_other : group_lines names 1 7010 (Some told.Quorum) 180 1 ≡ (codes "quorum: more than half of the nodes are connected" ++ 10 ∷ []) ∷ []
 one_other = refl
 
 seven_without_a_place : group_lines names 1 7010 None 109 7 ≡ (codes "inbound connection refused: no place (7 times)" ++ 10 ∷ []) ∷ []
@@ -198,8 +198,21 @@ callers_by_128_at_peer_6 = refl
 one_of_callers_at_a_peer : most_of 172 ≡ 1
 one_of_callers_at_a_peer = refl
 
-gone_peer_6 : group_of (told.Gone 6) ≡ 186
-gone_peer_6 = refl
+-- that a seat is taken and that it is free is told in one order, and so it is of a peer
+bob_comes : group_of (told.Seated 1) ≡ 16
+bob_comes = refl
+
+bob_goes : group_of (told.Left 1) ≡ 16
+bob_goes = refl
+
+peer_6_comes : group_of (told.Joined 6 None) ≡ 179
+peer_6_comes = refl
+
+peer_6_goes : group_of (told.Gone 6) ≡ 179
+peer_6_goes = refl
+
+no_peer_7 : group_of (told.Gone 7) ≡ others
+no_peer_7 = refl
 
 -- ten lines a second of refused answers, one of lines that are none
 ten_of_85 : most_of 15 ≡ 10
@@ -207,6 +220,12 @@ ten_of_85 = refl
 
 one_of_82 : most_of 12 ≡ 1
 one_of_82 = refl
+
+ten_of_who_comes_and_goes : most_of 16 ≡ 10
+ten_of_who_comes_and_goes = refl
+
+ten_of_a_peer : most_of 179 ≡ 10
+ten_of_a_peer = refl
 
 -- ---- how many notes are told
 
