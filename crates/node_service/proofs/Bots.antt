@@ -28,7 +28,7 @@ use Rattle.node_seats.specs.Words.{Reading, with_byte, with_bytes}
 use Rattle.node_seats.specs.Seating.{no_bot, newcomer, gone, heard, bot_at, Changes}
 use Rattle.node_seats.specs.Telling.{lines_of, TellsFrom, telling_from, TellsMore, TellsBot, Begins, Parts, SaysAt}
 use Rattle.node_seats.proofs.Telling.{tells_both}
-use Rattle.node_service.specs.Bots.{StartsBy, IsRefusedBy, IsBehindAll, HadTable, IsToldBy, IsStarted, IsOverFor, IsParted, IsBotOf, AreBotsOf}
+use Rattle.node_service.specs.Bots.{StartsBy, IsRefusedBy, IsBehindAll, IsStill, HadTable, IsToldBy, IsStarted, IsOverFor, IsParted, IsBotOf, AreBotsOf, HadTableSince, BeginsSince, PartsSince, IsSince, KeepBots}
 
 -- lines off such tables are lines off all of which that holds
 tells_such : (such also : Match → Type 0) → ((table : Match) → such table → also table) → (seat : ℕ) (at : Cursor) (lines : List (List ℕ)) (next : Cursor) → TellsFrom such seat at lines next → TellsFrom also seat at lines next
@@ -39,6 +39,22 @@ pub some_of : {A : Type 0} (P : A → Type 0) (o : Option A) → IsSomeAnd o P �
 some_of P None is = absurd is
 some_of P (Some x) is = (x, (refl, is))
 
+-- ---- who sits there still
+
+pub still : (bot : Bot) → IsStill bot bot
+still bot = record { sits = λ is. is; words = refl }
+
+still_on : (one two three : Bot) → IsStill one two → IsStill two three → IsStill one three
+still_on one two three first then_on = record { sits = λ is. first.sits (then_on.sits is); words = then_on.words ∙ first.words }
+
+begun_on : (was : Option Telling) (mid telling : Telling) → mid.start ≡ telling.start → IsSomeAnd was (λ first. first.start ≡ mid.start) → IsSomeAnd was (λ first. first.start ≡ telling.start)
+begun_on None mid telling e is = absurd is
+begun_on (Some first) mid telling e is = is ∙ e
+
+-- nobody sits where a bot is gone
+never : {A : Type 0} → false ≡ true → A
+never e = absurd cc
+
 -- nothing more is read behind the version
 over_by : (over : Bool) (r : Reading) (byte : ℕ) → r.is_over ≡ over → over ≡ true → with_byte r byte ≡ r
 over_by true r byte is e = rw is refl
@@ -48,29 +64,63 @@ over_reads : (r : Reading) (bytes : List ℕ) → r.is_over ≡ true → with_by
 over_reads r [] over = refl
 over_reads r (byte ∷ bytes) over = ap (λ (m : Reading). with_bytes m bytes) (over_by true r byte over refl) ∙ over_reads r bytes over
 
+reads_still : (bot : Bot) (bytes : List ℕ) → bot.words.is_over ≡ true → IsStill bot (heard bytes bot)
+reads_still bot bytes over = record { sits = λ is. is; words = over_reads bot.words bytes over }
+
 module _ {D : Type 0} {g : Ghosts D} where
   -- the table of a node now
   pub has_table : (look : Look (Node D)) (table : Match) → Has g look → ((s : Standing) → IsSeen g look.node s → IsTableOf (member_in look.node).setting (applied s) table) → HadTable g look table
   has_table look table has is = record { then_is = look; has = has; config = refl; number = refl; begun = refl; since = []; deeds = refl; table_is = is }
 
   pub had_now : (station now : Station D g) (node : Node D) (table : Match) → now ≡ station → Has g (look_of now) → node ≡ (look_of station).node
-      → ((s : Standing) → IsSeen g node s → IsTableOf (member_in node).setting (applied s) table) → HadTable g (look_of station) table
-  had_now station now node table is has same seen =
-      has_table (look_of station) table (subst (λ (st : Station D g). Has g (look_of st)) is has)
-      (subst (λ (n : Node D). (s : Standing) → IsSeen g n s → IsTableOf (member_in n).setting (applied s) table) same seen)
+      → ((s : Standing) → IsSeen g node s → IsTableOf (member_in node).setting (applied s) table) → HadTableSince g (look_of station).deeds (look_of station) table
+  unfolding has_table
+  had_now station now node table is has same seen = (
+    has_table (look_of station) table (subst (λ (st : Station D g). Has g (look_of st)) is has)
+        (subst (λ (n : Node D). (s : Standing) → IsSeen g n s → IsTableOf (member_in n).setting (applied s) table) same seen),
+    ([], refl),
+  )
 
-  -- what a node had it has had once it did more
-  pub had_then : (old new : Look (Node D)) → new.config ≡ old.config → new.number ≡ old.number → begun_of g new.node ≡ begun_of g old.node → (since : List Deed) → new.deeds ≡ since ++ old.deeds → (table : Match) → HadTable g old table → HadTable g new table
-  had_then old new config number begun since deeds table had = record {
+module _ {D : Type 0} (g : Ghosts D) where
+  -- the same process of the same node, once it did more
+  pub record LooksOn (old new : Look (Node D)) : Type 0 where
+    pub config : new.config ≡ old.config
+    pub number : new.number ≡ old.number
+    pub begun : begun_of g new.node ≡ begun_of g old.node
+    pub since : List Deed
+    pub deeds : new.deeds ≡ since ++ old.deeds
+
+module _ {D : Type 0} {g : Ghosts D} where
+  pub as_before : (old new : Look (Node D)) → new ≡ old → LooksOn g old new
+  as_before old new same = record {
+    config = ap (λ (l : Look (Node D)). l.config) same;
+    number = ap (λ (l : Look (Node D)). l.number) same;
+    begun = ap (λ (l : Look (Node D)). begun_of g l.node) same;
+    since = [];
+    deeds = ap (λ (l : Look (Node D)). l.deeds) same;
+  }
+
+  -- what a node had it has had then
+  had_then : (old new : Look (Node D)) → LooksOn g old new → (table : Match) → HadTable g old table → HadTable g new table
+  had_then old new on table had = record {
     then_is = had.then_is;
     has = had.has;
-    config = had.config ∙ sym config;
-    number = had.number ∙ sym number;
-    begun = had.begun ∙ sym begun;
-    since = since ++ had.since;
-    deeds = deeds ∙ (ap (λ (m : List Deed). since ++ m) had.deeds ∙ sym (append_assoc since had.since had.then_is.deeds));
+    config = had.config ∙ sym on.config;
+    number = had.number ∙ sym on.number;
+    begun = had.begun ∙ sym on.begun;
+    since = on.since ++ had.since;
+    deeds = on.deeds ∙ (ap (λ (m : List Deed). on.since ++ m) had.deeds ∙ sym (append_assoc on.since had.since had.then_is.deeds));
     table_is = had.table_is;
   }
+
+  since_then : (first : List Deed) (old new : Look (Node D)) → LooksOn g old new → (table : Match) → HadTableSince g first old table → HadTableSince g first new table
+  unfolding had_then
+  since_then first old new on table had = (had_then old new on table had.0, had.1)
+
+  -- and since a moment before
+  since_before : (one two look : Look (Node D)) → LooksOn g one two → (table : Match) → HadTableSince g two.deeds look table → HadTableSince g one.deeds look table
+  since_before one two look on table had =
+      (had.0, (had.1.0 ++ on.since, had.1.1 ∙ (ap (λ (m : List Deed). had.1.0 ++ m) on.deeds ∙ sym (append_assoc had.1.0 on.since one.deeds))))
 
   told_then : (old new : Look (Node D)) → ((table : Match) → HadTable g old table → HadTable g new table) → (seat : ℕ) (telling : Option Telling) → IsToldBy g old seat telling → IsToldBy g new seat telling
   told_then old new change seat None is = tt
@@ -89,15 +139,102 @@ module _ {D : Type 0} {g : Ghosts D} where
   parted_then old new change seat bot (Some Over) is = over_then old new change seat bot.words bot.telling is
   parted_then old new change seat bot (Some Other) is = (is.0, (is.1.0, (is.1.1.0, (change is.1.1.0 is.1.1.1.0, is.1.1.1.1))))
 
-  pub bots_then : (old new : Look (Node D)) → ((table : Match) → HadTable g old table → HadTable g new table) → (seats : List Seat) → AreBotsOf g old seats → AreBotsOf g new seats
-  bots_then old new change seats are seat =
+  are_then : (old new : Look (Node D)) → LooksOn g old new → (seats : List Seat) → AreBotsOf g old seats → AreBotsOf g new seats
+  are_then old new on seats are seat =
       let is = are seat in
       let bot = bot_at seats seat in
       record {
-        told = told_then old new change seat bot.telling is.told;
-        started = started_then old new change seat bot.words bot.telling is.started;
-        parted = parted_then old new change seat bot bot.parting is.parted;
+        told = told_then old new (had_then old new on) seat bot.telling is.told;
+        started = started_then old new (had_then old new on) seat bot.words bot.telling is.started;
+        parted = parted_then old new (had_then old new on) seat bot bot.parting is.parted;
       }
+
+-- ---- since a moment
+
+module _ {D : Type 0} (g : Ghosts D) where
+  begins_still : (first : List Deed) (look : Look (Node D)) (seat : ℕ) (old new : Bot) (telling : Option Telling) → IsStill old new → old.telling ≡ telling → BeginsSince g first look seat old new telling
+  begins_still first look seat old new None is e = tt
+  begins_still first look seat old new (Some telling) is e = inl (is, subst (λ (t : Option Telling). IsSomeAnd t (λ was. was.start ≡ telling.start)) (sym e) refl)
+
+  parts_still : (first : List Deed) (look : Look (Node D)) (seat : ℕ) (old new : Bot) (parting : Option Parting) → IsStill old new → old.parting ≡ parting → PartsSince g first look seat old new parting
+  parts_still first look seat old new None is e = tt
+  parts_still first look seat old new (Some Over) is e = tt
+  parts_still first look seat old new (Some Other) is e = inl (is, e)
+
+  -- more lines
+  more_since : (first : List Deed) (look : Look (Node D)) (table : Match) (seat : ℕ) (old new : Bot) (was now : Option Telling) → IsStill old new → old.telling ≡ was → TellsMore table seat was now → BeginsSince g first look seat old new now
+  more_since first look table seat old new None now is e none = subst (BeginsSince g first look seat old new) (sym none) tt
+  more_since first look table seat old new (Some was) now is e (after, (same, (start, more))) =
+      subst (BeginsSince g first look seat old new) (sym same) (inl (is, subst (λ (t : Option Telling). IsSomeAnd t (λ old. old.start ≡ after.start)) (sym e) (sym start)))
+
+  -- one moment after another
+  begins_on : (one two three : Look (Node D)) → LooksOn g one two → LooksOn g two three → (seat : ℕ) (a b c : Bot) (mid telling : Option Telling) → b.telling ≡ mid → BeginsSince g one.deeds two seat a b mid
+      → BeginsSince g two.deeds three seat b c telling → BeginsSince g one.deeds three seat a c telling
+  begins_on one two three on_two on_three seat a b c mid None e first then_on = tt
+  begins_on one two three on_two on_three seat a b c mid (Some telling) e first (inr (table, (had, starts))) = inr (table, (since_before one two three on_two table had, starts))
+  begins_on one two three on_two on_three seat a b c None (Some telling) e first (inl (is, start)) =
+      absurd (subst (λ (t : Option Telling). IsSomeAnd t (λ was. was.start ≡ telling.start)) e start)
+  begins_on one two three on_two on_three seat a b c (Some mid) (Some telling) e first (inl (is, start)) =
+      let same : mid.start ≡ telling.start = subst (λ (t : Option Telling). IsSomeAnd t (λ was. was.start ≡ telling.start)) e start in
+      elim first as (λ _. BeginsSince g one.deeds three seat a c (Some telling)) [
+        | inl had ↦ inl (still_on a b c had.0 is, begun_on a.telling mid telling same had.1)
+        | inr by ↦ inr (
+          by.0,
+          (
+            since_then one.deeds two three on_three by.0 by.1.0,
+            subst (λ (w : Reading). StartsBy by.0 seat w.asked w.named telling.start) (sym is.words) (subst (StartsBy by.0 seat b.words.asked b.words.named) same by.1.1),
+          ),
+        )
+      ]
+
+  parts_on : (one two three : Look (Node D)) → LooksOn g one two → LooksOn g two three → (seat : ℕ) (a b c : Bot) (parting : Option Parting) → PartsSince g one.deeds two seat a b b.parting
+      → PartsSince g two.deeds three seat b c parting → PartsSince g one.deeds three seat a c parting
+  parts_on one two three on_two on_three seat a b c None first then_on = tt
+  parts_on one two three on_two on_three seat a b c (Some Over) first then_on = tt
+  parts_on one two three on_two on_three seat a b c (Some Other) first (inr (table, (had, refused))) = inr (table, (since_before one two three on_two table had, refused))
+  parts_on one two three on_two on_three seat a b c (Some Other) first (inl (is, e)) =
+      let parted : PartsSince g one.deeds two seat a b (Some Other) = subst (PartsSince g one.deeds two seat a b) e first in
+      elim parted as (λ _. PartsSince g one.deeds three seat a c (Some Other)) [
+        | inl had ↦ inl (still_on a b c had.0 is, had.1)
+        | inr by ↦ inr (
+          by.0,
+          (since_then one.deeds two three on_three by.0 by.1.0, subst (λ (w : Reading). IsRefusedBy by.0 seat w.asked w.named) (sym is.words) by.1.1),
+        )
+      ]
+
+module _ {D : Type 0} {g : Ghosts D} where
+  -- a bot that is told nothing more
+  is_still : (first : List Deed) (look : Look (Node D)) (seat : ℕ) (old new : Bot) → IsStill old new → new.telling ≡ old.telling → new.parting ≡ old.parting → IsSince g first look seat old new
+  is_still first look seat old new is telling parting = record {
+    begins = begins_still g first look seat old new new.telling is (sym telling);
+    parts = parts_still g first look seat old new new.parting is (sym parting);
+  }
+
+  is_same : (first : List Deed) (look : Look (Node D)) (seat : ℕ) (old new : Bot) → new ≡ old → IsSince g first look seat old new
+  is_same first look seat old new same =
+      subst (IsSince g first look seat old) (sym same) (is_still first look seat old old (still old) refl refl)
+
+  pub keep_on : {one two three : Look (Node D)} {a b c : List Seat} → LooksOn g one two → LooksOn g two three → KeepBots g one two a b → KeepBots g two three b c → KeepBots g one three a c
+  keep_on {one} {two} {three} {a} {b} {c} on_two on_three first then_on = record {
+    stay = λ are. then_on.stay (first.stay are);
+    since = λ are seat.
+        let mid = first.since are seat in
+        let end = then_on.since (first.stay are) seat in
+        record {
+          begins = begins_on g one two three on_two on_three seat (bot_at a seat) (bot_at b seat) (bot_at c seat) (bot_at b seat).telling (bot_at c seat).telling refl mid.begins end.begins;
+          parts = parts_on g one two three on_two on_three seat (bot_at a seat) (bot_at b seat) (bot_at c seat) (bot_at c seat).parting mid.parts end.parts;
+        };
+  }
+
+  -- where its bots are told nothing
+  pub bots_then : (old new : Look (Node D)) → LooksOn g old new → (seats : List Seat) → KeepBots g old new seats seats
+  bots_then old new on seats = record {
+    stay = are_then old new on seats;
+    since = λ are seat. is_same old.deeds new seat (bot_at seats seat) (bot_at seats seat) refl;
+  }
+
+  pub bots_still : (look : Look (Node D)) (seats : List Seat) → KeepBots g look look seats seats
+  bots_still look seats = bots_then look look (as_before look look refl) seats
 
   -- ---- one bot
 
@@ -113,6 +250,9 @@ module _ {D : Type 0} {g : Ghosts D} where
 
   bot_gone : (look : Look (Node D)) (seat : ℕ) (bot : Bot) → IsBotOf g look seat bot → IsBotOf g look seat (gone bot)
   bot_gone look seat bot is = gone_by look seat bot bot.parting refl is
+
+  gone_since : (first : List Deed) (look : Look (Node D)) (seat : ℕ) (bot : Bot) → IsSince g first look seat bot (gone bot)
+  gone_since first look seat bot = is_still first look seat bot (gone bot) (record { sits = λ is. never is; words = refl }) refl refl
 
   bot_new : (look : Look (Node D)) (seat : ℕ) → IsBotOf g look seat newcomer
   bot_new look seat = record { told = tt; started = tt; parted = tt }
@@ -137,31 +277,76 @@ module _ {D : Type 0} {g : Ghosts D} where
   bot_heard : (look : Look (Node D)) (seat : ℕ) (bytes : List ℕ) (bot : Bot) → IsBotOf g look seat bot → IsBotOf g look seat (heard bytes bot)
   bot_heard look seat bytes bot is = heard_by look seat bytes bot bot.telling bot.parting refl refl is
 
+  heard_since_by : (first : List Deed) (look : Look (Node D)) (seat : ℕ) (bytes : List ℕ) (bot : Bot) (telling : Option Telling) (parting : Option Parting) → bot.telling ≡ telling → bot.parting ≡ parting → IsBotOf g look seat bot
+      → IsSince g first look seat bot (heard bytes bot)
+  heard_since_by first look seat bytes bot (Some telling) parting e f is =
+      let started : IsStarted g look seat bot.words (Some telling) = subst (IsStarted g look seat bot.words) e is.started in
+      is_still first look seat bot (heard bytes bot) (reads_still bot bytes started.0) refl refl
+  heard_since_by first look seat bytes bot None None e f is = record {
+    begins = subst (BeginsSince g first look seat bot (heard bytes bot)) (sym e) tt;
+    parts = subst (PartsSince g first look seat bot (heard bytes bot)) (sym f) tt;
+  }
+  heard_since_by first look seat bytes bot None (Some Over) e f is = record {
+    begins = subst (BeginsSince g first look seat bot (heard bytes bot)) (sym e) tt;
+    parts = subst (PartsSince g first look seat bot (heard bytes bot)) (sym f) tt;
+  }
+  heard_since_by first look seat bytes bot None (Some Other) e f is =
+      let other : IsParted g look seat bot (Some Other) = subst (IsParted g look seat bot) f is.parted in
+      is_still first look seat bot (heard bytes bot) (reads_still bot bytes other.1.0) refl refl
+
+  heard_since : (first : List Deed) (look : Look (Node D)) (seat : ℕ) (bytes : List ℕ) (bot : Bot) → IsBotOf g look seat bot → IsSince g first look seat bot (heard bytes bot)
+  heard_since first look seat bytes bot is = heard_since_by first look seat bytes bot bot.telling bot.parting refl refl is
+
+  new_since : (first : List Deed) (look : Look (Node D)) (seat : ℕ) (bot : Bot) → IsSince g first look seat bot newcomer
+  new_since first look seat bot = record { begins = tt; parts = tt }
+
   -- ---- something came, or a bot was let go of
 
-  pub bots_changed : (look : Look (Node D)) (notice : Option SeatNotice) (old new : List Seat) → Changes notice old new → AreBotsOf g look old → AreBotsOf g look new
-  bots_changed look None old new changes are seat = subst (IsBotOf g look seat) (sym (changes seat)) (are seat)
-  bots_changed look (Some (notices.Refused number source)) old new changes are seat = subst (IsBotOf g look seat) (sym (changes seat)) (are seat)
-  bots_changed look (Some (notices.Piece number bytes)) old new changes are seat = elim (eqb_tells seat number) as (λ _. IsBotOf g look seat (bot_at new seat)) [
-    | inl here ↦ subst (λ (n : ℕ). IsBotOf g look n (bot_at new n)) (sym here.1) (subst (IsBotOf g look number) (sym changes.0) (bot_heard look number bytes.items (bot_at old number) (are number)))
-    | inr there ↦ subst (IsBotOf g look seat) (sym (changes.1 seat there.1)) (are seat)
-  ]
-  bots_changed look (Some (notices.Came number)) old new changes are seat = elim (eqb_tells seat number) as (λ _. IsBotOf g look seat (bot_at new seat)) [
-    | inl here ↦ subst (λ (n : ℕ). IsBotOf g look n (bot_at new n)) (sym here.1) (subst (IsBotOf g look number) (sym changes.1.0) (bot_new look number))
-    | inr there ↦ subst (IsBotOf g look seat) (sym (changes.1.1 seat there.1)) (are seat)
-  ]
-  bots_changed look (Some (notices.Gone number)) old new changes are seat = elim (eqb_tells seat number) as (λ _. IsBotOf g look seat (bot_at new seat)) [
-    | inl here ↦ subst (λ (n : ℕ). IsBotOf g look n (bot_at new n)) (sym here.1) (subst (IsBotOf g look number) (sym changes.0) (bot_gone look number (bot_at old number) (are number)))
-    | inr there ↦ subst (IsBotOf g look seat) (sym (changes.1 seat there.1)) (are seat)
-  ]
+  -- of one look
+  pub keep_here : {look : Look (Node D)} {a b c : List Seat} → KeepBots g look look a b → KeepBots g look look b c → KeepBots g look look a c
+  keep_here {look} first then_on = keep_on (as_before look look refl) (as_before look look refl) first then_on
+
+module _ {D : Type 0} (g : Ghosts D) where
+  -- one bot goes on, by what holds now
+  record GoesOnBot (look : Look (Node D)) (seat : ℕ) (old new : Bot) : Type 0 where
+    stays : IsBotOf g look seat old → IsBotOf g look seat new
+    since : IsBotOf g look seat old → IsSince g look.deeds look seat old new
+
+module _ {D : Type 0} {g : Ghosts D} where
+  goes_same : (look : Look (Node D)) (seat : ℕ) (old new : Bot) → new ≡ old → GoesOnBot g look seat old new
+  goes_same look seat old new same = record { stays = λ is. subst (IsBotOf g look seat) (sym same) is; since = λ is. is_same look.deeds look seat old new same }
+
+  -- so it is at all seats
+  goes_all : (look : Look (Node D)) (old new : List Seat) → ((seat : ℕ) → GoesOnBot g look seat (bot_at old seat) (bot_at new seat)) → KeepBots g look look old new
+  goes_all look old new each = record { stay = λ are seat. (each seat).stays (are seat); since = λ are seat. (each seat).since (are seat) }
+
+  -- and where that is so of one seat, and the others are as they were
+  goes_at : (look : Look (Node D)) (number : ℕ) (old new : List Seat) → GoesOnBot g look number (bot_at old number) (bot_at new number) → ((seat : ℕ) → (seat ≡ number → ⊥) → bot_at new seat ≡ bot_at old seat) → KeepBots g look look old new
+  goes_at look number old new here others =
+      goes_all look old new
+      (λ seat. elim (eqb_tells seat number) as (λ _. GoesOnBot g look seat (bot_at old seat) (bot_at new seat)) [
+        | inl is ↦ subst (λ (n : ℕ). GoesOnBot g look n (bot_at old n) (bot_at new n)) (sym is.1) here
+        | inr not ↦ goes_same look seat (bot_at old seat) (bot_at new seat) (others seat not.1)
+      ])
+
+  goes_heard : (look : Look (Node D)) (seat : ℕ) (bytes : List ℕ) (old new : Bot) → new ≡ heard bytes old → GoesOnBot g look seat old new
+  goes_heard look seat bytes old new e =
+      subst (GoesOnBot g look seat old) (sym e) (record { stays = bot_heard look seat bytes old; since = heard_since look.deeds look seat bytes old })
+
+  goes_new : (look : Look (Node D)) (seat : ℕ) (old new : Bot) → new ≡ newcomer → GoesOnBot g look seat old new
+  goes_new look seat old new e = subst (GoesOnBot g look seat old) (sym e) (record { stays = λ is. bot_new look seat; since = λ is. new_since look.deeds look seat old })
+
+  goes_gone : (look : Look (Node D)) (seat : ℕ) (old new : Bot) → new ≡ gone old → GoesOnBot g look seat old new
+  goes_gone look seat old new e = subst (GoesOnBot g look seat old) (sym e) (record { stays = bot_gone look seat old; since = λ is. gone_since look.deeds look seat old })
+
+  pub bots_changed : (look : Look (Node D)) (notice : Option SeatNotice) (old new : List Seat) → Changes notice old new → KeepBots g look look old new
+  bots_changed look None old new changes = goes_all look old new (λ seat. goes_same look seat (bot_at old seat) (bot_at new seat) (changes seat))
+  bots_changed look (Some (notices.Refused number source)) old new changes = goes_all look old new (λ seat. goes_same look seat (bot_at old seat) (bot_at new seat) (changes seat))
+  bots_changed look (Some (notices.Piece number bytes)) old new changes = goes_at look number old new (goes_heard look number bytes.items (bot_at old number) (bot_at new number) changes.0) changes.1
+  bots_changed look (Some (notices.Came number)) old new changes = goes_at look number old new (goes_new look number (bot_at old number) (bot_at new number) changes.1.0) changes.1.1
+  bots_changed look (Some (notices.Gone number)) old new changes = goes_at look number old new (goes_gone look number (bot_at old number) (bot_at new number) changes.0) changes.1
 
   -- ---- one of them was told something
-
-  one_told : (look : Look (Node D)) (number : ℕ) (old new : List Seat) → SaysAt number old new → (IsBotOf g look number (bot_at old number) → IsBotOf g look number (bot_at new number)) → AreBotsOf g look old → AreBotsOf g look new
-  one_told look number old new says here_is are seat = elim (eqb_tells seat number) as (λ _. IsBotOf g look seat (bot_at new seat)) [
-    | inl here ↦ subst (λ (n : ℕ). IsBotOf g look n (bot_at new n)) (sym here.1) (here_is (are number))
-    | inr there ↦ subst (IsBotOf g look seat) (sym (says.bots seat there.1)) (are seat)
-  ]
 
   begun_there : (look : Look (Node D)) (table : Match) (seat : ℕ) (at : Cursor) (old new : Bot) → HadTable g look table → StartsBy table seat old.words.asked old.words.named at → Begins at old new → IsBotOf g look seat old → IsBotOf g look seat new
   begun_there look table seat at old new had starts (inl same) is = subst (IsBotOf g look seat) (sym same) is
@@ -173,9 +358,20 @@ module _ {D : Type 0} {g : Ghosts D} where
         parted = subst (IsParted g look seat (record old { telling = Some (telling_from at) })) (sym none) tt;
       })
 
-  pub bots_begun : (look : Look (Node D)) (table : Match) (seat : ℕ) (at : Cursor) (old new : List Seat) → HadTable g look table → StartsBy table seat (bot_at old seat).words.asked (bot_at old seat).words.named at → Begins at (bot_at old seat) (bot_at new seat)
-      → SaysAt seat old new → AreBotsOf g look old → AreBotsOf g look new
-  bots_begun look table seat at old new had starts begins says are = one_told look seat old new says (begun_there look table seat at (bot_at old seat) (bot_at new seat) had starts begins) are
+  begun_since : (look : Look (Node D)) (table : Match) (seat : ℕ) (at : Cursor) (old new : Bot) → HadTableSince g look.deeds look table → StartsBy table seat old.words.asked old.words.named at → Begins at old new → IsSince g look.deeds look seat old new
+  begun_since look table seat at old new had starts (inl same) = is_same look.deeds look seat old new same
+  begun_since look table seat at old new had starts (inr (over, (silent, (none, e)))) =
+      subst (IsSince g look.deeds look seat old) (sym e)
+      (record {
+        begins = inr (table, (had, starts));
+        parts = subst (PartsSince g look.deeds look seat old (record old { telling = Some (telling_from at) })) (sym none) tt;
+      })
+
+  pub bots_begun : (look : Look (Node D)) (table : Match) (seat : ℕ) (at : Cursor) (old new : List Seat) → HadTableSince g look.deeds look table → StartsBy table seat (bot_at old seat).words.asked (bot_at old seat).words.named at
+      → Begins at (bot_at old seat) (bot_at new seat) → SaysAt seat old new → KeepBots g look look old new
+  bots_begun look table seat at old new had starts begins says =
+      goes_at look seat old new
+      (record { stays = λ is. begun_there look table seat at (bot_at old seat) (bot_at new seat) had.0 starts begins is; since = λ is. begun_since look table seat at (bot_at old seat) (bot_at new seat) had starts begins }) says.bots
 
   -- that its line is none
   other_there : (look : Look (Node D)) (table : Match) (seat : ℕ) (old new : Bot) → HadTable g look table → IsRefusedBy table seat old.words.asked old.words.named → Parts Other old new → IsBotOf g look seat old → IsBotOf g look seat new
@@ -183,8 +379,20 @@ module _ {D : Type 0} {g : Ghosts D} where
   other_there look table seat old new had refused (inr (none, (silent, e))) is =
       subst (IsBotOf g look seat) (sym e) (record { told = is.told; started = is.started; parted = (silent.0, (silent.1, (table, (had, refused)))) })
 
-  pub bots_refused : (look : Look (Node D)) (table : Match) (seat : ℕ) (old new : List Seat) → HadTable g look table → IsRefusedBy table seat (bot_at old seat).words.asked (bot_at old seat).words.named → Parts Other (bot_at old seat) (bot_at new seat) → SaysAt seat old new → AreBotsOf g look old → AreBotsOf g look new
-  bots_refused look table seat old new had refused parts says are = one_told look seat old new says (other_there look table seat (bot_at old seat) (bot_at new seat) had refused parts) are
+  other_since : (look : Look (Node D)) (table : Match) (seat : ℕ) (old new : Bot) → HadTableSince g look.deeds look table → IsRefusedBy table seat old.words.asked old.words.named → Parts Other old new → IsSince g look.deeds look seat old new
+  other_since look table seat old new had refused (inl same) = is_same look.deeds look seat old new same
+  other_since look table seat old new had refused (inr (none, (silent, e))) =
+      subst (IsSince g look.deeds look seat old) (sym e)
+      (record {
+        begins = begins_still g look.deeds look seat old (record old { parting = Some Other }) old.telling (record { sits = λ sits. sits; words = refl }) refl;
+        parts = inr (table, (had, refused));
+      })
+
+  pub bots_refused : (look : Look (Node D)) (table : Match) (seat : ℕ) (old new : List Seat) → HadTableSince g look.deeds look table → IsRefusedBy table seat (bot_at old seat).words.asked (bot_at old seat).words.named
+      → Parts Other (bot_at old seat) (bot_at new seat) → SaysAt seat old new → KeepBots g look look old new
+  bots_refused look table seat old new had refused parts says =
+      goes_at look seat old new
+      (record { stays = λ is. other_there look table seat (bot_at old seat) (bot_at new seat) had.0 refused parts is; since = λ is. other_since look table seat (bot_at old seat) (bot_at new seat) had refused parts }) says.bots
 
   -- that the match is over
   is_over_for : (look : Look (Node D)) (table : Match) (seat : ℕ) (at : Cursor) (words : Reading) (telling : Option Telling) (found : Telling) → telling ≡ Some found → found.next ≡ at → HadTable g look table → (words.asked ≡ asks.Nothing → ⊥) → IsBehindAll table seat at
@@ -198,10 +406,17 @@ module _ {D : Type 0} {g : Ghosts D} where
   over_there look table seat at old new found e f had asked behind (inr (none, (may, is_new))) is =
       subst (IsBotOf g look seat) (sym is_new) (record { told = is.told; started = is.started; parted = is_over_for look table seat at old.words old.telling found e f had asked behind })
 
-  pub bots_over : (look : Look (Node D)) (table : Match) (seat : ℕ) (at : Cursor) (old new : List Seat) (found : Telling) → (bot_at old seat).telling ≡ Some found → found.next ≡ at → HadTable g look table → ((bot_at old seat).words.asked ≡ asks.Nothing → ⊥)
-      → IsBehindAll table seat at → Parts Over (bot_at old seat) (bot_at new seat) → SaysAt seat old new → AreBotsOf g look old → AreBotsOf g look new
-  bots_over look table seat at old new found e f had asked behind parts says are =
-      one_told look seat old new says (over_there look table seat at (bot_at old seat) (bot_at new seat) found e f had asked behind parts) are
+  over_since : (first : List Deed) (look : Look (Node D)) (seat : ℕ) (old new : Bot) → Parts Over old new → IsSince g first look seat old new
+  over_since first look seat old new (inl same) = is_same first look seat old new same
+  over_since first look seat old new (inr (none, (may, e))) =
+      subst (IsSince g first look seat old) (sym e)
+      (record { begins = begins_still g first look seat old (record old { parting = Some Over }) old.telling (record { sits = λ sits. sits; words = refl }) refl; parts = tt })
+
+  pub bots_over : (look : Look (Node D)) (table : Match) (seat : ℕ) (at : Cursor) (old new : List Seat) (found : Telling) → (bot_at old seat).telling ≡ Some found → found.next ≡ at → HadTableSince g look.deeds look table
+      → ((bot_at old seat).words.asked ≡ asks.Nothing → ⊥) → IsBehindAll table seat at → Parts Over (bot_at old seat) (bot_at new seat) → SaysAt seat old new → KeepBots g look look old new
+  bots_over look table seat at old new found e f had asked behind parts says =
+      goes_at look seat old new
+      (record { stays = λ is. over_there look table seat at (bot_at old seat) (bot_at new seat) found e f had.0 asked behind parts is; since = λ is. over_since look.deeds look seat (bot_at old seat) (bot_at new seat) parts }) says.bots
 
   -- lines
   more_told : (look : Look (Node D)) (table : Match) (seat : ℕ) (old new : Option Telling) → HadTable g look table → TellsMore table seat old new → IsToldBy g look seat old → IsToldBy g look seat new
@@ -227,8 +442,18 @@ module _ {D : Type 0} {g : Ghosts D} where
     parted = subst (IsParted g look seat new) (sym (tells.parting ∙ e)) tt;
   }
 
-  pub bots_told : (look : Look (Node D)) (table : Match) (seat : ℕ) (old new : List Seat) → HadTable g look table → TellsBot table seat (bot_at old seat) (bot_at new seat) → SaysAt seat old new → AreBotsOf g look old → AreBotsOf g look new
-  bots_told look table seat old new had tells says are = one_told look seat old new says (told_there look table seat (bot_at old seat) (bot_at new seat) (bot_at old seat).parting refl had tells) are
+  told_since : (first : List Deed) (look : Look (Node D)) (table : Match) (seat : ℕ) (old new : Bot) → TellsBot table seat old new → IsSince g first look seat old new
+  told_since first look table seat old new tells =
+      let is : IsStill old new = record { sits = λ sits. sym tells.sits ∙ sits; words = tells.words } in
+      record {
+        begins = more_since g first look table seat old new old.telling new.telling is refl tells.told;
+        parts = parts_still g first look seat old new new.parting is (sym tells.parting);
+      }
+
+  pub bots_told : (look : Look (Node D)) (table : Match) (seat : ℕ) (old new : List Seat) → HadTableSince g look.deeds look table → TellsBot table seat (bot_at old seat) (bot_at new seat) → SaysAt seat old new → KeepBots g look look old new
+  bots_told look table seat old new had tells says =
+      goes_at look seat old new
+      (record { stays = λ is. told_there look table seat (bot_at old seat) (bot_at new seat) (bot_at old seat).parting refl had.0 tells is; since = λ is. told_since look.deeds look table seat (bot_at old seat) (bot_at new seat) tells }) says.bots
 
   -- ---- where nothing was told
 

@@ -19,6 +19,7 @@ use Rattle.node_seats.specs.declared.seat.Seat.{Seat}
 use Rattle.node_seats.specs.Others as seats
 use Rattle.node_seats.specs.Seating.{waits_at, sits_at, bot_at}
 use Rattle.node_seats.specs.Telling.{text_for, IsSaid, AreSaid}
+use Rattle.node_seats.specs.Words.{read_of}
 use Rattle.node_status.specs.declared.asker.Asker.{Asker}
 use Rattle.node_status.specs.Asking as status
 use Rattle.node_status.specs.Asking.{AreAnswered, is_asker, Arrivals, Comes, IsGiven}
@@ -74,14 +75,31 @@ not_guests place before (Wrote (AskerAt n) bytes ∷ ys) are = absurd are.0
 not_guests place before (Gave at number ∷ ys) are = absurd are.0
 not_guests place before (Logged text ∷ ys) are = absurd are.0
 
+-- and nothing comes of seats
+none_of_seats : (seat : ℕ) (before : List ℕ) (ys : List Passage) → AreOfPeers ys → came_behind (SeatOf seat) before ys ≡ before
+none_of_seats seat before [] are = refl
+none_of_seats seat before (Began (Peer n) ∷ ys) are = none_of_seats seat before ys are.1
+none_of_seats seat before (Began (Caller n) ∷ ys) are = none_of_seats seat before ys are.1
+none_of_seats seat before (Began (SeatOf n) ∷ ys) are = absurd are.0
+none_of_seats seat before (Began (Guest n) ∷ ys) are = absurd are.0
+none_of_seats seat before (Began (AskerAt n) ∷ ys) are = absurd are.0
+none_of_seats seat before (Came (Peer n) bytes ∷ ys) are = none_of_seats seat before ys are.1
+none_of_seats seat before (Came (Caller n) bytes ∷ ys) are = none_of_seats seat before ys are.1
+none_of_seats seat before (Came (SeatOf n) bytes ∷ ys) are = absurd are.0
+none_of_seats seat before (Came (Guest n) bytes ∷ ys) are = absurd are.0
+none_of_seats seat before (Came (AskerAt n) bytes ∷ ys) are = absurd are.0
+none_of_seats seat before (Wrote line bytes ∷ ys) are = none_of_seats seat before ys are.1
+none_of_seats seat before (Gave at number ∷ ys) are = absurd are.0
+none_of_seats seat before (Logged text ∷ ys) are = absurd are.0
+
 -- ---- where nothing changes but what is said of it
 
 said_so : (seat : ℕ) (old new : List Passage) (bots : List Seat) → wrote_over new (SeatOf seat) ≡ wrote_over old (SeatOf seat)
     → IsSaid (sits_at bots seat) (wrote_over old (SeatOf seat)) (waits_at bots seat) (text_for (bot_at bots seat)) → IsSaid (sits_at bots seat) (wrote_over new (SeatOf seat)) (waits_at bots seat) (text_for (bot_at bots seat))
 said_so seat old new bots e is = subst (λ (w : List ℕ). IsSaid (sits_at bots seat) w (waits_at bots seat) (text_for (bot_at bots seat))) (sym e) is
 
-pub said_alike : (old new : List Passage) (bots : List Seat) → ((seat : ℕ) → wrote_over new (SeatOf seat) ≡ wrote_over old (SeatOf seat)) → AreSaid old bots → AreSaid new bots
-said_alike old new bots e are seat = said_so seat old new bots (e seat) (are seat)
+pub said_alike : (old new : List Passage) (bots : List Seat) → ((seat : ℕ) → wrote_over new (SeatOf seat) ≡ wrote_over old (SeatOf seat)) → ((seat : ℕ) → came_over new (SeatOf seat) ≡ came_over old (SeatOf seat)) → AreSaid old bots → AreSaid new bots
+said_alike old new bots wrote came are seat = (said_so seat old new bots (wrote seat) (are seat).0, (are seat).1 ∙ ap read_of (sym (came seat)))
 
 -- ---- peers
 
@@ -96,7 +114,8 @@ carried_grown old new wired_old wired_new bots askers adds writing is = record {
         ∙ (came_both line [] wired_old adds.more
         ∙ (ap (λ (b : List ℕ). came_behind line b adds.more) (is.peers line of_peers).1 ∙ (sym (came_both line [] old adds.more) ∙ ap (λ (ps : List Passage). came_over ps line) (sym adds.put_down)))),
   );
-  said = said_alike wired_old wired_new bots writing is.said;
+  said = said_alike wired_old wired_new bots writing
+      (λ seat. ap (λ (ps : List Passage). came_over ps (SeatOf seat)) adds.wired ∙ (came_both (SeatOf seat) [] wired_old adds.more ∙ none_of_seats seat (came_over wired_old (SeatOf seat)) adds.more adds.of_peers)) is.said;
   guests = λ place.
       ap (λ (ps : List Passage). wrote_over ps (Guest place)) adds.wired ∙ (wrote_both (Guest place) [] wired_old adds.more ∙ (not_guests place (wrote_over wired_old (Guest place)) adds.more adds.of_peers ∙ is.guests place));
   answered = λ place.
@@ -134,7 +153,7 @@ pub carried_asked : (old new lines : List Passage) (bots : List Seat) (askers no
     → IsCarried new lines bots now
 carried_asked old new lines bots askers now keeps answered is = record {
   peers = λ line of_peers. (keeps.wrote line (no_asker line of_peers) ∙ (is.peers line of_peers).0, keeps.came line (no_asker line of_peers) ∙ (is.peers line of_peers).1);
-  said = said_alike old new bots (λ seat. keeps.wrote (SeatOf seat) refl) is.said;
+  said = said_alike old new bots (λ seat. keeps.wrote (SeatOf seat) refl) (λ seat. keeps.came (SeatOf seat) refl) is.said;
   guests = λ place. keeps.wrote (Guest place) refl ∙ is.guests place;
   answered = answered is.answered;
 }
@@ -184,7 +203,7 @@ pub lines_on : (a b c : List Passage) → KeepsLines a b → KeepsLines b c → 
 lines_on a b c one two = record { wrote = λ line. two.wrote line ∙ one.wrote line; came = λ line. two.came line ∙ one.came line }
 
 pub said_along : (old new : List Passage) (bots : List Seat) → KeepsLines old new → AreSaid old bots → AreSaid new bots
-said_along old new bots keeps are = said_alike old new bots (λ seat. keeps.wrote (SeatOf seat)) are
+said_along old new bots keeps are = said_alike old new bots (λ seat. keeps.wrote (SeatOf seat)) (λ seat. keeps.came (SeatOf seat)) are
 
 pub carried_shown : (old new lines : List Passage) (bots now : List Seat) (askers : List Asker) → KeepsLines old new → (AreSaid old bots → AreSaid new now) → IsCarried old lines bots askers
     → IsCarried new lines now askers

@@ -1,5 +1,5 @@
 -- Definitions on values, each beside a near miss.
-use Rattle.std.proofs.Common.{◌≡◌, ℕ, Bool, true, false, List, [], ◌∷◌, ◌++◌, None, inl, inr, refl, ap, ◌∙◌}
+use Rattle.std.proofs.Common.{◌≡◌, ℕ, ◌+◌, ◌≤◌, ◌==◌, if◌then◌else◌, Bool, true, false, List, [], ◌∷◌, ◌++◌, Some, None, inl, inr, refl, sym, ap, ◌∙◌, subst, arith}
 use Rattle.protocol_model.specs.Dealers.{Seat, Log}
 use Rattle.node_wires.specs.declared.line.Line.TheVariants as line
 use Rattle.node_wires.specs.Passages.{Began, Came as PieceCame, Wrote}
@@ -9,7 +9,10 @@ use Rattle.node_service.specs.Parts.{IsPartOf}
 use Rattle.node_service.specs.Showing.{shown_log, LogGains}
 use Rattle.node_service.specs.Logging.{HasNoStart, StartedOnce}
 use Rattle.node_service.specs.Handed.{frames_by}
-use Rattle.node_service.specs.Arriving.{OfSeat, OfPeer, incoming_in, came_by}
+use Rattle.node_seats.specs.declared.seat.Seat.{Seat as Place}
+use Rattle.node_seats.specs.Seating.{newcomer, nobody as empty_seat}
+use Rattle.node_service.specs.Arriving.{Incoming, OfSeat, OfPeer, incoming_in, came_by}
+use Rattle.node_service.specs.Turns.{ComeOfSeats, IsOneAt}
 use Rattle.node_service.specs.Sessions.{Without, With, Astray, session_of, IsBeginning, AreGiven}
 use Rattle.node_service.specs.Fitting.{FitsAt}
 use Rattle.node_service.specs.declared.sitting.Sitting.TheVariants.{Here, LetGo}
@@ -20,7 +23,20 @@ use Rattle.node_service.specs.Company.{joined_in}
 use Rattle.betting.specs.declared.action.Action.TheVariants.{Fold}
 use Rattle.slot_log.specs.Hand.{Hand}
 use Rattle.line_cursor.specs.Cursors.{cursor_at}
-use Rattle.node_service.specs.Bots.{newest_place}
+use Rattle.line_cursor.specs.declared.cursor.Cursor.{Cursor}
+use Rattle.promise_store.specs.declared.disk.Disk.{Ghosts}
+use Rattle.slot_log.specs.Hand.{Match}
+use Rattle.dealer_node.specs.Nodes.{Node}
+use Rattle.stations.specs.Stations.{Look}
+use Rattle.node_seats.specs.declared.bot.Bot.{Bot}
+use Rattle.node_seats.specs.declared.bot.Parting.TheVariants.{Other}
+use Rattle.node_seats.specs.declared.bot.Telling.{Telling}
+use Rattle.node_seats.specs.declared.words.Asked.{Asked}
+use Rattle.node_seats.specs.declared.words.Asked.TheVariants as asks
+use Rattle.node_seats.specs.Words.{Reading}
+use Rattle.node_seats.specs.Seating.{gone}
+use Rattle.node_seats.specs.Telling.{telling_from}
+use Rattle.node_service.specs.Bots.{newest_place, IsRefusedBy, HadBegun, HadParted, HadTableSince, BeginsSince, PartsSince}
 use Rattle.node_service.specs.WrongTokens.{nobody, and_one, due_of, told_at}
 
 -- ---- two deeds of node 0: seat 1 sent 7 8, upon which the node sent a frame to node 2 and showed a line to seat 0 and text to its log; before that seat 1 connected
@@ -220,3 +236,88 @@ at_the_newest = refl
 
 at_the_first_that_comes : newest_place [] ≡ cursor_at 0 0
 at_the_first_that_comes = refl
+
+-- ---- what began of a bot meanwhile
+
+-- it asked for the newest line and has named the version
+abbrev asks_newest : Reading
+asks_newest = record { line = []; named = []; asked = asks.Newest; is_over = true }
+
+abbrev silent : Bot
+silent = record { sits = true; words = asks_newest; telling = None; parting = None }
+
+-- its lines begin at the first
+abbrev from_the_first : Telling
+from_the_first = telling_from (cursor_at 0 0)
+
+abbrev at_the_first : Bot
+at_the_first = record { sits = true; words = asks_newest; telling = Some from_the_first; parting = None }
+
+-- lines that had begun before
+begun_before : HadBegun at_the_first at_the_first from_the_first
+begun_before = (record { sits = λ is. is; words = refl }, refl)
+
+-- a bot that is gone meanwhile
+begun_before_it_went : HadBegun at_the_first (gone at_the_first) from_the_first
+begun_before_it_went = (record { sits = λ is. refl; words = refl }, refl)
+
+other_hand : ◌≡◌ {A = ℕ} 0 1 → ⊥
+other_hand is = cc
+
+-- not those of one that was told none
+not_begun_before : HadBegun silent at_the_first from_the_first → ⊥
+not_begun_before had = had.1
+
+-- nor of one that came where another was gone, though it was told the same
+not_of_who_was_gone : HadBegun (gone at_the_first) at_the_first from_the_first → ⊥
+not_of_who_was_gone had = let sat : false ≡ true = had.0.sits refl in absurd (cc)
+
+-- nor those that had begun elsewhere
+not_begun_elsewhere : HadBegun (record at_the_first { telling = Some (telling_from (cursor_at 1 1)) }) at_the_first from_the_first → ⊥
+not_begun_elsewhere had = other_hand (sym (ap (λ (c : Cursor). c.hand) had.1))
+
+-- that its line is none it hadn't been told
+not_parted_before : HadParted newcomer (record newcomer { parting = Some Other }) → ⊥
+not_parted_before had = let told : None ≡ Some Other = had.1 in absurd (cc)
+
+module _ {D : Type 0} (g : Ghosts D) where
+  -- where each table since has these two hands, the newest line isn't the first
+  not_at_the_first : (first : List Deed) (look : Look (Node D)) (seat : ℕ) → ((table : Match) → HadTableSince g first look table → table.hands ≡ two_hands) → BeginsSince g first look seat silent at_the_first (Some from_the_first) → ⊥
+  not_at_the_first first look seat all (inl had) = not_begun_before had
+  not_at_the_first first look seat all (inr (table, (had, starts))) =
+      other_hand (ap (λ (c : Cursor). c.hand) starts ∙ ap (λ (hands : List Hand). (newest_place hands).hand) (all table had))
+
+  -- where each has the line that it named, it isn't told that this is none
+  not_refused : (first : List Deed) (look : Look (Node D)) (seat : ℕ) (old new : Bot) → old.parting ≡ None → new.words.asked ≡ asks.Line
+      → ((table : Match) → HadTableSince g first look table → IsRefusedBy table seat asks.Line new.words.named → ⊥) → PartsSince g first look seat old new (Some Other) → ⊥
+  not_refused first look seat old new none named all (inl had) = let told : None ≡ Some Other = sym none ∙ had.1 in absurd (cc)
+  not_refused first look seat old new none named all (inr (table, (had, refused))) = all table had (subst (λ (a : Asked). IsRefusedBy table seat a new.words.named) named refused)
+
+-- ---- who comes in a turn
+
+-- a bot sits at seat 0, and nobody at others
+abbrev one_sits : List Place
+one_sits = (record { bot = newcomer; since = empty_seat.since; waiting = empty_seat.waiting }) ∷ empty_seat ∷ []
+
+abbrev comes_to : ℕ → Incoming
+comes_to seat = OfSeat (Began (line.Seat seat))
+
+-- one comes where nobody sat
+at_most_one : (is : Bool) → ((if is then 1 else 0) + 0) + 0 ≤ 1
+at_most_one true = omega arith
+at_most_one false = omega arith
+
+comes_to_a_free_seat : IsOneAt [] (comes_to 1 ∷ [])
+comes_to_a_free_seat seat within = at_most_one (1 == seat)
+
+-- but not where a bot sat
+follows_within_the_turn : IsOneAt one_sits (comes_to 0 ∷ []) → ⊥
+follows_within_the_turn is = let one = is 0 (omega arith) in omega (arith, one)
+
+-- nor two
+two_come_to_a_free_seat : IsOneAt one_sits (comes_to 1 ∷ comes_to 1 ∷ []) → ⊥
+two_come_to_a_free_seat is = let one = is 1 (omega arith) in omega (arith, one)
+
+-- nor is anything read of one that came
+piece_of_who_came : ComeOfSeats (comes_to 1 ∷ OfSeat (PieceCame (line.Seat 1) (7 ∷ [])) ∷ []) → ⊥
+piece_of_who_came come = let one = come.one 1 (omega arith) in omega (arith, one)

@@ -9,7 +9,7 @@ use Rattle.stations.specs.Deeds.{Deed}
 use Rattle.stations.specs.Stations.{Look}
 use Rattle.node_service.specs.Parts.{IsPartOf}
 use Rattle.node_service.specs.Showing.{shown_log, LogGains}
-use Rattle.node_service.specs.Bots.{AreBotsOf}
+use Rattle.node_service.specs.Bots.{KeepBots}
 use Rattle.node_service.specs.Handed.{frames_by}
 use Rattle.node_service.specs.Arriving.{Incoming, seats_of, peers_of, came_by}
 use Rattle.node_service.specs.Served.{Served}
@@ -26,6 +26,7 @@ use Rattle.node_service.specs.Turns.{AreFrames, ComeOfPeers}
 use Rattle.node_service.specs.declared.taking.Taken.{Taken}
 use Rattle.node_service.specs.declared.taking.Taken.TheVariants as kind
 use Rattle.node_service.proofs.Asking.{gives_on, none_gives_on}
+use Rattle.node_service.proofs.Bots.{LooksOn, as_before, keep_on, bots_still}
 use Rattle.node_service.proofs.Crossing.{heard_both, heard_further}
 use Rattle.node_service.proofs.Turns.{no_frames}
 use Rattle.node_service.proofs.Hearing.{hears_none, hears_on}
@@ -65,8 +66,11 @@ taken_fits {N} taken old new look seats loosened fits = (
 )
 
 module _ {D : Type 0} {g : Ghosts D} where
+  pub looks_on : {taken : List Incoming} {old new : Served (Node D)} → GoesOn g taken old new → LooksOn g old.look new.look
+  looks_on goes = record { config = goes.config; number = goes.number; begun = goes.begun; since = goes.since; deeds = goes.deeds }
+
   -- where nothing is done
-  unfoldable pub still : (old new : Served (Node D)) → new.look ≡ old.look → new.log_failed ≡ old.log_failed → new.sent ≡ old.sent → (AreBotsOf g old.look old.bots → AreBotsOf g new.look new.bots) → new.heard ≡ old.heard → logged_in new.passed ≡ logged_in old.passed → seats_in new.passed ≡ seats_in old.passed
+  unfoldable pub still : (old new : Served (Node D)) → new.look ≡ old.look → new.log_failed ≡ old.log_failed → new.sent ≡ old.sent → KeepBots g old.look new.look old.bots new.bots → new.heard ≡ old.heard → logged_in new.passed ≡ logged_in old.passed → seats_in new.passed ≡ seats_in old.passed
       → Loosens old.sittings new.sittings → Hears old.own new.own old.lines new.lines → GivesOnly (IsReply new.look) old.askers new.askers → (Carries old → Carries new) → new.started ≡ old.started → new.terms ≡ old.terms → new.guests ≡ old.guests → GoesOn g [] old new
   still old new look log_failed sent bots heard log seats loosened hears asked carried started terms guests = record {
     config = ap (λ (l : Look (Node D)). l.config) look;
@@ -107,7 +111,7 @@ module _ {D : Type 0} {g : Ghosts D} where
         first.log then_on.log);
     sent = subst (λ (m : List Passage). three.sent ≡ one.sent ++ m) (sym (frames_by_both then_on.since first.since))
         (then_on.sent ∙ (ap (λ (m : List Passage). m ++ frames_by then_on.since) first.sent ∙ append_assoc one.sent (frames_by first.since) (frames_by then_on.since)));
-    bots = λ are. then_on.bots (first.bots are);
+    bots = keep_on (looks_on first) (looks_on then_on) first.bots then_on.bots;
     gained = first.gained ++ then_on.gained;
     seats = subst (λ (m : List Passage). seats_in three.passed ≡ seats_in one.passed ++ m) (sym (seats_of_more first.gained then_on.gained))
         (then_on.seats ∙ (ap (λ (m : List Passage). m ++ seats_of then_on.gained) first.seats ∙ append_assoc (seats_in one.passed) (seats_of first.gained) (seats_of then_on.gained)));
@@ -138,7 +142,7 @@ module _ {D : Type 0} {g : Ghosts D} where
     log = subst (λ (b : Bool). LogGains b three.log_failed (shown_log then_on.since) (logged_in one.passed) (logged_in three.passed)) takes.log_failed
         (subst (λ (m : List ℕ). LogGains two.log_failed three.log_failed (shown_log then_on.since) m (logged_in three.passed)) takes.log then_on.log);
     sent = then_on.sent ∙ ap (λ (m : List Passage). m ++ frames_by then_on.since) takes.sent;
-    bots = λ are. then_on.bots (takes.bots are);
+    bots = keep_on (as_before one.look two.look takes.look) (looks_on then_on) takes.bots then_on.bots;
     gained = taken ++ then_on.gained;
     seats = subst (λ (m : List Passage). seats_in three.passed ≡ seats_in one.passed ++ m) (sym (seats_of_more taken then_on.gained))
         (then_on.seats ∙ (ap (λ (m : List Passage). m ++ seats_of then_on.gained) takes.seats ∙ append_assoc (seats_in one.passed) (seats_of taken) (seats_of then_on.gained)));
@@ -183,7 +187,7 @@ module _ {D : Type 0} {g : Ghosts D} where
 
   -- nothing happens
   unfoldable pub nothing_done : (here : Served (Node D)) → GoesOn g [] here here
-  nothing_done here = still here here refl refl refl (λ are. are) refl refl refl (λ seat. inl refl) (hears_none here.own here.own here.lines here.lines refl refl) (λ place within. inl refl) (λ is. is) refl refl refl
+  nothing_done here = still here here refl refl refl (bots_still here.look here.bots) refl refl refl (λ seat. inl refl) (hears_none here.own here.own here.lines here.lines refl refl) (λ place within. inl refl) (λ is. is) refl refl refl
 
   -- what was taken and isn't given
   pub not_given : {taken : List Incoming} {one two : Served (Node D)} → seats_of taken ≡ [] → Takes g taken one two → GoesOn g [] one two

@@ -16,7 +16,7 @@ use Rattle.stations.specs.Looking.{look_of}
 use Rattle.node_service.specs.declared.desk.Desk.{Desk}
 use Rattle.node_service.specs.declared.local_node.LocalNode.{LocalNode}
 use Rattle.node_service.specs.Showing.{shown_log, added, LogGains}
-use Rattle.node_service.specs.Bots.{AreBotsOf}
+use Rattle.node_service.specs.Bots.{KeepBots}
 use Rattle.node_service.specs.Handed.{frames_by}
 use Rattle.node_service.specs.Arriving.{Incoming, seats_of, peers_of, taken_for}
 use Rattle.node_service.specs.Served.{Served}
@@ -40,12 +40,13 @@ use Rattle.node_service.specs.declared.company.Company.{Company}
 use Rattle.node_service.specs.Asking.{line_given, GivesOnly, IsNoLine, IsReply, IsStatusLine}
 use Rattle.node_service.specs.Crossing.{IsCarried, Carries}
 use Rattle.node_service.specs.Handing.{HandsOn}
+use Rattle.node_service.proofs.Bots.{LooksOn, as_before, keep_on, bots_still}
 use Rattle.node_service.proofs.Asking.{gives_alike, gives_weaker, none_gives_on}
 use Rattle.node_service.proofs.Crossing.{carried_grown, carried_seated, carried_asked, none_unsaid}
 use Rattle.node_service.specs.Company.{HearsOn}
 use Rattle.node_service.proofs.Hearing.{hears_none, hears_on, heard_on}
 use Rattle.node_service.proofs.Fitting.{fits_moved}
-use Rattle.node_service.proofs.Going.{once_kept, still, does_on, let_go_so}
+use Rattle.node_service.proofs.Going.{once_kept, looks_on, still, does_on, let_go_so}
 use Rattle.node_service.proofs.Showing.{nothing_shown}
 use Rattle.node_service.proofs.Welcoming.{hosts_none, hosts_on}
 use Rattle.node_service.proofs.Stepping.{unstepped, unstepped_if_not}
@@ -73,6 +74,9 @@ module _ {D W : Type 0} {disk : Ghosts D} (wire : OfWire W) where
       (subst (λ (s : Seats). IsCarried (wire.passed old.wire) (passed_of old.company.peers) s.seats.items new.askers.askers.items) (sym same.1.1.0)
       (subst (λ (a : Askers). IsCarried (wire.passed old.wire) (passed_of old.company.peers) old.seats.seats.items a.askers.items) (sym same.1.1.1) is)))
 
+  pub members_on : (old new : Desk D W disk) → new.member ≡ old.member → LooksOn disk (look_of old.member.station) (look_of new.member.station)
+  members_on old new member = as_before (look_of old.member.station) (look_of new.member.station) (ap (λ (m : LocalNode D disk). look_of m.station) member)
+
   pub carries : {such : List ℕ → Type 0} {old new : Desk D W disk} → IsKeptWith wire such old new → Carries (served_by wire old) → Carries (served_by wire new)
   carries {old = old} {new} is = carried_as old new is.carried
 
@@ -81,7 +85,7 @@ module _ {D W : Type 0} {disk : Ghosts D} (wire : OfWire W) where
     member = then_on.member ∙ first.member;
     log_failed = then_on.log_failed ∙ first.log_failed;
     sent = then_on.sent ∙ first.sent;
-    bots = λ are. then_on.bots (first.bots are);
+    bots = keep_on (members_on one two first.member) (members_on two three then_on.member) first.bots then_on.bots;
     guests = then_on.guests ∙ first.guests;
     heard = then_on.heard ∙ first.heard;
     log = then_on.log ∙ first.log;
@@ -98,7 +102,7 @@ module _ {D W : Type 0} {disk : Ghosts D} (wire : OfWire W) where
     member = ap (λ (d : Desk D W disk). d.member) is;
     log_failed = ap (λ (d : Desk D W disk). d.log_failed) is;
     sent = ap (λ (d : Desk D W disk). frames_of d.company.peers) is;
-    bots = λ are. subst (λ (d : Desk D W disk). AreBotsOf disk (look_of d.member.station) d.seats.seats.items) (sym is) are;
+    bots = subst (λ (d : Desk D W disk). KeepBots disk (look_of old.member.station) (look_of d.member.station) old.seats.seats.items d.seats.seats.items) (sym is) (bots_still (look_of old.member.station) old.seats.seats.items);
     guests = ap (λ (d : Desk D W disk). d.seats.guests) is;
     heard = ap (λ (d : Desk D W disk). heard_of d.company.peers) is;
     log = ap (λ (d : Desk D W disk). logged_in (wire.passed d.wire)) is;
@@ -111,9 +115,11 @@ module _ {D W : Type 0} {disk : Ghosts D} (wire : OfWire W) where
 
   -- ---- one call
 
-  bots_kept : (old new : Desk D W disk) → new.member ≡ old.member → new.seats ≡ old.seats → AreBotsOf disk (look_of old.member.station) old.seats.seats.items → AreBotsOf disk (look_of new.member.station) new.seats.seats.items
-  bots_kept old new member seats are =
-      subst (λ (m : LocalNode D disk). AreBotsOf disk (look_of m.station) new.seats.seats.items) (sym member) (subst (λ (s : Seats). AreBotsOf disk (look_of old.member.station) s.seats.items) (sym seats) are)
+  bots_kept : (old new : Desk D W disk) → new.member ≡ old.member → new.seats ≡ old.seats → KeepBots disk (look_of old.member.station) (look_of new.member.station) old.seats.seats.items new.seats.seats.items
+  bots_kept old new member seats =
+      let look : Look (Node D) = look_of old.member.station in
+      subst (λ (m : LocalNode D disk). KeepBots disk look (look_of m.station) old.seats.seats.items new.seats.seats.items) (sym member)
+      (subst (λ (s : Seats). KeepBots disk look look old.seats.seats.items s.seats.items) (sym seats) (bots_still look old.seats.seats.items))
 
   -- of the peers nothing passed
   pub kept_still : {old new : Desk D W disk} → new.member ≡ old.member → new.log_failed ≡ old.log_failed → new.sittings ≡ old.sittings → new.seats ≡ old.seats → new.askers ≡ old.askers
@@ -122,7 +128,7 @@ module _ {D W : Type 0} {disk : Ghosts D} (wire : OfWire W) where
     member = member;
     log_failed = log_failed;
     sent = ap (λ (p : Passages). p.items) stays.1.1.0;
-    bots = λ are. bots_kept old new member seats are;
+    bots = bots_kept old new member seats;
     guests = ap (λ (s : Seats). s.guests) seats;
     heard = ap (λ (p : Passages). p.items) stays.1.1.1;
     log = ap logged_in passed;
@@ -142,7 +148,7 @@ module _ {D W : Type 0} {disk : Ghosts D} (wire : OfWire W) where
     member = member;
     log_failed = log_failed;
     sent = ap (λ (p : Passages). p.items) grew.1.1.0;
-    bots = λ are. bots_kept old new member seats are;
+    bots = bots_kept old new member seats;
     guests = ap (λ (s : Seats). s.guests) seats;
     heard = ap (λ (p : Passages). p.items) grew.1.1.1;
     log = log;
@@ -158,14 +164,14 @@ module _ {D W : Type 0} {disk : Ghosts D} (wire : OfWire W) where
 
   -- something was written to seats, or one was let go of
   pub kept_seated : {old new : Desk D W disk} → new.member ≡ old.member → new.log_failed ≡ old.log_failed → new.company ≡ old.company → new.askers ≡ old.askers → Loosens old.sittings new.sittings
-      → (AreBotsOf disk (look_of old.member.station) old.seats.seats.items → AreBotsOf disk (look_of old.member.station) new.seats.seats.items) → new.seats.guests ≡ old.seats.guests → logged_in (wire.passed new.wire) ≡ logged_in (wire.passed old.wire) → seats_in (wire.passed new.wire) ≡ seats_in (wire.passed old.wire)
+      → KeepBots disk (look_of old.member.station) (look_of old.member.station) old.seats.seats.items new.seats.seats.items → new.seats.guests ≡ old.seats.guests → logged_in (wire.passed new.wire) ≡ logged_in (wire.passed old.wire) → seats_in (wire.passed new.wire) ≡ seats_in (wire.passed old.wire)
       → KeepsOthers (wire.passed old.wire) (wire.passed new.wire) → TellsNoGuest (wire.passed old.wire) (wire.passed new.wire)
       → (AreSaid (wire.passed old.wire) old.seats.seats.items → AreSaid (wire.passed new.wire) new.seats.seats.items) → IsKept wire old new
   kept_seated {old} {new} member log_failed company askers loosened bots guests log seats others unsaid said = record {
     member = member;
     log_failed = log_failed;
     sent = ap (λ (c : Company). frames_of c.peers) company;
-    bots = λ are. subst (λ (m : LocalNode D disk). AreBotsOf disk (look_of m.station) new.seats.seats.items) (sym member) (bots are);
+    bots = subst (λ (m : LocalNode D disk). KeepBots disk (look_of old.member.station) (look_of m.station) old.seats.seats.items new.seats.seats.items) (sym member) bots;
     guests = guests;
     heard = ap (λ (c : Company). heard_of c.peers) company;
     log = log;
@@ -181,7 +187,7 @@ module _ {D W : Type 0} {disk : Ghosts D} (wire : OfWire W) where
 
   -- bots were told something
   pub kept_told : {old new : Desk D W disk} → new.member ≡ old.member → new.log_failed ≡ old.log_failed → new.company ≡ old.company → new.askers ≡ old.askers → new.sittings ≡ old.sittings → new.wire ≡ old.wire
-      → (AreBotsOf disk (look_of old.member.station) old.seats.seats.items → AreBotsOf disk (look_of old.member.station) new.seats.seats.items) → new.seats.guests ≡ old.seats.guests
+      → KeepBots disk (look_of old.member.station) (look_of old.member.station) old.seats.seats.items new.seats.seats.items → new.seats.guests ≡ old.seats.guests
       → ((passed : List Passage) → AreSaid passed old.seats.seats.items → AreSaid passed new.seats.seats.items) → IsKept wire old new
   kept_told {old} {new} member log_failed company askers sittings same bots guests said =
       let passed : wire.passed new.wire ≡ wire.passed old.wire = ap wire.passed same in
@@ -198,7 +204,7 @@ module _ {D W : Type 0} {disk : Ghosts D} (wire : OfWire W) where
     member = member;
     log_failed = log_failed;
     sent = ap (λ (c : Company). frames_of c.peers) company;
-    bots = λ are. bots_kept old new member seats are;
+    bots = bots_kept old new member seats;
     guests = ap (λ (s : Seats). s.guests) seats;
     heard = ap (λ (c : Company). heard_of c.peers) company;
     log = others.log;
@@ -259,7 +265,7 @@ module _ {D W : Type 0} {disk : Ghosts D} (wire : OfWire W) where
     log = subst (λ (b : Bool). LogGains b three.log_failed (shown_log goes.since) (logged_in (wire.passed one.wire)) (logged_in three.passed)) is.log_failed
         (subst (λ (m : List ℕ). LogGains two.log_failed three.log_failed (shown_log goes.since) m (logged_in three.passed)) is.log goes.log);
     sent = goes.sent ∙ ap (λ (m : List Passage). m ++ frames_by goes.since) is.sent;
-    bots = λ are. goes.bots (is.bots are);
+    bots = keep_on (members_on one two is.member) (looks_on goes) is.bots goes.bots;
     gained = goes.gained;
     seats = goes.seats ∙ ap (λ (m : List Passage). m ++ seats_of goes.gained) is.seats;
     heard = goes.heard ∙ ap (λ (m : List Passage). m ++ peers_of goes.gained) is.heard;
@@ -294,7 +300,9 @@ module _ {D W : Type 0} {disk : Ghosts D} (wire : OfWire W) where
     log = subst (λ (b : Bool). LogGains one.log_failed b (added (map text_by told.shown)) (logged_in one.passed) (logged_in (wire.passed three.wire))) (sym is.log_failed)
         (subst (λ (m : List ℕ). LogGains one.log_failed two.log_failed (added (map text_by told.shown)) (logged_in one.passed) m) (sym is.log) hands.log);
     sent = is.sent ∙ hands.sent;
-    bots = λ are. is.bots (hands.bots (subst (λ (m : LocalNode D disk). AreBotsOf disk (look_of m.station) one.bots) is.member are));
+    bots =
+        subst (λ (m : LocalNode D disk). KeepBots disk (look_of m.station) (look_of three.member.station) one.bots three.seats.seats.items) (sym is.member)
+        (keep_on (as_before (look_of two.member.station) (look_of two.member.station) refl) (members_on two three is.member) hands.bots is.bots);
     seats = is.seats ∙ hands.seats;
     heard = is.heard ∙ hands.heard;
     guests = is.guests ∙ hands.guests;
@@ -317,7 +325,7 @@ module _ {D W : Type 0} {disk : Ghosts D} (wire : OfWire W) where
       hands_kept (record {
         log = nothing_shown old.log_failed (logged_in (wire.passed old.wire));
         sent = sym (append-nil (frames_of old.company.peers));
-        bots = λ are. are;
+        bots = bots_still (look_of old.member.station) old.seats.seats.items;
         seats = refl;
         heard = refl;
         guests = refl;

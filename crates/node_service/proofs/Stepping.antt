@@ -28,7 +28,8 @@ use Rattle.node_service.specs.Fitting.{FitsFor}
 use Rattle.node_service.specs.Handing.{HandsOn}
 use Rattle.node_service.specs.Going.{Does}
 use Rattle.node_service.proofs.Asking.{none_gives}
-use Rattle.node_service.proofs.Bots.{had_then, bots_then}
+use Rattle.node_service.specs.Bots.{KeepBots}
+use Rattle.node_service.proofs.Bots.{LooksOn, as_before, keep_on, bots_then}
 use Rattle.node_service.proofs.Welcoming.{hosts_none}
 use Rattle.node_service.proofs.Fitting.{fits_given, fits_refused}
 
@@ -70,6 +71,10 @@ same_frames node [] = refl
 same_frames node (frame ∷ frames) = ap (λ (m : List Passage). mark_handed frame ∷ m) (same_frames node frames)
 
 module _ {D : Type 0} {g : Ghosts D} where
+  -- the node did more, and then its bots were told what there is to tell
+  then_handed : (old new : Served (Node D)) → LooksOn g old.look new.look → KeepBots g new.look new.look old.bots new.bots → KeepBots g old.look new.look old.bots new.bots
+  then_handed old new on hands = keep_on on (as_before new.look new.look refl) (bots_then old.look new.look on old.bots) hands
+
   -- an event was given to the node, and what it made of it was handed on
   stepped : (e : Event) (told : Told) (answer : Result (Unit {0}) NodeFault) (old new : Served (Node D)) → (answer ≡ Err OutOfMemory → ⊥) → Acts g e told answer old.look new.look
       → HandsOn g told old new
@@ -87,7 +92,13 @@ module _ {D : Type 0} {g : Ghosts D} where
             deeds = is;
             log = hands.log;
             sent = hands.sent ∙ ap (λ (m : List Passage). old.sent ++ m) (sym (same_frames _ told.frames));
-            bots = λ are. hands.bots (bots_then old.look new.look (had_then old.look new.look acts.config acts.number acts.given.stays.begun (deed_by (runs old.look.node) (front_in old.look.node) e told answer ∷ []) is) old.bots are);
+            bots = then_handed old new (record {
+              config = acts.config;
+              number = acts.number;
+              begun = acts.given.stays.begun;
+              since = deed_by (runs old.look.node) (front_in old.look.node) e told answer ∷ [];
+              deeds = is;
+            }) hands.bots;
             gained = [];
             seats = hands.seats ∙ sym (append-nil (seats_in old.passed));
             heard = hands.heard ∙ sym (append-nil old.heard);
@@ -128,7 +139,7 @@ module _ {D : Type 0} {g : Ghosts D} where
       deeds = deeds;
       log = subst (λ (t : Told). LogGains old.log_failed new.log_failed (added (map text_by t.shown)) (logged_in old.passed) (logged_in new.passed)) unmade hands.log;
       sent = subst (λ (t : Told). new.sent ≡ old.sent ++ map mark_handed t.frames) unmade hands.sent;
-      bots = λ are. hands.bots (bots_then old.look new.look (had_then old.look new.look config number begun [] deeds) old.bots are);
+      bots = then_handed old new (record { config = config; number = number; begun = begun; since = []; deeds = deeds }) hands.bots;
       gained = [];
       seats = hands.seats ∙ sym (append-nil (seats_in old.passed));
       heard = hands.heard ∙ sym (append-nil old.heard);

@@ -1,17 +1,24 @@
 -- What one turn takes, one thing after another.
-use Rattle.std.proofs.Common.{◌≡◌, ◌⊎◌, inl, inr, ℕ, ◌+◌, ◌<◌, ◌≤◌, ◌==◌, ◌≢◌, Bool, true, false, if◌then◌else◌, List, [], ◌∷◌, ◌++◌, length, append_assoc, append-nil, refl, ap, sym, subst, ◌∙◌, arith, eqb, nat_lt}
+use Rattle.std.proofs.Common.{◌≡◌, ◌⊎◌, inl, inr, ℕ, zero, suc, ◌+◌, ◌*◌, ◌/◌, ◌^◌, ◌%◌, ◌<◌, ◌≤◌, ◌==◌, ◌≢◌, max, bit_and, bit_or, w16, Bool, true, false, if◌then◌else◌, List, [], ◌∷◌, ◌++◌, length, append_assoc, append-nil, refl, ap, sym, subst, ◌∙◌, arith, eqb, nat_lt}
 use Rattle.std.specs.Prelude.{Option, Some, None}
+use Rattle.std.specs.Int.{bit_at}
 use Rattle.std.proofs.lemmas.Bool.{cases_lt, lt-ltb, le-ltb}
+use Rattle.std.proofs.lemmas.List.{length-append}
+use Rattle.std.proofs.lemmas.Nat.Bits.{bit_at-lt, bit_at_or, bit_at_set_same, bit_at_set_other, shr_and_one}
 use Rattle.std.proofs.lemmas.Bool.Decides.{eqb_tells}
 use Rattle.node_wires.specs.Passages.{Passage, Began, Came, Wrote, Gave, Logged}
+use Rattle.node_wires.specs.declared.line.Line.TheVariants.{Seat}
 use Rattle.node_seats.specs.declared.limits.TheConstants.{PIECE}
+use Rattle.node_seats.specs.declared.seat.Seat.{Seat as Place}
+use Rattle.node_seats.specs.Seating.{bit_of, sits_at, KeepsClosed}
+use Rattle.node_service.specs.declared.limits.TheConstants.{SEATS}
 use Rattle.node_seats.specs.declared.seat_notice.SeatNotice.{SeatNotice}
 use Rattle.node_seats.specs.declared.seat_notice.SeatNotice.TheVariants as notices
 use Rattle.node_seats.specs.Pieces.{IsPieceOf}
-use Rattle.node_service.specs.Arriving.{Incoming, seats_of, peers_of}
+use Rattle.node_service.specs.Arriving.{Incoming, OfSeat, seats_of, peers_of}
 use Rattle.node_service.specs.Crossing.{HasNoLife, EndsAtLife}
 use Rattle.node_service.specs.Telling.{incoming_by}
-use Rattle.node_service.specs.Turns.{piece_over, pieces_of, IsOnePiece, AreFrames, ComeOfPeers, ComeOfSeats, IsNextOf, IsTurn}
+use Rattle.node_service.specs.Turns.{piece_over, pieces_of, IsOnePiece, AreFrames, ComeOfPeers, ComeOfSeats, IsNextOf, IsTurn, begins_at, things_at, Counts, IsFirstOf, Spares, IsNextBut, ComeOfSeatsBut, IsTurnBut, IsTurnOf}
 use Rattle.node_service.proofs.Crossing.{no_life_both, ends_both, no_life_ends}
 use Rattle.node_service.proofs.Showing.{seats_of_more, peers_of_more}
 
@@ -75,8 +82,8 @@ taken_is_one false pieces is = subst (λ (m : List (List ℕ)). IsOnePiece m) (s
 pub none_below : (at : ℕ) → ComeOfSeatsBelow at []
 none_below at = record { peers = refl; pieces = λ seat. none_is_taken (nat_lt seat at) }
 
-pub below_is_all : (at : ℕ) (xs : List Incoming) → ComeOfSeatsBelow at xs → ComeOfSeats xs
-below_is_all at xs are = record { peers = are.peers; pieces = λ seat. taken_is_one (nat_lt seat at) (pieces_of seat (seats_of xs)) (are.pieces seat) }
+below_is_all : (at : ℕ) (xs : List Incoming) → ComeOfSeatsBelow at xs → ((seat : ℕ) → seat < SEATS → things_at seat xs ≤ 1) → ComeOfSeats xs
+below_is_all at xs are one = record { peers = are.peers; pieces = λ seat. taken_is_one (nat_lt seat at) (pieces_of seat (seats_of xs)) (are.pieces seat); one = one }
 
 -- where no piece came, it is as before
 taken_at : (at seat : ℕ) (pieces : List (List ℕ)) → IsTaken (nat_lt seat at) pieces → (seat < at) ⊎ (at ≤ seat) → IsTaken (nat_lt seat (at + 1)) pieces
@@ -122,10 +129,139 @@ below_by at xs (Some (notices.Piece number bytes)) is =
 pub below_on : (at : ℕ) (xs ys : List Incoming) → ComeOfSeatsBelow at xs → IsNextOf at ys → ComeOfSeatsBelow (at + 1) (xs ++ ys)
 below_on at xs ys below next = subst (λ (m : List Incoming). ComeOfSeatsBelow (at + 1) (xs ++ m)) (sym next.1.0) (below_by at xs next.0 next.1.1 below)
 
+-- ---- who comes
+
+begins_both : (seat : ℕ) (xs ys : List Passage) → begins_at seat (xs ++ ys) ≡ begins_at seat xs + begins_at seat ys
+begins_both seat [] ys = omega arith
+begins_both seat (Began line ∷ xs) ys = let e = begins_both seat xs ys in omega (arith, e)
+begins_both seat (Gave place number ∷ xs) ys = let e = begins_both seat xs ys in omega (arith, e)
+begins_both seat (Came line bytes ∷ xs) ys = begins_both seat xs ys
+begins_both seat (Wrote line bytes ∷ xs) ys = begins_both seat xs ys
+begins_both seat (Logged text ∷ xs) ys = begins_both seat xs ys
+
+begin_both : (seat : ℕ) (xs ys : List Incoming) → begins_at seat (seats_of (xs ++ ys)) ≡ begins_at seat (seats_of xs) + begins_at seat (seats_of ys)
+begin_both seat xs ys = ap (λ (m : List Passage). begins_at seat m) (seats_of_more xs ys) ∙ begins_both seat (seats_of xs) (seats_of ys)
+
+things_both : (seat : ℕ) (xs ys : List Incoming) → things_at seat (xs ++ ys) ≡ things_at seat xs + things_at seat ys
+things_both seat xs ys =
+    let begin = begin_both seat xs ys in
+    let pieces : length (pieces_of seat (seats_of (xs ++ ys))) ≡ length (pieces_of seat (seats_of xs)) + length (pieces_of seat (seats_of ys)) =
+    ap (λ (m : List Passage). length (pieces_of seat m)) (seats_of_more xs ys)
+    ∙ (ap (λ (m : List (List ℕ)). length m) (pieces_both seat (seats_of xs) (seats_of ys)) ∙ length-append (pieces_of seat (seats_of xs)) (pieces_of seat (seats_of ys))) in
+    omega (arith, begin, pieces)
+
+-- ---- their bits
+
+is_bit : (bit : ℕ) → bit < 2 → bit ≡ bit_of (eqb bit 1)
+is_bit zero below = refl
+is_bit (suc zero) below = refl
+is_bit (suc (suc bit)) below = absurd (omega (arith, below))
+
+pub is_lowest : (bits number : ℕ) → bit_at bits number ≡ bit_of (eqb (bit_and (bits / 2 ^ number) 1) 1)
+is_lowest bits number = is_bit (bit_at bits number) (bit_at-lt bits number) ∙ ap (λ (bit : ℕ). bit_of (eqb bit 1)) (sym (shr_and_one bits number))
+
+pub set_here : (bits number : ℕ) → number < 16 → bit_at (bit_or bits (1 * 2 ^ number % 2 ^ 16)) number ≡ 1
+set_here bits number within = bit_at_set_same w16 bits number within
+
+pub set_elsewhere : (bits number : ℕ) → number < 16 → (other : ℕ) → other ≢ number → bit_at (bit_or bits (1 * 2 ^ number % 2 ^ 16)) other ≡ bit_at bits other
+set_elsewhere bits number within other differs = bit_at_set_other w16 bits number within other differs
+
+pub none_counted : (taken : ℕ) → Counts taken taken []
+none_counted taken seat within = omega arith
+
+pub one_counted : (before after number : ℕ) → (number < SEATS → bit_at after number ≡ 1) → ((other : ℕ) → other ≢ number → bit_at after other ≡ bit_at before other) → (number < SEATS → bit_at before number ≡ 0)
+    → Counts before after (OfSeat (Began (Seat number)) ∷ [])
+one_counted before after number here others first seat within =
+    elim (eqb_tells number seat) [
+      | inl same ↦
+          subst (λ (b : Bool). bit_at after seat ≡ bit_at before seat + (((if b then 1 else 0) + 0) + 0)) (sym same.0)
+          (subst (λ (n : ℕ). bit_at after n ≡ bit_at before n + ((1 + 0) + 0)) same.1 (let one = here (omega (arith, same.1, within)) in let none = first (omega (arith, same.1, within)) in omega (arith, one, none)))
+      | inr differs ↦
+          subst (λ (b : Bool). bit_at after seat ≡ bit_at before seat + (((if b then 1 else 0) + 0) + 0)) (sym differs.0) (let stays = others seat (λ is. differs.1 (sym is)) in omega (arith, stays))
+    ]
+
+pub piece_counted : (before after number : ℕ) (bytes : List ℕ) → (number < SEATS → bit_at after number ≡ 1) → ((other : ℕ) → other ≢ number → bit_at after other ≡ bit_at before other) → (number < SEATS → bit_at before number ≡ 0)
+    → Counts before after (OfSeat (Came (Seat number) bytes) ∷ [])
+piece_counted before after number bytes here others first seat within =
+    elim (eqb_tells number seat) [
+      | inl same ↦
+          subst (λ (b : Bool). bit_at after seat ≡ bit_at before seat + (0 + length ((if b then bytes ∷ [] else []) ++ []))) (sym same.0)
+          (subst (λ (n : ℕ). bit_at after n ≡ bit_at before n + (0 + 1)) same.1 (let one = here (omega (arith, same.1, within)) in let none = first (omega (arith, same.1, within)) in omega (arith, one, none)))
+      | inr differs ↦
+          subst (λ (b : Bool). bit_at after seat ≡ bit_at before seat + (0 + length ((if b then bytes ∷ [] else []) ++ []))) (sym differs.0) (let stays = others seat (λ is. differs.1 (sym is)) in omega (arith, stays))
+    ]
+
+counts_on : (a b c : ℕ) (xs ys : List Incoming) → Counts a b xs → Counts b c ys → Counts a c (xs ++ ys)
+counts_on a b c xs ys first then_on seat within =
+    let one = first seat within in
+    let two = then_on seat within in
+    let both = things_both seat xs ys in
+    omega (arith, one, two, both)
+
+-- nobody was taken in at a seat whose bit is one of these, and where something was taken of the seat that is asked it isn't asked
+none_of_both : (closed taken number : ℕ) → bit_at (bit_or closed taken) number ≡ 0 → (bit_at closed number ≡ 0) × (bit_at taken number ≡ 0)
+none_of_both closed taken number none =
+    let either : bit_at (bit_or closed taken) number ≡ max (bit_at closed number) (bit_at taken number) = bit_at_or closed taken number in
+    (omega (arith, none, either), omega (arith, none, either))
+
+pub first_of : (closed taken at : ℕ) (notice : SeatNotice) → (at < SEATS → bit_at taken at ≡ 0) → KeepsClosed (bit_or closed taken) (Some notice) → IsPieceOf at PIECE (Some notice) → IsFirstOf taken notice
+first_of closed taken at (notices.Came number) none free piece = λ within. (none_of_both closed taken number free).1
+first_of closed taken at (notices.Piece number bytes) none free piece = subst (λ (n : ℕ). n < SEATS → bit_at taken n ≡ 0) (sym piece.0) none
+first_of closed taken at (notices.Gone number) none free piece = tt
+first_of closed taken at (notices.Refused number source) none free piece = tt
+
+spared_at : (closed number seat : ℕ) → bit_at closed number ≡ 0 → bit_at closed seat ≡ 1 → ((eqb number seat ≡ true) × (number ≡ seat)) ⊎ ((eqb number seat ≡ false) × (number ≢ seat)) → (if number == seat then 1 else 0) + 0 ≡ 0
+spared_at closed number seat free shut (inl same) = absurd (let at : bit_at closed seat ≡ 0 = subst (λ (n : ℕ). bit_at closed n ≡ 0) same.1 free in omega (arith, at, shut))
+spared_at closed number seat free shut (inr differs) = subst (λ (b : Bool). (if b then 1 else 0) + 0 ≡ 0) (sym differs.0) refl
+
+pub spares_of : (closed taken : ℕ) (notice : SeatNotice) → KeepsClosed (bit_or closed taken) (Some notice) → Spares closed (incoming_by (Some notice))
+spares_of closed taken (notices.Came number) free seat within shut = spared_at closed number seat (none_of_both closed taken number free).0 shut (eqb_tells number seat)
+spares_of closed taken (notices.Piece number bytes) free seat within shut = refl
+spares_of closed taken (notices.Gone number) free seat within shut = refl
+spares_of closed taken (notices.Refused number source) free seat within shut = refl
+
+spares_on : (closed : ℕ) (xs ys : List Incoming) → Spares closed xs → Spares closed ys → Spares closed (xs ++ ys)
+spares_on closed xs ys first then_on seat within shut =
+    let one = first seat within shut in
+    let two = then_on seat within shut in
+    let both = begin_both seat xs ys in
+    omega (arith, one, two, both)
+
+spares_peers : (closed : ℕ) (xs : List Incoming) → seats_of xs ≡ [] → Spares closed xs
+spares_peers closed xs none seat within shut = ap (λ (m : List Passage). begins_at seat m) none
+
+pub next_none : (at closed taken : ℕ) → IsNextBut at closed taken taken []
+next_none at closed taken = record { next = (None, (refl, tt)); counts = none_counted taken; spares = λ seat within shut. refl }
+
+-- of seats with numbers below this one, of which each of these gave one thing
+pub record ComeBelow (at closed taken : ℕ) (things : List Incoming) : Type 0 where
+  pub below : ComeOfSeatsBelow at things
+  pub counts : Counts 0 taken things
+  pub spares : Spares closed things
+
+pub none_come : (closed : ℕ) → ComeBelow 0 closed 0 []
+none_come closed = record { below = none_below 0; counts = none_counted 0; spares = λ seat within shut. refl }
+
+pub come_on : (at closed before after : ℕ) (xs ys : List Incoming) → ComeBelow at closed before xs → IsNextBut at closed before after ys → ComeBelow (at + 1) closed after (xs ++ ys)
+come_on at closed before after xs ys come next = record {
+  below = below_on at xs ys come.below next.next;
+  counts = counts_on 0 before after xs ys come.counts next.counts;
+  spares = spares_on closed xs ys come.spares next.spares;
+}
+
+one_of : (taken : ℕ) (xs : List Incoming) → Counts 0 taken xs → (seat : ℕ) → seat < SEATS → things_at seat xs ≤ 1
+one_of taken xs counts seat within =
+    let is = counts seat within in
+    let below = bit_at-lt taken seat in
+    omega (arith, is, below)
+
+pub come_is_all : (at closed taken : ℕ) (xs : List Incoming) → ComeBelow at closed taken xs → ComeOfSeatsBut closed xs
+come_is_all at closed taken xs come = (below_is_all at xs come.below (one_of taken xs come.counts), come.spares)
+
 -- ---- a turn
 
 pub nothing_of_seats : ComeOfSeats []
-nothing_of_seats = record { peers = refl; pieces = λ seat. tt }
+nothing_of_seats = record { peers = refl; pieces = λ seat. tt; one = λ seat within. omega arith }
 
 pub then_seats : (xs ys : List Incoming) → ComeOfPeers xs → ComeOfSeats ys → IsTurn (xs ++ ys)
 then_seats xs ys peers seats = record { first = xs; last = ys; all = refl; peers = peers; seats = seats }
@@ -140,3 +276,39 @@ pub turn_to_life : (xs : List Incoming) → IsTurn xs → EndsAtLife (peers_of x
 turn_to_life xs turn =
     let none : peers_of (turn.first ++ turn.last) ≡ peers_of turn.first = peers_of_more turn.first turn.last ∙ (ap (λ (m : List Passage). peers_of turn.first ++ m) turn.seats.peers ∙ append-nil (peers_of turn.first)) in
     subst (λ (m : List Incoming). EndsAtLife (peers_of m)) (sym turn.all) (subst (λ (m : List Passage). EndsAtLife m) (sym none) turn.peers.lives)
+
+pub then_seats_but : (closed : ℕ) (xs ys : List Incoming) → ComeOfPeers xs → ComeOfSeatsBut closed ys → IsTurnBut closed (xs ++ ys)
+then_seats_but closed xs ys peers seats = (then_seats xs ys peers seats.0, spares_on closed xs ys (spares_peers closed xs peers.seats) seats.1)
+
+pub peers_but : (closed : ℕ) (xs : List Incoming) → ComeOfPeers xs → IsTurnBut closed xs
+peers_but closed xs peers = (peers_alone xs peers, spares_peers closed xs peers.seats)
+
+-- the closed seats are those at which these bots sit
+one_at : (sits : Bool) (bit begins : ℕ) → bit ≡ bit_of sits → begins ≤ 1 → (bit ≡ 1 → begins ≡ 0) → begins + bit_of sits ≤ 1
+one_at true bit begins is most spares = let none = spares is in omega (arith, none)
+one_at false bit begins is most spares = omega (arith, most)
+
+one_in_turn : (xs : List Incoming) → IsTurn xs → (seat : ℕ) → seat < SEATS → begins_at seat (seats_of xs) ≤ 1
+one_in_turn xs turn seat within =
+    let all = ap (λ (m : List Incoming). begins_at seat (seats_of m)) turn.all in
+    let both = begin_both seat turn.first turn.last in
+    let none = ap (λ (m : List Passage). begins_at seat m) turn.peers.seats in
+    let one = turn.seats.one seat within in
+    omega (arith, all, both, none, one)
+
+pub turn_of : (closed : ℕ) (bots : List Place) → ((seat : ℕ) → seat < 16 → bit_at closed seat ≡ bit_of (sits_at bots seat)) → (xs : List Incoming) → IsTurnBut closed xs → IsTurnOf bots xs
+turn_of closed bots are xs turn = (
+  turn.0,
+  λ seat within.
+      one_at (sits_at bots seat) (bit_at closed seat) (begins_at seat (seats_of xs)) (are seat (omega (arith, within))) (one_in_turn xs turn.0 seat within) (turn.1 seat within),
+)
+
+one_or_none : (b : Bool) → 0 + bit_of b ≤ 1
+one_or_none true = omega arith
+one_or_none false = omega arith
+
+pub no_turn_of : (bots : List Place) → IsTurnOf bots []
+no_turn_of bots = (nothing_in_turn, λ seat within. one_or_none (sits_at bots seat))
+
+pub turn_of_to_life : (bots : List Place) (xs : List Incoming) → IsTurnOf bots xs → EndsAtLife (peers_of xs)
+turn_of_to_life bots xs turn = turn_to_life xs turn.0

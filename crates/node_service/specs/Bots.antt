@@ -1,5 +1,5 @@
 -- What the bots of a process's seats are told: the lines of their seats, off the tables that its node had.
-use Rattle.std.specs.Prelude.{◌≡◌, ℕ, ◌<◌, Bool, true, List, [], ◌∷◌, ◌++◌, length, Option, Some, None, IfSome, IsSome}
+use Rattle.std.specs.Prelude.{◌≡◌, ◌⊎◌, ℕ, ◌<◌, Bool, true, List, [], ◌∷◌, ◌++◌, length, Option, Some, None, IfSome, IsSome, IsSomeAnd}
 use Rattle.promise_store.specs.declared.disk.Disk.{Ghosts}
 use Rattle.slot_log.specs.Hand.{Hand, Match}
 use Rattle.slot_log.specs.Dealer.{is_match_over}
@@ -82,6 +82,21 @@ IsToldOver table seat bot = bot.sits ≡ true → (bot.words.asked ≡ asks.Noth
 abbrev pub IsServed : Match → ℕ → Bot → (waits : List ℕ) → Type 0
 IsServed table seat bot waits = HasBegun table seat bot × IsToldAll table seat bot waits × IsToldOver table seat bot
 
+-- ---- over calls
+
+-- who sits there sat there before, and had asked so
+pub record IsStill (old new : Bot) : Type 0 where
+  pub sits : new.sits ≡ true → old.sits ≡ true
+  pub words : new.words ≡ old.words
+
+-- its lines had begun there
+abbrev pub HadBegun : (old new : Bot) → Telling → Type 0
+HadBegun old new telling = IsStill old new × IsSomeAnd old.telling (λ was. was.start ≡ telling.start)
+
+-- it had been told that its line is none
+abbrev pub HadParted : (old new : Bot) → Type 0
+HadParted old new = IsStill old new × (old.parting ≡ Some Other)
+
 -- ---- off the tables of a node
 
 module _ {D : Type 0} (g : Ghosts D) where
@@ -125,6 +140,33 @@ module _ {D : Type 0} (g : Ghosts D) where
   -- so it is at each seat
   abbrev pub AreBotsOf : Look (Node D) → List Seat → Type 0
   AreBotsOf look seats = (seat : ℕ) → IsBotOf look seat (bot_at seats seat)
+
+  -- ---- since a moment
+
+  -- the table of a process's node at some moment since it had done this much
+  abbrev pub HadTableSince : (first : List Deed) → Look (Node D) → Match → Type 0
+  HadTableSince first look table = (had : HadTable look table) × ((more : List Deed) × (had.then_is.deeds ≡ more ++ first))
+
+  -- a bot's lines had begun before, or they begin by such a table
+  abbrev pub BeginsSince : (first : List Deed) → Look (Node D) → ℕ → (old new : Bot) → Option Telling → Type 0
+  BeginsSince first look seat old new None = Unit {0}
+  BeginsSince first look seat old new (Some telling) =
+      HadBegun old new telling ⊎ ((table : Match) × (HadTableSince first look table × StartsBy table seat new.words.asked new.words.named telling.start))
+
+  -- that its line is none it had been told before, or such a table hadn't it
+  abbrev pub PartsSince : (first : List Deed) → Look (Node D) → ℕ → (old new : Bot) → Option Parting → Type 0
+  PartsSince first look seat old new None = Unit {0}
+  PartsSince first look seat old new (Some Over) = Unit {0}
+  PartsSince first look seat old new (Some Other) = HadParted old new ⊎ ((table : Match) × (HadTableSince first look table × IsRefusedBy table seat new.words.asked new.words.named))
+
+  pub record IsSince (first : List Deed) (look : Look (Node D)) (seat : ℕ) (old new : Bot) : Type 0 where
+    pub begins : BeginsSince first look seat old new new.telling
+    pub parts : PartsSince first look seat old new new.parting
+
+  -- the bots of seats stay such, and what began of each meanwhile goes by a table that the node had meanwhile
+  pub record KeepBots (old new : Look (Node D)) (were are : List Seat) : Type 0 where
+    pub stay : AreBotsOf old were → AreBotsOf new are
+    pub since : AreBotsOf old were → (seat : ℕ) → IsSince old.deeds new seat (bot_at were seat) (bot_at are seat)
 
   -- ---- all that there is to tell
 

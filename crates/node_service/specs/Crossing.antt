@@ -22,8 +22,8 @@ use Rattle.node_service.specs.Served.{Served}
 abbrev pub AreCarried : (passed lines : List Passage) → Type 0
 AreCarried passed lines = (line : Line) → IsPeers line → (wrote_over passed line ≡ wrote_over lines line) × (came_over passed line ≡ came_over lines line)
 
--- so it is; what was written to each seat, with what waits for it, is what its bot was told; to a guest of a seat nothing was written; and
--- what was written to one who asks is a beginning of the line that he was given
+-- so it is; what was written to each seat, with what waits for it, is what its bot was told, and what that bot asked is read off all that came over its connection; to a
+-- guest of a seat nothing was written; and what was written to one who asks is a beginning of the line that he was given
 pub record IsCarried (passed lines : List Passage) (bots : List Seat) (askers : List Asker) : Type 0 where
   pub peers : AreCarried passed lines
   pub said : AreSaid passed bots

@@ -7,7 +7,7 @@ use Rattle.dealer_node.specs.Nodes.{Node}
 use Rattle.stations.specs.Looking.{look_of}
 use Rattle.node_service.specs.declared.desk.Desk.{Desk}
 use Rattle.node_peers.specs.Peering.{own_of, passed_of, frames_of, heard_of}
-use Rattle.node_service.specs.Bots.{AreBotsOf}
+use Rattle.node_service.specs.Bots.{KeepBots}
 use Rattle.node_service.specs.Asking.{GivesOnly, IsNoLine}
 use Rattle.node_service.specs.Crossing.{Carries}
 use Rattle.node_service.specs.Company.{HearsOn}
@@ -42,7 +42,7 @@ module _ {D W : Type 0} {disk : Ghosts D} (wire : OfWire W) where
     pub member : new.member ≡ old.member
     pub log_failed : new.log_failed ≡ old.log_failed
     pub sent : frames_of new.company.peers ≡ frames_of old.company.peers
-    pub bots : AreBotsOf disk (look_of old.member.station) old.seats.seats.items → AreBotsOf disk (look_of new.member.station) new.seats.seats.items
+    pub bots : KeepBots disk (look_of old.member.station) (look_of new.member.station) old.seats.seats.items new.seats.seats.items
     pub guests : new.seats.guests ≡ old.seats.guests
     pub heard : heard_of new.company.peers ≡ heard_of old.company.peers
     pub log : logged_in (wire.passed new.wire) ≡ logged_in (wire.passed old.wire)

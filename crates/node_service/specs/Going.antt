@@ -8,7 +8,7 @@ use Rattle.stations.specs.Deeds.{Deed}
 use Rattle.node_service.specs.Parts.{IsPartOf}
 use Rattle.node_service.specs.Showing.{shown_log, LogGains}
 use Rattle.node_service.specs.Handed.{frames_by}
-use Rattle.node_service.specs.Bots.{AreBotsOf}
+use Rattle.node_service.specs.Bots.{KeepBots}
 use Rattle.node_service.specs.Arriving.{Incoming, seats_of, peers_of, came_by}
 use Rattle.node_service.specs.Company.{Hears}
 use Rattle.node_service.specs.Asking.{GivesOnly, IsNoLine, IsReply}
@@ -21,7 +21,7 @@ use Rattle.node_service.specs.Fitting.{Fits, FitsBut}
 
 module _ {D : Type 0} (g : Ghosts D) where
   -- it stays the process of the same node, by the same terms; it did so much more, the newest first: the log gained what was shown to it; the frames that these deeds
-  -- sent were handed to the peers, in order, and nothing else was; the bots of seats are told the lines of their seats, off tables of its node alone; and what came to the node had come: of seats over their
+  -- sent were handed to the peers, in order, and nothing else was; the bots of seats are told the lines of their seats, off tables of its node alone, and where they begin, or are none, goes by one that it had meanwhile; and what came to the node had come: of seats over their
   -- lines, and of peers as they told it, with what was taken before, in this order and each once, and who was taken in at a seat had shown its token; of each seat nothing was left out in the middle; what had
   -- passed over the lines of its peers has; who asks is given status lines alone; what crosses the wires goes by peers, seats and askers, as before; and a node
   -- that was started once is still, and isn't started again
@@ -34,7 +34,7 @@ module _ {D : Type 0} (g : Ghosts D) where
     pub deeds : new.look.deeds ≡ since ++ old.look.deeds
     pub log : LogGains old.log_failed new.log_failed (shown_log since) (logged_in old.passed) (logged_in new.passed)
     pub sent : new.sent ≡ old.sent ++ frames_by since
-    pub bots : AreBotsOf g old.look old.bots → AreBotsOf g new.look new.bots
+    pub bots : KeepBots g old.look new.look old.bots new.bots
     pub gained : List Incoming
     pub seats : seats_in new.passed ≡ seats_in old.passed ++ seats_of gained
     pub heard : new.heard ≡ old.heard ++ peers_of gained
@@ -67,7 +67,7 @@ module _ {D : Type 0} (g : Ghosts D) where
     pub terms : new.terms ≡ old.terms
     pub log_failed : new.log_failed ≡ old.log_failed
     pub sent : new.sent ≡ old.sent
-    pub bots : AreBotsOf g old.look old.bots → AreBotsOf g new.look new.bots
+    pub bots : KeepBots g old.look new.look old.bots new.bots
     pub log : logged_in new.passed ≡ logged_in old.passed
     pub seats : seats_in new.passed ≡ seats_in old.passed ++ seats_of taken
     pub heard : new.heard ≡ old.heard ++ peers_of taken

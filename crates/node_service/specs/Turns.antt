@@ -1,11 +1,16 @@
--- What one turn takes: what peers told, and then of each seat one piece at most.
-use Rattle.std.specs.Prelude.{◌≡◌, ℕ, ◌≤◌, ◌==◌, if◌then◌else◌, List, [], ◌∷◌, ◌++◌, length, Option}
+-- What one turn takes: what peers told, and then of each seat one thing at most.
+use Rattle.std.specs.Prelude.{◌≡◌, ℕ, ◌+◌, ◌<◌, ◌≤◌, ◌==◌, if◌then◌else◌, List, [], ◌∷◌, ◌++◌, length, Option}
+use Rattle.std.specs.Int.{bit_at}
 use Rattle.node_wires.specs.declared.line.Line.{Line}
 use Rattle.node_wires.specs.declared.line.Line.TheVariants.{Peer, Caller, Seat, Guest, Asker}
 use Rattle.node_wires.specs.Passages.{Passage, Began, Came, Wrote, Gave, Logged}
 use Rattle.node_seats.specs.declared.limits.TheConstants.{PIECE}
+use Rattle.node_seats.specs.declared.seat.Seat.{Seat as Place}
 use Rattle.node_seats.specs.declared.seat_notice.SeatNotice.{SeatNotice}
+use Rattle.node_seats.specs.declared.seat_notice.SeatNotice.TheVariants as notices
 use Rattle.node_seats.specs.Pieces.{IsPieceOf}
+use Rattle.node_seats.specs.Seating.{bit_of, sits_at}
+use Rattle.node_service.specs.declared.limits.TheConstants.{SEATS}
 use Rattle.node_service.specs.Arriving.{Incoming, seats_of, peers_of}
 use Rattle.node_service.specs.Crossing.{HasNoLife, EndsAtLife}
 use Rattle.node_service.specs.Telling.{incoming_by}
@@ -33,6 +38,47 @@ abbrev pub IsOnePiece : List (List ℕ) → Type 0
 IsOnePiece [] = Unit {0}
 IsOnePiece (piece ∷ more) = (length piece ≤ PIECE) × (more ≡ [])
 
+-- ---- who comes
+
+abbrev pub begins_over : ℕ → Line → ℕ
+begins_over seat (Seat number) = if number == seat then 1 else 0
+begins_over seat (Peer number) = 0
+begins_over seat (Caller place) = 0
+begins_over seat (Guest place) = 0
+begins_over seat (Asker place) = 0
+
+-- how often a connection began at a seat
+abbrev pub begins_at : ℕ → List Passage → ℕ
+begins_at seat [] = 0
+begins_at seat (Began line ∷ more) = begins_over seat line + begins_at seat more
+begins_at seat (Gave place number ∷ more) = begins_over seat (Seat number) + begins_at seat more
+begins_at seat (Came line bytes ∷ more) = begins_at seat more
+begins_at seat (Wrote line bytes ∷ more) = begins_at seat more
+begins_at seat (Logged text ∷ more) = begins_at seat more
+
+-- what came of a seat: connections that began at it, and pieces
+abbrev pub things_at : ℕ → List Incoming → ℕ
+things_at seat things = begins_at seat (seats_of things) + length (pieces_of seat (seats_of things))
+
+-- the bits of seats of which something came are set then, and weren't before
+abbrev pub Counts : ℕ → ℕ → List Incoming → Type 0
+Counts before after things = (seat : ℕ) → seat < SEATS → bit_at after seat ≡ bit_at before seat + things_at seat things
+
+-- of its seat nothing came before
+abbrev pub IsFirstOf : ℕ → SeatNotice → Type 0
+IsFirstOf before (notices.Came number) = number < SEATS → bit_at before number ≡ 0
+IsFirstOf before (notices.Piece number bytes) = number < SEATS → bit_at before number ≡ 0
+IsFirstOf before (notices.Gone number) = Unit {0}
+IsFirstOf before (notices.Refused number source) = Unit {0}
+
+-- no connection began at a closed seat, one whose bit is set
+abbrev pub Spares : ℕ → List Incoming → Type 0
+Spares closed things = (seat : ℕ) → seat < SEATS → bit_at closed seat ≡ 1 → begins_at seat (seats_of things) ≡ 0
+
+-- at each seat a connection began once at most, and at none where one of these bots sits
+abbrev pub IsOneAt : List Place → List Incoming → Type 0
+IsOneAt bots things = (seat : ℕ) → seat < SEATS → begins_at seat (seats_of things) + bit_of (sits_at bots seat) ≤ 1
+
 -- ---- what is taken
 
 -- frames of peers alone
@@ -45,10 +91,11 @@ pub record ComeOfPeers (things : List Incoming) : Type 0 where
   pub seats : seats_of things ≡ []
   pub lives : EndsAtLife (peers_of things)
 
--- of seats alone, and of each one piece at most
+-- of seats alone, and of each one thing at most, one that came or a piece
 pub record ComeOfSeats (things : List Incoming) : Type 0 where
   pub peers : peers_of things ≡ []
   pub pieces : (seat : ℕ) → IsOnePiece (pieces_of seat (seats_of things))
+  pub one : (seat : ℕ) → seat < SEATS → things_at seat things ≤ 1
 
 -- what came next of a seat, or of a guest, by its number
 abbrev pub IsNextOf : ℕ → List Incoming → Type 0
@@ -61,3 +108,19 @@ pub record IsTurn (things : List Incoming) : Type 0 where
   pub all : things ≡ first ++ last
   pub peers : ComeOfPeers first
   pub seats : ComeOfSeats last
+
+-- the next of a seat is the first of it, and at none of the closed ones did a connection begin
+pub record IsNextBut (at closed before after : ℕ) (things : List Incoming) : Type 0 where
+  pub next : IsNextOf at things
+  pub counts : Counts before after things
+  pub spares : Spares closed things
+
+abbrev pub ComeOfSeatsBut : ℕ → List Incoming → Type 0
+ComeOfSeatsBut closed things = ComeOfSeats things × Spares closed things
+
+abbrev pub IsTurnBut : ℕ → List Incoming → Type 0
+IsTurnBut closed things = IsTurn things × Spares closed things
+
+-- a turn, before which these bots sat at the seats
+abbrev pub IsTurnOf : List Place → List Incoming → Type 0
+IsTurnOf bots things = IsTurn things × IsOneAt bots things

@@ -9,7 +9,7 @@ ghost use Rattle.node_peers.specs.Peering.{own_of, passed_of, frames_of, heard_o
 ghost use Rattle.node_peers.specs.Sending.{Sends};
 ghost use Rattle.node_seats.specs.Pieces.{IsPieceOf};
 ghost use Rattle.node_seats.specs.declared.limits.TheConstants.{PIECE};
-ghost use Rattle.node_seats.specs.Seating.{bot_at, waits_at, sits_at, KeepsOtherBots};
+ghost use Rattle.node_seats.specs.Seating.{bot_at, waits_at, sits_at, KeepsOtherBots, KeepsClosed};
 ghost use Rattle.stations.specs.Looking.{look_of};
 ghost use Rattle.node_wires.specs.declared.line.Line.TheVariants.{Peer};
 ghost use Rattle.node_wires.specs.Passages.{Wrote, logged_in, seats_in};
@@ -252,13 +252,14 @@ impl<D: Disk + Drop, W: Wire + Drop> Desk<D, W> {
         self.company.next()
     }
 
-    /// What came next of a seat, or of a guest, by its number.
-    pub(crate) fn next_of_seats(&mut self, at: u8, now: u64) -> Option<SeatNotice>
+    /// What came next of a seat, or of a guest, by its number. At closed seats, a bit each, nobody is taken in.
+    pub(crate) fn next_of_seats(&mut self, at: u8, closed: u16, now: u64) -> Option<SeatNotice>
+        ensures closed { KeepsClosed closed result }
         ensures takes { Takes D.Disk (incoming_by result) (served_by W.Wire self.old) (served_by W.Wire self.new) }
         ensures piece { IsPieceOf at PIECE result }
     {
         let is_greeted = self.member.is_connected(at);
-        let notice = self.seats.next(&mut self.wire, at, is_greeted, now);
+        let notice = self.seats.next(&mut self.wire, at, is_greeted, closed, now);
         note_gone(&notice, &mut self.sittings);
         notice
     }

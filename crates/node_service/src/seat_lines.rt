@@ -8,7 +8,7 @@ ghost use Rattle.stations.specs.Looking.{look_of};
 ghost use Rattle.slot_log.specs.Hand.{Match};
 ghost use Rattle.node_seats.specs.Seating.{bot_at, waits_at, KeepsOtherBots};
 ghost use Rattle.node_seats.specs.Telling.{IsToldAll};
-ghost use Rattle.node_service.specs.Bots.{newest_place, IsRefusedBy, IsStart, IsBehindAll, AreBotsOf, HasBegun, IsToldOver, OfTable, IsServedAt};
+ghost use Rattle.node_service.specs.Bots.{newest_place, IsRefusedBy, IsStart, IsBehindAll, KeepBots, HasBegun, IsToldOver, OfTable, IsServedAt};
 
 use crate::limits::SEATS;
 use crate::local_node::LocalNode;
@@ -120,8 +120,9 @@ pub(crate) fn is_behind<D: Disk + Drop>(member: &LocalNode<D>, seats: &Seats, se
 
 /// Where the bot of a seat isn't told lines yet, it is from the line on from which it asked to be; or it is told that there is no
 /// such line. False without memory for that.
+#[tactic(auto, using(crate::proofs::Bots::bots_still))]
 fn begin<D: Disk + Drop>(member: &LocalNode<D>, seats: &mut Seats, seat: u8) -> bool
-    ensures bots { AreBotsOf D.Disk (look_of member.now.station) seats.old.seats.items → AreBotsOf D.Disk (look_of member.now.station) seats.new.seats.items }
+    ensures bots { KeepBots D.Disk (look_of member.now.station) (look_of member.now.station) seats.old.seats.items seats.new.seats.items }
     ensures said { (passed : List Passage) → AreSaid passed seats.old.seats.items → AreSaid passed seats.new.seats.items }
     ensures guests { seats.new.guests ≡ seats.old.guests }
     ensures begun { result ≡ true → OfTable D.Disk (look_of member.now.station) (λ table. seat < table.game.players → HasBegun table seat (bot_at seats.new.seats.items seat)) }
@@ -145,8 +146,9 @@ fn begin<D: Disk + Drop>(member: &LocalNode<D>, seats: &mut Seats, seat: u8) -> 
 
 /// Tells the bot of a seat that was told no line that the line that it named is none, where the table still hasn't it. False
 /// without memory for that.
+#[tactic(auto, using(crate::proofs::Bots::bots_still))]
 pub(crate) fn refuse<D: Disk + Drop>(member: &LocalNode<D>, seats: &mut Seats, seat: u8) -> bool
-    ensures bots { AreBotsOf D.Disk (look_of member.now.station) seats.old.seats.items → AreBotsOf D.Disk (look_of member.now.station) seats.new.seats.items }
+    ensures bots { KeepBots D.Disk (look_of member.now.station) (look_of member.now.station) seats.old.seats.items seats.new.seats.items }
     ensures said { (passed : List Passage) → AreSaid passed seats.old.seats.items → AreSaid passed seats.new.seats.items }
     ensures guests { seats.new.guests ≡ seats.old.guests }
 {
@@ -185,7 +187,7 @@ fn has_line(table: &Table, seat: u8, named: &[u8]) -> bool
 
 /// Tells the bot of a seat the lines to which the table has come. False without memory for one.
 fn tell<D: Disk + Drop>(member: &LocalNode<D>, seats: &mut Seats, seat: u8) -> bool
-    ensures bots { AreBotsOf D.Disk (look_of member.now.station) seats.old.seats.items → AreBotsOf D.Disk (look_of member.now.station) seats.new.seats.items }
+    ensures bots { KeepBots D.Disk (look_of member.now.station) (look_of member.now.station) seats.old.seats.items seats.new.seats.items }
     ensures said { (passed : List Passage) → AreSaid passed seats.old.seats.items → AreSaid passed seats.new.seats.items }
     ensures guests { seats.new.guests ≡ seats.old.guests }
     ensures begun { (table : Match) → HasBegun table seat (bot_at seats.old.seats.items seat) → HasBegun table seat (bot_at seats.new.seats.items seat) }
@@ -198,8 +200,9 @@ fn tell<D: Disk + Drop>(member: &LocalNode<D>, seats: &mut Seats, seat: u8) -> b
 
 /// Tells the bot of a seat that the match is over, where it is, all its lines were told, and the bot asked to be told from a line
 /// on. False without memory for that.
+#[tactic(auto, using(crate::proofs::Bots::bots_still))]
 fn end<D: Disk + Drop>(member: &LocalNode<D>, seats: &mut Seats, seat: u8) -> bool
-    ensures bots { AreBotsOf D.Disk (look_of member.now.station) seats.old.seats.items → AreBotsOf D.Disk (look_of member.now.station) seats.new.seats.items }
+    ensures bots { KeepBots D.Disk (look_of member.now.station) (look_of member.now.station) seats.old.seats.items seats.new.seats.items }
     ensures said { (passed : List Passage) → AreSaid passed seats.old.seats.items → AreSaid passed seats.new.seats.items }
     ensures guests { seats.new.guests ≡ seats.old.guests }
     ensures begun { (table : Match) → HasBegun table seat (bot_at seats.old.seats.items seat) → HasBegun table seat (bot_at seats.new.seats.items seat) }
@@ -225,8 +228,9 @@ fn end<D: Disk + Drop>(member: &LocalNode<D>, seats: &mut Seats, seat: u8) -> bo
 }
 
 /// Tells the bot of a seat what there is to tell, where its session is ready. False without memory: then it is to be let go of.
+#[tactic(auto, using(crate::proofs::Bots::bots_still))]
 pub(crate) fn tell_bot<D: Disk + Drop>(member: &LocalNode<D>, seats: &mut Seats, seat: u8) -> bool
-    ensures bots { AreBotsOf D.Disk (look_of member.now.station) seats.old.seats.items → AreBotsOf D.Disk (look_of member.now.station) seats.new.seats.items }
+    ensures bots { KeepBots D.Disk (look_of member.now.station) (look_of member.now.station) seats.old.seats.items seats.new.seats.items }
     ensures said { (passed : List Passage) → AreSaid passed seats.old.seats.items → AreSaid passed seats.new.seats.items }
     ensures guests { seats.new.guests ≡ seats.old.guests }
     ensures served { result ≡ true → IsServedAt D.Disk (look_of member.now.station) seat (bot_at seats.new.seats.items seat) (waits_at seats.new.seats.items seat) }
@@ -245,8 +249,9 @@ pub(crate) fn tell_bot<D: Disk + Drop>(member: &LocalNode<D>, seats: &mut Seats,
 }
 
 /// Tells the bots of all seats what there is to tell. It says which are to be let go of, a bit each.
+#[tactic(auto, using(crate::proofs::Bots::bots_still))]
 pub(crate) fn tell_all<D: Disk + Drop>(member: &LocalNode<D>, seats: &mut Seats) -> u16
-    ensures bots { AreBotsOf D.Disk (look_of member.now.station) seats.old.seats.items → AreBotsOf D.Disk (look_of member.now.station) seats.new.seats.items }
+    ensures bots { KeepBots D.Disk (look_of member.now.station) (look_of member.now.station) seats.old.seats.items seats.new.seats.items }
     ensures said { (passed : List Passage) → AreSaid passed seats.old.seats.items → AreSaid passed seats.new.seats.items }
     ensures guests { seats.new.guests ≡ seats.old.guests }
 {

@@ -129,7 +129,7 @@ impl<D: Disk + Drop, W: Wire + Drop> Drop for NodeServer<D, W> {
 impl<D: Disk + Drop, W: Wire + Drop> NodeServer<D, W> {
     ghost use Rattle.node_service.specs.Desks.{IsKept};
     ghost use Rattle.node_service.specs.Going.{GoesOn, GoesOnWith, GoesOnToLife, Does};
-    ghost use Rattle.node_service.specs.Turns.{IsTurn};
+    ghost use Rattle.node_service.specs.Turns.{IsTurnOf};
     ghost use Rattle.node_service.specs.Serving.{served_of, told_in, station_of, outcome_in, ending_in, fault_in, look_in, nodes_of};
     ghost use Rattle.node_service.specs.Meaning.{IsMeant, IsKnownEverywhere};
     ghost use Rattle.node_service.specs.Knowing.{MayCall, players_of};
@@ -467,13 +467,16 @@ impl<D: Disk + Drop, W: Wire + Drop> NodeServer<D, W> {
     /// One turn: waits for so many microseconds at most, takes what came, and does what is due. It answers what is left to
     /// do, and how long the next turn may wait. Once the process is to end nothing is done.
     ///
-    /// What peers told is taken first, and then of each seat one piece of 512 bytes at most. Behind a turn that goes on each bot
-    /// whose session is ready was told all lines to which the node's table has come, or 64 KiB wait for it; or it waits for the
-    /// line that it named.
+    /// What peers told is taken first, and then of each seat one thing at most: a bot that comes, or a piece of 512 bytes at most.
+    /// Nobody comes to a seat at which somebody sat when the turn began: who is there meanwhile waits. Where such a seat is free
+    /// at the end of the turn, the next one doesn't rest.
+    ///
+    /// Behind a turn that goes on each bot whose session is ready was told all lines to which the node's table has come, or
+    /// 64 KiB wait for it; or it waits for the line that it named.
     pub fn turn(&mut self, alloc: Global, most: u64) -> (Outcome, u64)
         ensures goes { GoesOn D.Disk [] (served_of self.old) (served_of self.new) }
         ensures lives { GoesOnToLife D.Disk (served_of self.old) (served_of self.new) }
-        ensures takes { GoesOnWith D.Disk IsTurn (served_of self.old) (served_of self.new) }
+        ensures takes { GoesOnWith D.Disk (IsTurnOf (served_of self.old).bots) (served_of self.old) (served_of self.new) }
         ensures log { is_well result.0 ≡ true → (served_of self.new).log_failed ≡ false }
         ensures runs { is_well result.0 ≡ true → runs (look_in self.new).node ≡ true }
         ensures over { result.0 ≡ IsOver → IsOverAt D.Disk (look_in self.new).node }
@@ -496,17 +499,19 @@ impl<D: Disk + Drop, W: Wire + Drop> NodeServer<D, W> {
     /// One turn of a process that goes on. It answers whether the match is over here and known everywhere, and how long the
     /// next turn may wait.
     fn take_turn(&mut self, alloc: Global, most: u64) -> (bool, u64)
-        ensures takes { GoesOnWith D.Disk IsTurn (served_of self.old) (served_of self.new) }
+        ensures takes { GoesOnWith D.Disk (IsTurnOf (served_of self.old).bots) (served_of self.old) (served_of self.new) }
         ensures over { result.0 ≡ true → IsOverAt D.Disk (look_in self.new).node }
         ensures known { result.0 ≡ true → IsKnownEverywhere self.new self.new.left }
         ensures wait { result.1 ≤ LOOK }
         ensures served { AreServed D.Disk (look_in self.new) (served_of self.new).bots }
     {
+        // Nobody follows those who sit there now within this turn, nor one another.
+        let closed = self.desk.seats.taken_bits();
         let begun = self.wait(most);
         self.desk.hear(begun);
         // What beats told is older than what the frames behind them say.
         self.look(begun);
-        let is_all = self.take_all(alloc, begun);
+        let is_all = self.take_all(alloc, closed, begun);
         self.note_wrong_tokens(begun);
         if self.ending() != Outcome::GoesOn {
             self.part();

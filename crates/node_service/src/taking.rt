@@ -1,10 +1,14 @@
 //! What came of peers and seats, taken one thing after another: each is one call of the node.
 
-ghost use Rattle.std.specs.Prelude.{◌≡◌, ◌∷◌, []};
+ghost use Rattle.std.specs.Prelude.{◌≡◌, ◌≢◌, ◌<◌, ℕ, ◌∷◌, []};
+ghost use Rattle.std.specs.Int.{bit_at};
+ghost use Rattle.node_seats.specs.Seating.{bit_of};
 ghost use Rattle.node_wires.specs.Passages.{Began, Came};
 ghost use Rattle.node_wires.specs.declared.line.Line.TheVariants.{Seat};
 ghost use Rattle.node_service.specs.Arriving.{OfSeat, OfPeer, incoming_of};
 ghost use Rattle.node_service.specs.Telling.{told_of};
+ghost use Rattle.node_service.specs.declared.limits.TheConstants.{SEATS as COUNT};
+ghost use Rattle.node_service.specs.Turns.{Counts, IsFirstOf};
 ghost use Rattle.node_service.specs.Company.{TellsLife};
 ghost use Rattle.node_peers.specs.Hearing.{IsTold};
 ghost use Rattle.node_peers.specs.Peering.{own_of, passed_of};
@@ -25,6 +29,37 @@ use promise_store::Disk;
 use std::alloc::Global;
 use std::net::IpAddr;
 
+/// Whether the bit of a seat is set; not so of a number that no seat has.
+#[tactic(auto, using(crate::proofs::Turns::is_lowest))]
+fn has_bit(bits: u16, seat: u8) -> bool
+    ensures { seat < COUNT → bit_at bits seat ≡ bit_of result }
+{
+    if seat >= SEATS {
+        return false;
+    }
+    bits >> seat & 1 == 1
+}
+
+/// These bits, and that of a seat.
+#[tactic(auto, using(crate::proofs::Turns::set_here, crate::proofs::Turns::set_elsewhere))]
+fn with_bit(bits: u16, seat: u8) -> u16
+    ensures here { seat < COUNT → bit_at result seat ≡ 1 }
+    ensures others { (other : ℕ) → other ≢ seat → bit_at result other ≡ bit_at bits other }
+{
+    if seat < SEATS { bits | 1 << seat } else { bits }
+}
+
+/// The bits of seats of which something was taken, and that of the seat of which this is.
+#[tactic(auto, using(crate::proofs::Turns::one_counted, crate::proofs::Turns::piece_counted, crate::proofs::Turns::none_counted))]
+fn with_thing(taken: u16, notice: &SeatNotice) -> u16
+    ensures { IsFirstOf taken notice.now → Counts taken result (incoming_of notice.now) }
+{
+    match notice {
+        SeatNotice::Came { seat } | SeatNotice::Piece { seat, .. } => with_bit(taken, *seat),
+        SeatNotice::Gone { .. } | SeatNotice::Refused { .. } => taken,
+    }
+}
+
 /// What was taken of what came.
 #[derive(Clone, Copy)]
 pub(crate) enum Taken {
@@ -40,19 +75,19 @@ impl<D: Disk + Drop, W: Wire + Drop> NodeServer<D, W> {
     ghost use Rattle.node_service.specs.Desks.{IsKept};
     ghost use Rattle.node_service.specs.Going.{Does, GoesOnWith};
     ghost use Rattle.node_service.specs.Taking.{StopsAtLife, TakesNext};
-    ghost use Rattle.node_service.specs.Turns.{ComeOfPeers, ComeOfSeats, IsNextOf, IsTurn};
+    ghost use Rattle.node_service.specs.Turns.{ComeOfPeers, ComeOfSeatsBut, IsNextBut, IsTurnBut};
     ghost use Rattle.node_service.specs.Serving.{served_of};
 
-    /// Takes what came: first what peers told, and then of each seat one piece at most, so that none that sends without end
-    /// holds up the others. It says whether nothing is left.
-    pub(crate) fn take_all(&mut self, alloc: Global, begun: u64) -> bool
-        ensures { GoesOnWith D.Disk IsTurn (served_of self.old) (served_of self.new) }
+    /// Takes what came: first what peers told, and then of each seat one thing at most, so that none that sends without end
+    /// holds up the others. At closed seats, a bit each, nobody is taken in. It says whether nothing is left.
+    pub(crate) fn take_all(&mut self, alloc: Global, closed: u16, begun: u64) -> bool
+        ensures { GoesOnWith D.Disk (IsTurnBut closed) (served_of self.old) (served_of self.new) }
     {
         self.has_read_seats = self.take_all_of_peers(alloc, begun);
         if !self.has_read_seats {
             return false;
         }
-        self.take_all_of_seats()
+        self.take_all_of_seats(closed)
     }
 
     /// Takes what peers told, one thing after another, until calls have taken their time. It says whether nothing is left.
@@ -87,18 +122,21 @@ impl<D: Disk + Drop, W: Wire + Drop> NodeServer<D, W> {
         }
     }
 
-    /// Takes what came next of each seat, and of each guest. It says whether nothing is left.
-    fn take_all_of_seats(&mut self) -> bool
-        ensures { GoesOnWith D.Disk ComeOfSeats (served_of self.old) (served_of self.new) }
+    /// Takes what came next of each seat, and of each guest: of a seat one thing at most. At closed seats nobody is taken in. It says
+    /// whether nothing is left: for a seat at which nobody was to be taken in any more, and nobody sits, somebody may wait.
+    fn take_all_of_seats(&mut self, closed: u16) -> bool
+        ensures { GoesOnWith D.Disk (ComeOfSeatsBut closed) (served_of self.old) (served_of self.new) }
     {
         let now = self.desk.now();
         let mut is_all = true;
+        let mut taken = 0u16;
         for at in 0..self.desk.seats.looks() {
             if self.ending() != Outcome::GoesOn {
                 return false;
             }
-            is_all &= self.take_next_of_seat(at, now);
+            is_all &= self.take_next_of_seat(at, closed, &mut taken, now);
         }
+        is_all &= (closed | taken) & !self.desk.seats.taken_bits() == 0;
         is_all
     }
 
@@ -114,16 +152,21 @@ impl<D: Disk + Drop, W: Wire + Drop> NodeServer<D, W> {
         }
     }
 
-    /// Takes what came next of a seat, or of a guest, by its number. It says whether nothing is left of it.
-    fn take_next_of_seat(&mut self, at: u8, now: u64) -> bool
-        ensures { GoesOnWith D.Disk (IsNextOf at) (served_of self.old) (served_of self.new) }
+    /// Takes what came next of a seat, or of a guest, by its number. Where something was taken of a seat before, nobody is taken
+    /// in there, as at a closed one. It says whether nothing is left of it.
+    fn take_next_of_seat(&mut self, at: u8, closed: u16, taken: &mut u16, now: u64) -> bool
+        ensures { GoesOnWith D.Disk (IsNextBut at closed taken.old taken.new) (served_of self.old) (served_of self.new) }
     {
         if !self.takes_in(at) {
             return true;
         }
-        match self.desk.next_of_seats(at, now) {
+        if has_bit(*taken, at) {
+            return false;
+        }
+        match self.desk.next_of_seats(at, closed | *taken, now) {
             Some(notice) => {
                 let has_more = notice.may_have_more();
+                *taken = with_thing(*taken, &notice);
                 self.take_seat_notice(notice);
                 self.leave_all();
                 !has_more

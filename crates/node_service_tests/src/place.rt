@@ -1,5 +1,6 @@
 //! A node of the match: its process, and what its disk has while it has none.
 
+use crate::calls_left::ENDLESS;
 use crate::samples::Server;
 use crate::world::STEP;
 use node_service::{Outcome, ServerNotice};
@@ -30,6 +31,11 @@ pub(crate) struct Place {
     pub(crate) call: u64,
     /// The call that was to fail did.
     pub(crate) has_failed: bool,
+    /// How many calls its next process makes before it is killed, and how many were.
+    pub(crate) calls: u64,
+    pub(crate) killed: u64,
+    /// How long its next turn may wait, in microseconds.
+    pub(crate) rest: u64,
 }
 
 /// Whether the call of this number was made of a wire, and so failed: else one of as many more does.
@@ -99,16 +105,36 @@ impl Place {
             },
             call: 0,
             has_failed: false,
+            calls: ENDLESS,
+            killed: 0,
+            rest: 0,
         }
     }
 
-    /// Its process begins, or ended at its start, since a call of its wires failed.
+    /// Its process begins, or ended at its start, since a call of its wires failed or it was killed there.
     pub(crate) fn begin(&mut self, server: Option<Server>) {
         if server.is_none() {
             self.has_failed = self.has_failed || self.call > 0;
             self.call = 0;
+            self.note_killed(self.calls != ENDLESS);
         }
         self.server = server;
+    }
+
+    /// Its process was killed, or ended otherwise: the next one isn't killed in a turn.
+    fn note_killed(&mut self, is_killed: bool) {
+        if is_killed {
+            self.killed = self.killed.saturating_add(1);
+        }
+        self.calls = ENDLESS;
+    }
+
+    /// Whether its process has made its last call.
+    pub(crate) fn is_cut(&self) -> bool {
+        match &self.server {
+            Some(server) => server.wire().is_cut(),
+            None => false,
+        }
     }
 
     /// One turn of its process at this moment.
@@ -116,8 +142,9 @@ impl Place {
         let Some(server) = &mut self.server else {
             return Outcome::GoesOn;
         };
-        server.wire_mut().set_now(now);
-        let (outcome, _) = server.turn(alloc, STEP);
+        server.wire_mut().whole_mut().set_now(now);
+        let (outcome, rest) = server.turn(alloc, STEP);
+        self.rest = rest;
         outcome
     }
 
@@ -136,14 +163,15 @@ impl Place {
 
     /// The process ends: what its disk has stays, and its log is kept.
     pub(crate) fn die(&mut self, alloc: Global) -> Result<(), AllocError> {
+        self.note_killed(self.is_cut());
         let Some(mut server) = self.server.take() else {
             return Ok(());
         };
-        self.log = Vec::from_slice(alloc, server.wire().log())?;
-        self.has_failed = self.has_failed || has_failed(server.wire_mut(), self.call);
+        self.log = Vec::from_slice(alloc, server.wire().whole().log())?;
+        self.has_failed = self.has_failed || has_failed(server.wire_mut().whole_mut(), self.call);
         self.call = 0;
         if let Some(disk) = server.station().node().disk() {
-            self.bytes = Vec::from_slice(alloc, disk.bytes())?;
+            self.bytes = Vec::from_slice(alloc, disk.whole().bytes())?;
         }
         self.callers = [None; NODES];
         self.dialling = [false; NODES];
@@ -161,7 +189,7 @@ impl Place {
     /// The wires of its process.
     pub(crate) fn wire(&mut self) -> Option<&mut MemoryWire> {
         match &mut self.server {
-            Some(server) => Some(server.wire_mut()),
+            Some(server) => Some(server.wire_mut().whole_mut()),
             None => None,
         }
     }

@@ -1,5 +1,8 @@
 //! The match that is played, of alice and bob, limit, the stores of its nodes, and their processes.
 
+use crate::calls_left::CallsLeft;
+use crate::cut_disk::CutDisk;
+use crate::cut_wire::CutWire;
 use dealer_kind::{Config, Source};
 use match_log::{Name, SeatNames};
 use matchstate::read_deal;
@@ -16,8 +19,8 @@ use stations::Station;
 use std::alloc::{AllocError, Global};
 use std::process::Abort;
 
-/// The process of a node over a disk and wires in memory.
-pub(crate) type Server = NodeServer<MemoryDisk, MemoryWire>;
+/// The process of a node over a disk and wires in memory, which may be cut.
+pub(crate) type Server = NodeServer<CutDisk<MemoryDisk>, CutWire<MemoryWire>>;
 
 /// A peer counts as absent at first after so long.
 const SILENCE: u64 = 1_000_000;
@@ -96,12 +99,14 @@ pub(crate) fn server(
     hands: u32,
     disk: MemoryDisk,
     call: u64,
+    calls: u64,
     now: u64,
     waiting: Waiting,
 ) -> Result<Option<Server>, AllocError> {
     let config = config(rt, alloc, nodes, hands)?;
+    let calls = CallsLeft::new(alloc, calls)?;
     assert!(rt; (node as usize) < config.nodes());
-    let station = match Station::open(alloc, config, node, disk) {
+    let station = match Station::open(alloc, config, node, CutDisk::new(disk, calls.share()?)) {
         Ok(station) => station,
         Err(_) => return Ok(None),
     };
@@ -120,7 +125,7 @@ pub(crate) fn server(
     let mut server = NodeServer::new(
         alloc,
         LocalNode::new(alloc, station),
-        wire,
+        CutWire::new(wire, calls),
         peers,
         seats,
         askers,

@@ -93,8 +93,10 @@ impl World {
             return Ok(());
         }
         let disk = disk_of(rt, alloc, &place.bytes)?;
-        let call = place.call;
-        place.begin(server(rt, alloc, node, nodes, hands, disk, call, now, waiting)?);
+        let (call, calls) = (place.call, place.calls);
+        place.begin(server(
+            rt, alloc, node, nodes, hands, disk, call, calls, now, waiting,
+        )?);
         Ok(())
     }
 
@@ -106,6 +108,9 @@ impl World {
         };
         let outcome = place.turn(alloc, now);
         place.take_notices();
+        if place.is_cut() {
+            return self.end_killed(node);
+        }
         match outcome {
             Outcome::GoesOn => Ok(()),
             Outcome::Over => {
@@ -114,6 +119,22 @@ impl World {
             }
             _ => self.kill(node),
         }
+    }
+
+    /// The process of a node was killed in its turn: its bots read what it wrote before, and it begins again.
+    fn end_killed(&mut self, node: u8) -> Result<(), AllocError> {
+        let nodes = self.nodes;
+        for bot in self.bots.iter_mut() {
+            let Some(place) = self.places.get_mut(node as usize) else {
+                continue;
+            };
+            if bot.at == node {
+                if let Some(wire) = place.wire() {
+                    bot.act(wire, nodes)?;
+                }
+            }
+        }
+        self.kill(node)
     }
 
     /// The process of a node dies, and begins again after so many turns; one where the match is over is spared, since the
@@ -165,6 +186,14 @@ impl World {
         self.places
             .iter()
             .all(|place| place.outcome == Outcome::Over)
+    }
+
+    /// Whether a node has no process, or the match is over there.
+    pub(crate) fn is_over_at(&self, node: usize) -> bool {
+        match self.places.get(node) {
+            Some(place) => place.server.is_none() || place.is_over(),
+            None => true,
+        }
     }
 
     /// Whether a node prepares or leads a ballot.

@@ -4,7 +4,7 @@ use Rattle.node_seats.specs.declared.words.Asked.{Asked}
 use Rattle.node_seats.specs.Seating.{bot_at}
 use Rattle.node_service.specs.declared.seat_lines.Start.{Start}
 use Rattle.node_service.specs.declared.seat_lines.Start.TheVariants.{Never}
-use Rattle.node_service.specs.Bots.{StartsBy, IsRefusedBy, IsStart, HadTable}
+use Rattle.node_service.specs.Bots.{StartsBy, IsRefusedBy, IsStart, HadTableSince}
 use Rattle.node_service.proofs.Bots.{had_now, bots_begun, bots_refused}
 use Rattle.node_service.proofs.seat_lines.begin.Goals as goal
 
@@ -13,7 +13,7 @@ returns-in-At-clause-bots g c =
     let look = look_of c.args.member.now.station in
     let table = c.table-table.result.now in
     let seats = c.args.seats.now.seats.items in
-    let had : HadTable g.D.Disk look table = had_now c.args.member.now.station c.station.result.now c.node.result.now table c.station.ensures c.limits.ensures c.node.ensures c.table-table.ensures.seen in
+    let had : HadTableSince g.D.Disk look.deeds look table = had_now c.args.member.now.station c.station.result.now c.node.result.now table c.station.ensures c.limits.ensures c.node.ensures c.table-table.ensures.seen in
     let seat = c.args.seat in
     let at = c.in-At.at in
     let words = (bot_at seats seat).words in
@@ -27,7 +27,7 @@ returns-in-Never-clause-bots g c =
     let look = look_of c.args.member.now.station in
     let table = c.table-table.result.now in
     let seats = c.args.seats.now.seats.items in
-    let had : HadTable g.D.Disk look table = had_now c.args.member.now.station c.station.result.now c.node.result.now table c.station.ensures c.limits.ensures c.node.ensures c.table-table.ensures.seen in
+    let had : HadTableSince g.D.Disk look.deeds look table = had_now c.args.member.now.station c.station.result.now c.node.result.now table c.station.ensures c.limits.ensures c.node.ensures c.table-table.ensures.seen in
     let seat = c.args.seat in
     let words = (bot_at seats seat).words in
     let start : IsStart table seat c.asked-asked.result.0 c.asked-asked.result.1.now Never = subst (λ (s : Start). IsStart table seat c.asked-asked.result.0 c.asked-asked.result.1.now s) c.in-Never.is c.start_of.ensures in

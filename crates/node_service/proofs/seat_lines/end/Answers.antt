@@ -3,7 +3,7 @@ use Rattle.stations.specs.Looking.{look_of}
 use Rattle.node_seats.specs.declared.bot.Telling.{Telling}
 use Rattle.node_seats.specs.declared.words.Asked.TheVariants as asks
 use Rattle.node_seats.specs.Seating.{bot_at, waits_at}
-use Rattle.node_service.specs.Bots.{HadTable}
+use Rattle.node_service.specs.Bots.{HadTableSince}
 use Rattle.node_service.proofs.Bots.{had_now, some_of, bots_over}
 use Rattle.node_service.proofs.Owing.{told_ended, over_before}
 use Rattle.node_service.proofs.seat_lines.end.Goals as goal
@@ -13,7 +13,7 @@ returns-clause-bots g c =
     let look = look_of c.args.member.now.station in
     let table = c.table-table.result.now in
     let seats = c.args.seats.now.seats.items in
-    let had : HadTable g.D.Disk look table = had_now c.args.member.now.station c.station.result.now c.node.result.now table c.station.ensures c.limits.ensures c.node.ensures c.table-table.ensures.seen in
+    let had : HadTableSince g.D.Disk look.deeds look table = had_now c.args.member.now.station c.station.result.now c.node.result.now table c.station.ensures c.limits.ensures c.node.ensures c.table-table.ensures.seen in
     let seat = c.args.seat in
     let bot = bot_at seats seat in
     let found = some_of (λ (t : Telling). t.next ≡ c.in-Some.next) bot.telling c.in-Some.ensures.next in

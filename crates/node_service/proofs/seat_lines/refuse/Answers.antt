@@ -3,7 +3,7 @@ use Rattle.stations.specs.Looking.{look_of}
 use Rattle.node_seats.specs.declared.words.Asked.{Asked}
 use Rattle.node_seats.specs.declared.words.Asked.TheVariants as asks
 use Rattle.node_seats.specs.Seating.{bot_at}
-use Rattle.node_service.specs.Bots.{IsRefusedBy, HadTable}
+use Rattle.node_service.specs.Bots.{IsRefusedBy, HadTableSince}
 use Rattle.node_service.proofs.Bots.{had_now, bots_refused}
 use Rattle.node_service.proofs.seat_lines.refuse.Goals as goal
 
@@ -12,7 +12,7 @@ returns-clause-bots g c =
     let look = look_of c.args.member.now.station in
     let table = c.table-table.result.now in
     let seats = c.args.seats.now.seats.items in
-    let had : HadTable g.D.Disk look table = had_now c.args.member.now.station c.station.result.now c.node.result.now table c.station.ensures c.limits.ensures c.node.ensures c.table-table.ensures.seen in
+    let had : HadTableSince g.D.Disk look.deeds look table = had_now c.args.member.now.station c.station.result.now c.node.result.now table c.station.ensures c.limits.ensures c.node.ensures c.table-table.ensures.seen in
     let seat = c.args.seat in
     let words = (bot_at seats seat).words in
     let asked : words.asked ≡ asks.Line = sym c.asked-asked.ensures.asked ∙ c.names_line.ensures c.if-not-names_line.false in

@@ -1,5 +1,5 @@
 use Rattle.stations.specs.Looking.{look_of}
-use Rattle.node_service.specs.Bots.{HadTable}
+use Rattle.node_service.specs.Bots.{HadTableSince}
 use Rattle.node_service.proofs.Bots.{had_now, bots_told}
 use Rattle.node_service.proofs.seat_lines.tell.Goals as goal
 
@@ -8,5 +8,5 @@ returns-clause-bots g c =
     let look = look_of c.args.member.now.station in
     let table = c.table.result.now in
     let seats = c.args.seats.now.seats.items in
-    let had : HadTable g.D.Disk look table = had_now c.args.member.now.station c.station.result.now c.node.result.now table c.station.ensures c.limits.ensures c.node.ensures c.table.ensures.seen in
+    let had : HadTableSince g.D.Disk look.deeds look table = had_now c.args.member.now.station c.station.result.now c.node.result.now table c.station.ensures c.limits.ensures c.node.ensures c.table.ensures.seen in
     bots_told look table c.args.seat seats c.tell.new.self.seats.items had c.tell.ensures.tells c.tell.ensures.says

@@ -2,7 +2,9 @@ use Rattle.std.proofs.Common.{◌≡◌, List, ◌++◌, inl, refl, sym, ap, sub
 use Rattle.node_wires.specs.declared.passages.Passages.{Passages}
 use Rattle.node_wires.specs.Passages.{Passage, seats_in}
 use Rattle.node_peers.specs.Peering.{own_of, passed_of, heard_of}
+use Rattle.stations.specs.Looking.{look_of}
 use Rattle.node_service.specs.Crossing.{IsCarried}
+use Rattle.node_service.proofs.Bots.{bots_still}
 use Rattle.node_service.proofs.Crossing.{heard_now}
 use Rattle.node_service.proofs.Telling.{no_seat_told, told_is_heard}
 use Rattle.node_service.proofs.Welcoming.{hosts_none, let_in_of_peers}
@@ -18,7 +20,7 @@ returns-clause-takes g c =
       terms = refl;
       log_failed = refl;
       sent = c.next.ensures.frames;
-      bots = λ are. are;
+      bots = bots_still (look_of old.member.station) old.seats.seats.items;
       log = refl;
       seats = sym (ap (λ (m : List Passage). seats_in (g.W.Wire.passed old.wire) ++ m) (no_seat_told c.next.result) ∙ append-nil (seats_in (g.W.Wire.passed old.wire)));
       heard = c.next.ensures.heard ∙ ap (λ (m : List Passage). heard_of old.company.peers ++ m) (told_is_heard c.next.result);

@@ -1,4 +1,4 @@
-use Rattle.std.proofs.Common.{◌≡◌, List, ◌++◌, inl, refl, sym, ◌∙◌, ap, subst, append-nil}
+use Rattle.std.proofs.Common.{List, ◌++◌, inl, refl, sym, ◌∙◌, ap, append-nil}
 use Rattle.node_wires.specs.Passages.{Passage, seats_in}
 use Rattle.node_peers.specs.Peering.{own_of, passed_of, heard_of}
 use Rattle.stations.specs.Looking.{look_of}
