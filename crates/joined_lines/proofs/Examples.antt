@@ -6,6 +6,7 @@ use Rattle.promise_store.specs.Holding.{StandsFor}
 use Rattle.protocol_model.specs.Stores.{empty_store}
 use Rattle.slot_log.specs.Dealer.{is_match_over}
 use Rattle.slot_log.specs.Hand.{Match}
+use Rattle.slot_log.specs.declared.command.Command.{Command}
 use Rattle.dealer_kind.specs.Kind.{Setting, hands_after}
 use Rattle.dealer_kind.specs.Plans.{Plan}
 use Rattle.node_rules.specs.Standings.{Place}
@@ -24,6 +25,7 @@ use Rattle.seat_relay.specs.Dealing.{dealers_lines}
 use Rattle.seat_relay.specs.Laws.{IsFront, IsPart}
 use Rattle.node_seats.specs.declared.bot.Parting.{Parting}
 use Rattle.node_seats.specs.declared.bot.Parting.TheVariants.{Over, Other}
+use Rattle.node_seats.specs.Words.{read_of}
 use Rattle.node_seats.specs.Telling.{TellsFrom, text_of, parting_text}
 use Rattle.relay_runs.specs.declared.desk.Desk.{Desk}
 use Rattle.relay_runs.specs.Said.{bytes_of_lines}
@@ -32,7 +34,7 @@ use Rattle.node_service.specs.Crossing.{Carries}
 use Rattle.node_service.specs.Served.{Served}
 use Rattle.joined_lines.specs.Bringing.{IsOfPlaced, AreToldFirst, BringToldLines}
 use Rattle.joined_lines.specs.Chosen.{lines_by}
-use Rattle.joined_lines.specs.Coming.{IsOfTold, AreBytesOf, BotConnection, AreLast, BringsLines}
+use Rattle.joined_lines.specs.Coming.{IsOfTold, AreBytesOf, BotConnection, AreLast, IsAskedFor, BringsLines}
 use Rattle.joined_lines.specs.Processes.{IsProcessOf}
 use Rattle.joined_lines.specs.Serving.{IsServerOf, ComeOfServers, LeadsToServers, ComesOfServer}
 
@@ -124,7 +126,7 @@ no_beginning is = not_the_first is.given is.are is.as_bytes
 -- ---- what a bot without a relay has
 
 abbrev of_first_seat : List ℕ → BotConnection
-of_first_seat came = record { seat = 0; came = came }
+of_first_seat came = record { seat = 0; came = came; said = codes "#RESUME A\r\nVERSION:2.0.0\r\n" }
 
 -- before the first command a part of #OTHER comes to it
 other_brought : (setting : Setting) → BringsLines setting [] (of_first_seat (codes "#OT"))
@@ -133,7 +135,9 @@ other_brought setting = record {
   are = record { before = []; behind = lines_by setting 0 []; joined = refl };
   parting = Some Other;
   over = λ e. absurd (not_over e);
+  asked = λ some. absurd (some refl);
   alone = λ e. refl;
+  refused = λ e. refl;
   lost = codes "HER\r\n";
   bytes = refl;
 }
@@ -162,6 +166,47 @@ line_not_brought setting brings = no_letter brings.parting brings.lost (only_beh
 -- and #OVER only behind a line
 over_not_brought : (setting : Setting) → BringsLines setting [] (of_first_seat (codes "#OVER")) → ⊥
 over_not_brought setting brings = no_parting brings.parting brings.lost (λ e. (brings.over e).some (none_given setting brings.given brings.are)) (only_behind setting (codes "#OVER") brings)
+
+-- a bot that asked for all lines has the first one first
+abbrev both_lines : List Line
+both_lines = first_line ∷ second_line ∷ []
+
+abbrev said_first : List ℕ
+said_first = codes "#RESUME FIRST\r\nVERSION:2.0.0\r\n"
+
+first_for_first : IsAskedFor (read_of said_first).asked (read_of said_first).named (first_line ∷ []) both_lines
+first_for_first = record { behind = second_line ∷ []; joined = refl }
+
+second_for_first : IsAskedFor (read_of said_first).asked (read_of said_first).named (second_line ∷ []) both_lines → ⊥
+second_for_first front =
+    let joined = front.joined in
+    let same : first_line ≡ second_line = cc in
+    let first = ap (λ (line : Line). get_or line.text 0 0) same in
+    omega (arith, first)
+
+-- one that named a line has that one first
+abbrev said_second : List ℕ
+said_second = codes "#RESUME B\r\nVERSION:2.0.0\r\n"
+
+second_for_second : IsAskedFor (read_of said_second).asked (read_of said_second).named (second_line ∷ []) both_lines
+second_for_second = refl
+
+first_for_second : IsAskedFor (read_of said_second).asked (read_of said_second).named (first_line ∷ second_line ∷ []) both_lines → ⊥
+first_for_second is =
+    let same : codes "A" ≡ codes "B" = cc in
+    let first = ap (λ (text : List ℕ). get_or text 0 0) same in
+    omega (arith, first)
+
+-- and one that asked twice has none
+abbrev said_twice : List ℕ
+said_twice = codes "#RESUME FIRST\r\n#RESUME B\r\nVERSION:2.0.0\r\n"
+
+none_for_both : IsAskedFor (read_of said_twice).asked (read_of said_twice).named (first_line ∷ []) both_lines → ⊥
+none_for_both is = is
+
+-- #OTHER doesn't come to one that named none
+not_refused : (setting : Setting) (commands : List Command) (brings : BringsLines setting commands (record { seat = 0; came = codes "#OT"; said = said_first })) → brings.parting ≡ Some Other → ⊥
+not_refused setting commands brings e = let wrong : false ≡ true = brings.refused e in cc
 
 -- where the match goes on no lines are the last
 not_yet : (setting : Setting) (lines : List Line) → is_match_over setting.game setting.title.hands (hands_after setting []) ≡ false → AreLast setting [] 0 lines → ⊥
@@ -209,4 +254,4 @@ module _ {D : Type 0} (g : Ghosts D) where
 
   -- nor does a bot's
   of_no_server : (plan : Plan) (had : HaveIncarnations g plan []) (bot : BotConnection) → ComesOfServer g plan [] had bot → ⊥
-  of_no_server plan had bot of = let less = of.is_node in omega (arith, less)
+  of_no_server plan had bot come = let less = come.server.is_node in omega (arith, less)

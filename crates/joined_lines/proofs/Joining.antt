@@ -11,7 +11,7 @@ use Rattle.dealer_kind.specs.Kind.{Setting}
 use Rattle.dealer_kind.specs.Plans.{IsSetting}
 use Rattle.line_cursor.specs.Past.{PastIsABeginning}
 use Rattle.line_cursor.specs.Laws.{NextCursorStays}
-use Rattle.line_cursor.specs.Telling.{CursorsTellTheLines}
+use Rattle.line_cursor.specs.Telling.{CursorsTellTheLines, FirstCursorsTellABeginning}
 use Rattle.seat_relay.specs.Relaying.{Event}
 use Rattle.seat_relay.specs.Dealing.{DealersLinesAscend, BotsAreGivenOneDealersLines}
 use Rattle.seat_relay.specs.Laws.{fresh}
@@ -82,13 +82,13 @@ module _ {D : Type 0} (g : Ghosts D) where
         ),
       ))
 
-  pub relays_tell_one_match : TablesAreOfOneMatch g → HandsEnd → CommandsMakeHands → PastIsABeginning → NextCursorStays → CursorsTellTheLines → DealersLinesAscend → BotsAreGivenOneDealersLines → CoursesExplain
-      → WholeMatchesAreWritten → RelaysTellOneMatch g
-  relays_tell_one_match tables ends make past stays cursors ascend give explain write setting sources histories all processes honest relays told bots brought =
+  pub relays_tell_one_match : TablesAreOfOneMatch g → HandsEnd → CommandsMakeHands → PastIsABeginning → NextCursorStays → CursorsTellTheLines → FirstCursorsTellABeginning → DealersLinesAscend → BotsAreGivenOneDealersLines
+      → CoursesExplain → WholeMatchesAreWritten → RelaysTellOneMatch g
+  relays_tell_one_match tables ends make past stays cursors first ascend give explain write setting sources histories all processes honest relays told bots brought =
       let such : Match → Type 0 = WasTable g (plan_of setting sources) histories in
       let gathered =
       gathered_both setting such (λ commands. AllByRecursion (HasLines setting commands) relays) (λ commands. AllByRecursion (BringsLines setting commands) bots)
-      (all_relays ends make past stays cursors ascend give explain write setting processes.plan.within such relays told) (all_bots ends make past stays cursors setting processes.plan.within such bots brought) in
+      (all_relays ends make past stays cursors ascend give explain write setting processes.plan.within such relays told) (all_bots ends make past stays cursors first setting processes.plan.within such bots brought) in
       ∥∥₁_map (tables setting sources histories all processes honest gathered.tables gathered.are) (λ one.
       let both = gathered.by one.0 one.1.1 in
       (one.0, (one.1.0, record { relays_have = both.0; bots_have = both.1 })))

@@ -9,8 +9,10 @@ mod Courses
 mod Ending
 mod Closing
 mod Starts
+mod Saying
 mod Bots
 mod Joining
 mod Histories
 mod Servers
+mod Keeping
 mod Examples

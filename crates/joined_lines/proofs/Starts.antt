@@ -1,14 +1,16 @@
 -- A match that is over has a line at each place from which a seat may ask to be told lines.
 use Rattle.std.proofs.Common.{◌≡◌, ℕ, suc, ◌≤◌, nat_eq, nat_le, Bool, true, false, if◌then◌else◌, List, [], ◌∷◌, length, Option, Some, None, sym, ap, ◌∙◌, subst, arith}
 use Rattle.std.proofs.lemmas.Bool.Decides.{nat_tests}
+use Rattle.std.specs.Option.{option_map}
 use Rattle.game_def.specs.Game.{Game}
 use Rattle.slot_log.specs.Beginnings.{IsBeginning}
 use Rattle.slot_log.specs.Hand.{Hand, Match}
 use Rattle.slot_log.specs.Dealer.{hands_of, is_match_over}
 use Rattle.slot_log.specs.declared.command.Command.{Command}
+use Rattle.matchstate.specs.Line.{line_text}
 use Rattle.line_cursor.specs.declared.cursor.Cursor.{Cursor}
 use Rattle.line_cursor.specs.Cursors.{cursor_at}
-use Rattle.line_cursor.specs.Past.{cut_to, hands_at, seat_view_at, seat_line_at}
+use Rattle.line_cursor.specs.Past.{cut_to, hands_at, seen_by, seat_view_at, seat_line_at}
 use Rattle.line_cursor.proofs.Following.{IsFound}
 use Rattle.line_cursor.proofs.Found.{has_come}
 use Rattle.line_cursor.proofs.Names.{IsLineOf, line_of}
@@ -18,8 +20,9 @@ use Rattle.dealer_kind.specs.Plans.{IsSetting}
 use Rattle.stations.specs.Tables.{ShowsBeginning}
 use Rattle.node_seats.specs.declared.words.Asked.{Asked}
 use Rattle.node_seats.specs.declared.words.Asked.TheVariants as asks
+use Rattle.node_seats.specs.Words.{Reading}
 use Rattle.node_service.specs.Bots.{newest_place, StartsBy}
-use Rattle.joined_lines.specs.Coming.{MayBegin}
+use Rattle.joined_lines.specs.Coming.{BeginsAt}
 use Rattle.joined_lines.proofs.Ending.{has_line}
 
 -- ---- places to which hands have come
@@ -89,8 +92,24 @@ module _ (setting : Setting) (is : IsSetting setting) (seat : ℕ) (commands : L
   asked_found at asks.Other named table shows first starts = absurd starts
 
   -- so there it isn't told that the match is over
-  pub line_at_start : (at : Cursor) → MayBegin (ShowsBeginning setting commands) seat at → is_match_over setting.game setting.title.hands (all_hands commands) ≡ true
+  pub line_at_start : (words : Reading) (at : Cursor) → BeginsAt (ShowsBeginning setting commands) seat words at → is_match_over setting.game setting.title.hands (all_hands commands) ≡ true
       → seat_line_at setting.game (all_hands commands) seat at.hand at.actions ≡ None → ⊥
-  line_at_start at (asked, (named, (table, (shows, starts)))) over none =
+  line_at_start words at (table, (shows, starts)) over none =
       let first : IsFound (all_hands commands) (cursor_at 0 0) = over_found setting.game setting.title.hands (all_hands commands) is.least over in
-      has_line setting.game (all_hands commands) seat at (asked_found at asked named table shows first starts) none
+      has_line setting.game (all_hands commands) seat at (asked_found at words.asked words.named table shows first starts) none
+
+  -- what was told off such a table is told by all commands
+  pub told_by_all : (at : Cursor) (table : Match) (text : List ℕ) → ShowsBeginning setting commands table → seat_line_at table.game table.hands seat at.hand at.actions ≡ Some text
+      → seat_line_at setting.game (all_hands commands) seat at.hand at.actions ≡ Some text
+  told_by_all at table text shows told =
+      let hands : List Hand = all_hands shows.earlier in
+      let here : seat_line_at setting.game hands seat at.hand at.actions ≡ Some text =
+      subst (λ (hs : List Hand). seat_line_at setting.game hs seat at.hand at.actions ≡ Some text) shows.table_is.hands
+      (subst (λ (game : Game). seat_line_at game table.hands seat at.hand at.actions ≡ Some text) shows.table_is.game told) in
+      let view : IsLineOf (seat_view_at setting.game hands seat at.hand at.actions) text = line_of (seat_view_at setting.game hands seat at.hand at.actions) text here in
+      let come = has_come setting.game hands seat at.hand at.actions view.shown view.view_is in
+      let newer : List Command = shows.is_beginning.0 in
+      let now : hands_at (all_hands commands) at.hand at.actions ≡ Some (come.newest ∷ come.before) =
+      ap (λ (cs : List Command). hands_at (all_hands cs) at.hand at.actions) shows.is_beginning.1
+      ∙ on_more setting.game setting.title.hands newer shows.earlier at.hand at.actions (come.newest ∷ come.before) come.come_to in
+      ap (λ (found : Option (List Hand)). option_map line_text (seen_by setting.game seat found)) (now ∙ sym come.come_to) ∙ here

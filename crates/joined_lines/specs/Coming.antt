@@ -1,5 +1,5 @@
 -- What comes over the connections of relays, and of bots without one, byte by byte.
-use Rattle.std.specs.Prelude.{◌≡◌, ◌≢◌, ℕ, Bool, true, List, [], ◌++◌, length, Option, Some, IsTrue}
+use Rattle.std.specs.Prelude.{◌≡◌, ◌≢◌, ◌⊎◌, ℕ, Bool, true, List, [], ◌∷◌, ◌++◌, length, Option, Some, None, IsTrue}
 use Rattle.std.specs.List.{AllByRecursion}
 use Rattle.promise_store.specs.declared.disk.Disk.{Ghosts}
 use Rattle.slot_log.specs.Hand.{Match}
@@ -15,10 +15,13 @@ use Rattle.node_wires.specs.declared.line.Line.TheVariants.{Peer, Seat}
 use Rattle.node_wires.specs.Passages.{Passage, came_over, wrote_over}
 use Rattle.line_cursor.specs.declared.cursor.Cursor.{Cursor}
 use Rattle.seat_relay.specs.Relaying.{Line}
-use Rattle.seat_relay.specs.Laws.{IsPart, IsBack, IsGivenOf}
+use Rattle.seat_relay.specs.Laws.{IsPart, IsFront, IsBack, IsGivenOf}
 use Rattle.node_seats.specs.declared.bot.Parting.{Parting}
 use Rattle.node_seats.specs.declared.bot.Parting.TheVariants.{Over, Other}
 use Rattle.node_seats.specs.declared.words.Asked.{Asked}
+use Rattle.node_seats.specs.declared.words.Asked.TheVariants as asks
+use Rattle.node_seats.specs.Words.{Reading, read_of}
+use Rattle.node_seats.specs.Seating.{names_line}
 use Rattle.node_seats.specs.Telling.{TellsFrom, text_of, parting_text}
 use Rattle.relay_runs.specs.declared.desk.Desk.{Desk}
 use Rattle.relay_runs.specs.Said.{bytes_of_lines}
@@ -85,20 +88,22 @@ pub record HasLines (setting : Setting) (commands : List Command) (relay : SeatR
 
 -- ---- bots without a relay
 
--- a connection of a bot to a server: the seat at which it sits, and what came over it
+-- a connection of a bot to a server: the seat at which it sits, what came over it to the bot, and what the bot said over it, behind the line that showed its token
 pub record BotConnection : Type 0 where
   pub seat : ℕ
   pub came : List ℕ
+  pub said : List ℕ
 
--- by such a table a bot of this seat may ask for the lines from this place on
-abbrev pub MayBegin : (Match → Type 0) → ℕ → Cursor → Type 0
-MayBegin such seat at = (asked : Asked) × ((named : List ℕ) × ((table : Match) × (such table × StartsBy table seat asked named at)))
+-- by such a table the lines of a bot of this seat that asked so begin at this place
+abbrev pub BeginsAt : (Match → Type 0) → ℕ → Reading → Cursor → Type 0
+BeginsAt such seat words at = (table : Match) × (such table × StartsBy table seat words.asked words.named at)
 
--- over it came what the seat is told so; where that ends with #OVER it begins where a bot may ask, and where it ends with #OTHER there is no line
+-- over it came what the seat is told so; where that has a line, or ends with #OVER, it begins where the bot asked, and where it ends with #OTHER there is no line, and the bot named one or asked twice
 pub record BringsTold (such : Match → Type 0) (bot : BotConnection) : Type 0 where
   pub come : IsOfTold such bot.seat bot.came
-  pub begins : come.parting ≡ Some Over → MayBegin such bot.seat come.start
+  pub begins : (come.lines ≢ []) ⊎ (come.parting ≡ Some Over) → BeginsAt such bot.seat (read_of bot.said) come.start
   pub alone : come.parting ≡ Some Other → come.lines ≡ []
+  pub refused : come.parting ≡ Some Other → names_line (read_of bot.said).asked ≡ true
 
 -- the match is over by these commands, and these are the last lines, at least one, that the dealer tells the seat by them
 pub record AreLast (setting : Setting) (commands : List Command) (seat : ℕ) (lines : List Line) : Type 0 where
@@ -106,13 +111,28 @@ pub record AreLast (setting : Setting) (commands : List Command) (seat : ℕ) (l
   pub some : lines ≢ []
   pub last : IsBack lines (lines_by setting seat commands)
 
--- what came begins the bytes of a part, without a gap, of the lines that the dealer tells its seat by these commands; or of them and #OVER, which stands only behind the last line of a match that is over; or of #OTHER alone
+-- the text of the first of these lines
+abbrev pub first_text : List Line → Option (List ℕ)
+first_text [] = None
+first_text (line ∷ more) = Some line.text
+
+-- of all these lines a bot that asked so is given these: from the first on, from the one that it named on, or from any on
+abbrev pub IsAskedFor : Asked → (named : List ℕ) → (given lines : List Line) → Type 0
+IsAskedFor asks.Nothing named given lines = Unit {0}
+IsAskedFor asks.First named given lines = IsFront given lines
+IsAskedFor asks.Newest named given lines = Unit {0}
+IsAskedFor asks.Line named given lines = first_text given ≡ Some named
+IsAskedFor asks.Other named given lines = ⊥
+
+-- what came begins the bytes of a part, without a gap, of the lines that the dealer tells its seat by these commands, from where the bot asked; or of them and #OVER, which stands only behind the last line of a match that is over; or of #OTHER alone, where the bot named a line or asked twice
 pub record BringsLines (setting : Setting) (commands : List Command) (bot : BotConnection) : Type 0 where
   pub given : List Line
   pub are : IsPart given (lines_by setting bot.seat commands)
   pub parting : Option Parting
   pub over : parting ≡ Some Over → AreLast setting commands bot.seat given
+  pub asked : given ≢ [] → IsAskedFor (read_of bot.said).asked (read_of bot.said).named given (lines_by setting bot.seat commands)
   pub alone : parting ≡ Some Other → given ≡ []
+  pub refused : parting ≡ Some Other → names_line (read_of bot.said).asked ≡ true
   pub lost : List ℕ
   pub bytes : bytes_of_lines given ++ parting_text parting ≡ bot.came ++ lost
 

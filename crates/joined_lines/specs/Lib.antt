@@ -3,3 +3,4 @@ pub mod Bringing
 pub mod Coming
 pub mod Processes
 pub mod Serving
+pub mod Keeping

@@ -58,9 +58,11 @@ module _ {D : Type 0} (g : Ghosts D) where
     pub course : Course relay.desk relay.passed
     pub come : ComeOfServers plan stations had relay.seat relay.passed
 
-  -- over a bot's connection came the beginning of what a server of these processes had written to its seat
-  abbrev pub ComesOfServer : (plan : Plan) (stations : List (Option (Look (Node D)))) → HaveIncarnations g plan stations → BotConnection → Type 0
-  ComesOfServer plan stations had bot = IsOfServer plan stations had bot.seat bot.came
+  -- over a bot's connection came the beginning of what a server of these processes had written to its seat, and to that server the beginning of what the bot said over it
+  pub record ComesOfServer (plan : Plan) (stations : List (Option (Look (Node D)))) (had : HaveIncarnations g plan stations) (bot : BotConnection) : Type 0 where
+    pub server : IsOfServer plan stations had bot.seat bot.came
+    pub later : List ℕ
+    pub heard : bot.said ≡ came_over server.served.passed (Seat bot.seat) ++ later
 
   -- ---- the law
 

@@ -2,6 +2,7 @@
 
 ghost use Rattle.joined_lines.specs.Bringing.{ConnectionsTellOneMatch};
 ghost use Rattle.joined_lines.specs.Coming.{RelaysTellOneMatch};
+ghost use Rattle.joined_lines.specs.Keeping.{TurnsKeepServers};
 ghost use Rattle.joined_lines.specs.Serving.{ServersTellOneMatch};
 
 use betting::laws::hands_end;
@@ -36,8 +37,9 @@ pub fn connections_tell_one_match<D: Disk + Drop>()
 ///
 /// The same list serves all bots without a relay over whose connections came what their seats are told so (`BringsTold`). What
 /// came begins the bytes of a part of the seat's lines without a gap, and perhaps of `#OVER` behind them, or the bytes of
-/// `#OTHER` alone. `#OVER` stands there only if the match is over by these commands, and behind the last line of all
-/// (`BringsLines`).
+/// `#OTHER` alone. `#OVER` stands there only if the match is over by these commands, and behind the last line of all. `#OTHER`
+/// stands there only if the bot named a line or asked twice. Where lines came to a bot that asked for the first or named one,
+/// they begin with that line (`BringsLines`).
 pub fn relays_tell_one_match<D: Disk + Drop>()
     ensures { RelaysTellOneMatch D.Disk }
 {
@@ -56,10 +58,10 @@ pub fn relays_tell_one_match<D: Disk + Drop>()
 /// The same of relays and bots whose connections lead to the servers of a match, whose premises name no history. For all
 /// processes that the nodes had and have, and for all relays, whose connections may end at any moment: the bots have the lines
 /// that one dealer tells their seats, from the first or where they may begin anywhere from one on, and none is left out. By the
-/// same commands each connection of a bot without a relay brings lines of this dealer from one on, none is left out, and where
-/// it brings `#OVER` the last of all was there (`BringsLines`). There are histories of the nodes of which it holds in each
-/// order in which each frame had been sent before it came (`IsTrueOrder`), and of the same histories all laws of `stations`
-/// hold.
+/// same commands each connection of a bot without a relay brings lines of this dealer from one on, which is the first or the
+/// one that the bot named, if it asked for that. None is left out, and where it brings `#OVER` the last of all was there
+/// (`BringsLines`). There are histories of the nodes of which it holds in each order in which each frame had been sent before
+/// it came (`IsTrueOrder`), and of the same histories all laws of `stations` hold.
 ///
 /// The premises, and what gives each of them:
 ///
@@ -68,13 +70,23 @@ pub fn relays_tell_one_match<D: Disk + Drop>()
 /// - `Course`: `RelayServer::new` (`course`) and `RelayServer::turn` (`Keeps.course`) of `relay_runs`, for each relay and each
 ///   of its bots. `IsOver`: `RelayServer::turn` (`over`).
 /// - `IsServerOf`: `NodeServer::new` (`bots`, `carried`) of `node_service`, then `NodeServer::start` and `NodeServer::turn`
-///   (`goes`: `GoesOn.bots` and `GoesOn.carried` for the server at that moment, and `GoesOn.config`, `number`, `begun` and
-///   `deeds` for its process later).
+///   (`goes`), as `turns_keep_servers` says. A process that was killed in a turn wrote the same as one over wires and a disk
+///   of which each call fails from that moment on, and is taken as that one (docs/CLUSTER.md).
 /// - `IsOfServer.bytes`: a connection, of a relay or of a bot, gives what was written to it, from its beginning, in order, and
-///   nothing else; it may end anywhere. This is the one premise on the connections themselves.
+///   nothing else; it may end anywhere. `ComesOfServer.heard`: so it gives the server what the bot said, which begins behind
+///   the line that shows its token, where it has one. These are the two premises on the connections themselves.
+/// - `IsOfServer.served`: all that was written to a connection is there at the end of the turn in which it ended, since in a
+///   turn a seat has one bot at most (`NodeServer::turn`, `takes`), and nothing is written where nobody sits (`node_seats`).
 pub fn servers_tell_one_match<D: Disk + Drop>()
     ensures { ServersTellOneMatch D.Disk }
 {
     deaths_are_deeds::<D>();
     relays_tell_one_match::<D>();
 }
+
+/// What `servers_tell_one_match` asks for of a server (`IsServerOf`) holds behind each start and each turn, where it held
+/// before. A server at an earlier moment of a process stays one of that process. So it is enough that it holds of a new
+/// server.
+pub fn turns_keep_servers<D: Disk + Drop>()
+    ensures { TurnsKeepServers D.Disk }
+{}
