@@ -9,6 +9,8 @@
   stubborn  never comes; it and a process that it starts don't end when they are asked to
   silent    comes, answers nothing, and doesn't end when it is asked to
   wrong     calls, but answers its first turn with an action that nobody can read
+  returns   comes, answers nothing, comes again when its connection ends, and doesn't end when it is asked to; in the same folder
+            its next process calls
 """
 import os
 import signal
@@ -32,7 +34,8 @@ def acts(how, betting, turn):
 
 def play(how, game, host, port):
     turn = 0
-    with socket.create_connection((host, int(port))) as connection:
+    # (a match that stands still is waited for)
+    with socket.create_connection((host, int(port)), timeout=None) as connection:
         connection.sendall(b"# a comment may come first\r\nVERSION:2.0.0\r\n")
         for line in connection.makefile("r", encoding="ascii", newline="\r\n"):
             betting = turn_of(game, line.rstrip("\r\n"))
@@ -45,6 +48,15 @@ def play(how, game, host, port):
             connection.sendall(f"{line.rstrip()}:{action}\r\n".encode())
             if action == "f":
                 sys.exit(1)
+
+
+def is_first():
+    """Whether no process of this bot was here before."""
+    try:
+        os.close(os.open("came", os.O_CREAT | os.O_EXCL))
+    except FileExistsError:
+        return False
+    return True
 
 
 def be_stubborn():
@@ -60,11 +72,13 @@ def main(how, path, host, port):
     if how == "noisy":
         for _ in range(20):
             os.write(1, 1024 * (1023 * b"x" + b"\n"))
-    if how == "silent":
+    if how in ("silent", "returns"):
         signal.signal(signal.SIGTERM, signal.SIG_IGN)
     with open(path, encoding="ascii") as file:
         game = Game(file.read())
-    play(how, game, host, port)
+    if how == "returns" and is_first():
+        play("silent", game, host, port)
+    play("calls" if how == "returns" else how, game, host, port)
 
 
 if __name__ == "__main__":

@@ -2,16 +2,45 @@
 import os
 import random
 import signal
+import subprocess
 import sys
 import time
+from types import SimpleNamespace
 
 sys.dont_write_bytecode = True
 
 from dealer_runs import are_ended
 from league_runs import OPTIONS, WAIT, Bots, League, awaited, command, descendants, kill, test
-from serving import want
+from serving import TOP, loaded, want
 
 SEED = 67
+# tools/league as it is where an interrupt comes in the midst of a look at a process, once the file `interrupt` is beside the league's.
+INTERRUPTED_LEAGUE = f"""
+import os, runpy, signal, subprocess, sys
+sys.path.insert(0, "{TOP}/tools")
+at_once, sent, asked = subprocess.Popen._internal_poll, [], os.path.join(os.path.dirname(sys.argv[1]), "interrupt")
+def poll(process, *words, **more):
+    if not sent and os.path.exists(asked):
+        sent.append(process)
+        process._waitpid_lock.acquire(False)
+        os.kill(os.getpid(), signal.SIGINT)
+        process._waitpid_lock.release()
+    return at_once(process, *words, **more)
+subprocess.Popen._internal_poll = poll
+runpy.run_path("{TOP}/tools/league", run_name="__main__")
+"""
+# tools/league as it is where two seconds pass from the start of a bot until its number is told.
+LATE_LEAGUE = f"""
+import runpy, sys, time
+sys.path.insert(0, "{TOP}/tools")
+from league_parts.bots import Keeper
+at_once = Keeper.begun
+def begun(keeper, group):
+    time.sleep(2)
+    at_once(keeper, group)
+Keeper.begun = begun
+runpy.run_path("{TOP}/tools/league", run_name="__main__")
+"""
 
 
 def six_bots():
@@ -132,6 +161,89 @@ def an_interrupt_ends_all_and_leaves_all_to_go_on():
     for name in league.logs():
         league.is_right(name)
         want(league.result(name)["restarts"] == [0, 0], "the interrupt is counted as a restart")
+
+
+@test
+def an_interrupt_ends_a_match_that_stands_still():
+    league = slow_league()
+    run = league.start("run", "--jobs", "1")
+    below = played_now(league, run)
+    os.kill(below[0][0], signal.SIGSTOP)
+    run.send_signal(signal.SIGINT)
+    said = run.communicate(timeout=WAIT)[1]
+    want(run.returncode == 1 and "interrupted" in said and are_ended(below), f"status {run.returncode}: {said}")
+
+
+def altered_league(league, script, *words):
+    """A process of a league's tool that a script alters."""
+    altered = league.folder / "altered_league"
+    altered.write_text(script)
+    return subprocess.Popen([sys.executable, altered, league.file, *words], start_new_session=True, stderr=subprocess.PIPE, text=True)
+
+
+@test
+def an_interrupt_at_a_look_at_a_match_ends_it():
+    """Which isn't waited for without end, however the interrupt comes."""
+    league = slow_league()
+    run = altered_league(league, INTERRUPTED_LEAGUE, "run", "--jobs", "1")
+    below = played_now(league, run)
+    (league.folder / "interrupt").touch()
+    try:
+        said = run.communicate(timeout=WAIT)[1]
+    finally:
+        run.kill()
+    want(run.returncode == 1 and "interrupted" in said and are_ended(below), f"status {run.returncode}: {said}")
+
+
+@test
+def an_interrupt_at_the_start_of_a_bot_ends_it_too():
+    """Also one that isn't ended by TERM, where the interrupt comes before anybody was told of it."""
+    league = League({"calls": command("calls"), "stays": "sh -c 'trap \"\" TERM; touch here; sleep 600' {port}"}, t_per_hand=1000 * WAIT)
+    here = league.folder / "of_stays/here"
+    # (it is the second one that is started, and then the first one)
+    for number in ("1", "2"):
+        match = altered_league(league, LATE_LEAGUE, "match", number)
+        awaited(here.exists, "the start of the bot")
+        here.unlink()
+        below = descendants(match.pid)
+        match.terminate()
+        want(match.wait(WAIT) == 1, f"status {match.returncode}")
+        awaited(lambda: are_ended(below), f"the end of {below}")
+
+
+def with_signals(signalled, call):
+    """Calls something in a copy of league_parts/bots.py whose signals to groups are kept too, each with its group."""
+    module = loaded("tools/league_parts/bots.py")
+
+    def killpg(group, number):
+        if number:
+            signalled.append((group, number))
+        os.killpg(group, number)
+
+    module.os = SimpleNamespace(**{**vars(os), "killpg": killpg})
+    return call(module)
+
+
+@test
+def a_number_that_may_be_anothers_gets_no_signal():
+    """Neither where all of a program has ended long before its player is ended, nor where it ends by itself when it is asked to,
+    and another one is killed two seconds later."""
+    signalled = []
+
+    def ended_before(module):
+        keeper = SimpleNamespace(begun=lambda group: None, ended=lambda group: None)
+        bot = module.Bot(SimpleNamespace(words=lambda *_: ["true"], folder="/"), "127.0.0.1", 1, os.devnull, keeper)
+        awaited(lambda: not bot.is_running(), "the end of true")
+        module.end_all([bot])
+
+    with_signals(signalled, ended_before)
+    want(signalled == [], f"signals {signalled}")
+    words = (["sleep", str(WAIT)], ["sh", "-c", f"trap '' TERM; echo; sleep {WAIT}"])
+    quick, slow = (subprocess.Popen(it, stdout=subprocess.PIPE, preexec_fn=lambda: os.setpgid(0, 0)) for it in words)
+    slow.stdout.readline()
+    with_signals(signalled, lambda module: module.end([quick.pid, slow.pid], quick.poll))
+    slow.wait(WAIT)
+    want(signalled == [(quick.pid, signal.SIGTERM), (slow.pid, signal.SIGTERM), (slow.pid, signal.SIGKILL)], f"signals {signalled}")
 
 
 @test

@@ -14,6 +14,8 @@ GRACE, LOOK = 2.0, 0.02
 MOST_OUTPUT = 16 * 2**20
 # The most bytes of a player's folder of which a digest is made.
 MOST_DIGESTED = 2**30
+# The signals that ask a match to end.
+INTERRUPTS = (signal.SIGINT, signal.SIGTERM, signal.SIGHUP)
 PR_SET_PDEATHSIG = 1
 LIBRARY = ctypes.CDLL(None)
 
@@ -38,14 +40,14 @@ def signal_all(groups, number):
 
 
 def end(groups, reap=lambda: None):
-    """Ends process groups: asks them to, and kills what is still there two seconds later."""
+    """Ends process groups: asks them to, and kills those that are still there two seconds later. The number of one that has ended
+    may be another's then."""
     signal_all(groups, signal.SIGTERM)
     until = time.monotonic() + GRACE
-    while time.monotonic() < until:
-        reap()
-        if not any(map(is_alive, groups)):
-            return
+    while groups and time.monotonic() < until:
         time.sleep(LOOK)
+        reap()
+        groups = [group for group in groups if is_alive(group)]
     signal_all(groups, signal.SIGKILL)
 
 
@@ -66,7 +68,7 @@ class Keeper:
         """Never returns."""
         try:
             os.setsid()
-            for number in (signal.SIGINT, signal.SIGTERM, signal.SIGHUP):
+            for number in INTERRUPTS:
                 signal.signal(number, signal.SIG_IGN)
             null = os.open(os.devnull, os.O_RDWR)
             for descriptor in (0, 1, 2):
@@ -91,10 +93,12 @@ class Keeper:
         os.waitpid(self.process, 0)
 
 
-def set_apart(parent):
-    """What a player's process does before it becomes his program: it gets a process group of its own, and is asked to end
-    where its parent ends. Killed at once, a program that stands for a container couldn't end that."""
+def set_apart(parent, blocked):
+    """What a player's process does before it becomes his program: it gets a process group of its own, only the signals that were
+    blocked before its start are blocked, and it is asked to end where its parent ends. Killed at once, a program that stands for a
+    container couldn't end that."""
     os.setpgid(0, 0)
+    signal.pthread_sigmask(signal.SIG_SETMASK, blocked)
     LIBRARY.prctl(PR_SET_PDEATHSIG, signal.SIGTERM)
     if os.getppid() != parent:
         os._exit(1)
@@ -105,14 +109,20 @@ class Bot:
 
     def __init__(self, player, host, port, output, keeper):
         """`output` is the file that gets what it writes to its standard output and error."""
-        parent, self.keeper, self.output = os.getpid(), keeper, output
-        self.process = subprocess.Popen(
-            player.words(host, port), cwd=player.folder, stdin=subprocess.DEVNULL, stdout=subprocess.PIPE, stderr=subprocess.STDOUT,
-            preexec_fn=lambda: set_apart(parent),
-        )
-        self.keeper.begun(self.process.pid)
-        self.reader = threading.Thread(target=self.read, daemon=True)
-        self.reader.start()
+        parent, self.keeper, self.output, self.is_over = os.getpid(), keeper, output, False
+        # (an interrupt between the start and the keeper's knowledge of it would leave the program behind; it comes to the main thread
+        # alone, since each reader begins with the interrupts blocked)
+        blocked = signal.pthread_sigmask(signal.SIG_BLOCK, INTERRUPTS)
+        try:
+            self.process = subprocess.Popen(
+                player.words(host, port), cwd=player.folder, stdin=subprocess.DEVNULL, stdout=subprocess.PIPE, stderr=subprocess.STDOUT,
+                preexec_fn=lambda: set_apart(parent, blocked),
+            )
+            self.keeper.begun(self.process.pid)
+            self.reader = threading.Thread(target=self.read, daemon=True)
+            self.reader.start()
+        finally:
+            signal.pthread_sigmask(signal.SIG_SETMASK, blocked)
 
     def read(self):
         """Keeps what the program writes, as far as there is room. A program that runs on is never stopped by a full pipe."""
@@ -125,20 +135,27 @@ class Bot:
                     continue
 
     def is_running(self):
-        """Whether its program, or one that it started, is there."""
-        self.process.poll()
-        return is_alive(self.process.pid)
+        """Whether its program, or one that it started, is there. Once none is, its number may be another's, and isn't looked at
+        again."""
+        if not self.is_over:
+            self.process.poll()
+            self.is_over = not is_alive(self.process.pid)
+            if self.is_over:
+                self.keeper.ended(self.process.pid)
+        return not self.is_over
 
 
 def end_all(bots):
     """Ends players' programs, all at once. One that belongs to another user, and can't be ended, is left behind."""
-    end([bot.process.pid for bot in bots], lambda: [bot.process.poll() for bot in bots])
-    for bot in bots:
+    running = [bot for bot in bots if bot.is_running()]
+    end([bot.process.pid for bot in running], lambda: [bot.process.poll() for bot in running])
+    for bot in running:
         try:
             bot.process.wait(GRACE)
         except subprocess.TimeoutExpired:
             continue
         bot.keeper.ended(bot.process.pid)
+    for bot in bots:
         bot.reader.join(GRACE)
 
 

@@ -13,7 +13,7 @@ import time
 from match_engine import AGAIN, DEFAULT, PROGRAM, InUse, Match, MatchFault, Settings, Watcher
 
 from . import deals
-from .bots import Bot, Keeper, digest, end_all
+from .bots import INTERRUPTS, Bot, Keeper, digest, end_all
 from .faults import Busy, Interrupted, Unfinished
 from .files import write_whole
 from .logs import hand_chips
@@ -51,14 +51,12 @@ def is_locked(league, name):
 
 def end_by_signals():
     """Has the first SIGINT, SIGTERM or SIGHUP raise Interrupted here; those behind it do nothing."""
-    numbers = (signal.SIGINT, signal.SIGTERM, signal.SIGHUP)
-
     def interrupted(number, frame):
-        for it in numbers:
+        for it in INTERRUPTS:
             signal.signal(it, signal.SIG_IGN)
         raise Interrupted()
 
-    for number in numbers:
+    for number in INTERRUPTS:
         signal.signal(number, interrupted)
 
 
@@ -89,7 +87,10 @@ class Table(Watcher):
         except OSError as why:
             if why.errno in OF_MACHINE:
                 raise
-            self.note(f"{player.name}: the program can't be started: {why}")
+            self.unstarted(seat, f"the program can't be started: {why.strerror}: {why.filename}")
+
+    def unstarted(self, seat, why):
+        self.note(f"{self.players[seat].name}: {why}")
 
     def started(self, at):
         self.all_there = time.monotonic()
@@ -101,8 +102,10 @@ class Table(Watcher):
     def warned(self, seat, text):
         self.note(f"{self.players[seat].name}: {text}")
 
-    def failed(self, seat, why, restarts):
+    def dropped(self, seat):
         self.end([seat])
+
+    def failed(self, seat, why, restarts):
         is_again = restarts < self.restarts
         then = f"started again ({restarts + 1} of {self.restarts})" if is_again else "folds or calls from now on"
         self.note(f"{self.players[seat].name}: {why}: {then}")

@@ -7,8 +7,9 @@ import sys
 import time
 from collections import Counter
 
+from .bots import INTERRUPTS
 from .faults import Interrupted, Unfinished
-from .one_match import end_by_signals, is_locked, lock
+from .one_match import is_locked, lock
 from .plan import is_finished
 from .progress import Progress
 from .words import in_words, of_all
@@ -25,19 +26,22 @@ def default_jobs(league):
     return max(1, len(os.sched_getaffinity(0)) // (league.seats + 1))
 
 
-def end_with(parent):
-    """Has a match end in order where `run` ends, however that one does."""
+def end_with(parent, blocked):
+    """Has a match end in order where `run` ends, however that one does. Only the signals that were blocked before are blocked."""
     os.setpgid(0, 0)
+    signal.pthread_sigmask(signal.SIG_SETMASK, blocked)
     LIBRARY.prctl(PR_SET_PDEATHSIG, signal.SIGTERM)
     if os.getppid() != parent:
         os._exit(1)
 
 
 class Run:
-    """A run of a league's matches."""
+    """A run of a league's matches. Interrupts come while it pauses, and only then: an exception in the midst of a look at a process
+    could leave that locked, and its end would be waited for without end."""
 
     def __init__(self, league, plan, jobs, command):
         """`command` gives the words that play a match of the plan."""
+        self.blocked = signal.pthread_sigmask(signal.SIG_BLOCK, INTERRUPTS)
         self.league, self.jobs, self.command = league, jobs, command
         self.waiting = [it for it in plan if not is_finished(league, it)]
         self.whole, self.begun = len(plan), time.monotonic()
@@ -53,11 +57,16 @@ class Run:
                 self.reap()
                 self.look_at_others()
                 self.progress.tell(self.text)
-                time.sleep(LOOK)
+                self.pause()
         finally:
             self.end()
             self.progress.note(self.text())
         return not self.failed
+
+    def pause(self):
+        """Interrupted where a signal asks for it. Those behind the first one change nothing."""
+        if signal.sigtimedwait(INTERRUPTS, LOOK) is not None:
+            raise Interrupted()
 
     def text(self):
         """How far the run is."""
@@ -93,7 +102,7 @@ class Run:
         try:
             process = subprocess.Popen(
                 self.command(match), stdin=subprocess.DEVNULL, stdout=subprocess.DEVNULL, stderr=subprocess.PIPE,
-                preexec_fn=lambda: end_with(parent),
+                preexec_fn=lambda: end_with(parent, self.blocked),
             )
         except OSError as why:
             raise Unfinished(f"{match.name} can't be started: {why.strerror}") from why
@@ -134,9 +143,10 @@ class Run:
                 self.waiting.insert(0, match)
 
     def end(self):
-        """Ends the matches that still run; each ends its players."""
+        """Ends the matches that still run, also those that stand still; each ends its players."""
         for process in self.running:
             process.terminate()
+            process.send_signal(signal.SIGCONT)
         for process in self.running:
             process.wait()
             process.stderr.close()
@@ -146,7 +156,6 @@ class Run:
 def run(league, plan, jobs, command):
     """Plays a league; the exit status."""
     held = lock(league, "run")
-    end_by_signals()
     playing = Run(league, plan, jobs or default_jobs(league), command)
     try:
         is_whole = playing.play()

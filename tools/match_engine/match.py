@@ -93,6 +93,10 @@ class Watcher:
         """Asked now and then while a player's connection is waited for: False where it won't come."""
         return True
 
+    def dropped(self, seat):
+        """A player who failed and may return has lost his connection. What programs he has are to end here: one could come to
+        his port again."""
+
     def failed(self, seat, why, restarts):
         """Asked only where players may return: AGAIN where the player was started once more, who is then waited for; DEFAULT
         where the seat folds where it faces a bet and else calls, to the match's end."""
@@ -379,6 +383,8 @@ class Match:
 
     def recover(self, seat):
         """Asks what becomes of a seat whose player failed, and waits for one who was started again."""
+        self.seats[seat].drop()
+        self.watcher.dropped(seat)
         self.seats[seat].drop()
         if self.watcher.failed(seat, self.lost.pop(seat), self.restarts[seat]) != AGAIN:
             self.absent.add(seat)

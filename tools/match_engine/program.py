@@ -25,6 +25,8 @@ NOTHING, SAID_NOTHING = "x", "E 110 BadScript"
 DEAL_FRAME = re.compile(r"frame \d+ 0>1 [0-9a-f]{8}0204[0-9a-f]{18}0101([0-9a-f]{8})[0-9a-f]{2}([0-9a-f]*)")
 # So many rounds of absent players end any hand: they check in four rounds where nobody faces a bet.
 ROUNDS = 10
+# How long the end of a process that was killed is waited for, in seconds.
+KILLED = 5.0
 # Of prctl: the signal that a process gets when the thread ends that started it.
 PR_SET_PDEATHSIG = 1
 LIBRARY = ctypes.CDLL(None)
@@ -35,6 +37,15 @@ def end_with(parent):
     LIBRARY.prctl(PR_SET_PDEATHSIG, signal.SIGKILL)
     if os.getppid() != parent:
         os._exit(1)
+
+
+def kill(process):
+    """Ends a process, and waits for it, but not without end: where an interrupt came in the midst of a look at it, it stays locked."""
+    process.kill()
+    try:
+        process.wait(KILLED)
+    except subprocess.TimeoutExpired:
+        pass
 
 
 def file_in_memory(name, text):
@@ -91,13 +102,12 @@ class Child:
         return MatchFault(said or f"holdem_table {self.words[0]} ended in the middle of the match (status {status})")
 
     def close(self):
-        self.process.kill()
+        kill(self.process)
         for pipe in (self.process.stdin, self.process.stdout, self.process.stderr):
             try:
                 pipe.close()
             except OSError:
                 pass
-        self.process.wait()
 
 
 class Dealer:

@@ -19,10 +19,10 @@ def left(until):
     return None if until is None else max(0.001, until - time.monotonic())
 
 
-def judge(until, late):
-    """Fails where a moment of the monotonic clock has passed, saying what is late."""
-    if until is not None and time.monotonic() >= until:
-        raise Failed(late)
+def is_past(until):
+    """Whether a moment of the monotonic clock has passed. It is asked before what came is looked at: what comes while this process
+    stands still behind that look isn't late."""
+    return until is not None and time.monotonic() >= until
 
 
 def printable(data):
@@ -30,20 +30,32 @@ def printable(data):
     return "".join(chr(byte) if 32 <= byte < 127 else f"\\x{byte:02x}" for byte in data)
 
 
+def no_port(address, port, why):
+    """The MatchFault of a port that can't be had."""
+    return MatchFault(f"port {port} at {address} can't be had: {why}")
+
+
+def bound(address, port):
+    """A socket that has a port of an address, 0 being any free one. Nobody can come to it before it listens."""
+    try:
+        found = socket.socket(socket.AF_INET6 if ":" in address else socket.AF_INET, socket.SOCK_STREAM)
+        found.setsockopt(socket.SOL_SOCKET, socket.SO_REUSEADDR, 1)
+        found.bind((address, port))
+    except (OSError, OverflowError) as why:
+        raise no_port(address, port, getattr(why, "strerror", None) or why) from why
+    return found
+
+
 class Seat:
     """A port, and the player who has come to it."""
 
     def __init__(self, address, port):
         """Listens at a port of an address; 0 is any free one."""
-        self.connection, self.buffer = None, b""
+        self.connection, self.buffer, self.listener = None, b"", bound(address, port)
         try:
-            family = socket.AF_INET6 if ":" in address else socket.AF_INET
-            self.listener = socket.socket(family, socket.SOCK_STREAM)
-            self.listener.setsockopt(socket.SOL_SOCKET, socket.SO_REUSEADDR, 1)
-            self.listener.bind((address, port))
             self.listener.listen(8)
-        except (OSError, OverflowError) as why:
-            raise MatchFault(f"port {port} at {address} can't be had: {getattr(why, 'strerror', None) or why}") from why
+        except OSError as why:
+            raise no_port(address, port, why.strerror) from why
         self.port = self.listener.getsockname()[1]
 
     def admit(self, until, is_last, is_coming):
@@ -52,13 +64,14 @@ class Seat:
         looked at isn't late, whatever the time: other seats were waited for first."""
         self.connection = None
         while self.connection is None:
+            is_late, may_come = is_past(until), is_coming()
             try:
                 self.listener.settimeout(LOOK if until is None else min(LOOK, left(until)))
                 self.connection, _ = self.listener.accept()
             except socket.timeout as why:
-                if until is not None and time.monotonic() >= until:
+                if is_late:
                     raise Failed("the player didn't connect in time") from why
-                if not is_coming():
+                if not may_come:
                     raise Failed("the player's program ended") from why
             except OSError as why:
                 raise MatchFault(f"port {self.port}: {why.strerror}") from why
@@ -69,8 +82,8 @@ class Seat:
         late = "the player named no version in time"
         line = self.line(until, late)
         while line[:1] in ("#", ";"):
-            if b"\n" not in self.buffer:
-                judge(until, late)
+            if b"\n" not in self.buffer and is_past(until):
+                raise Failed(late)
             line = self.line(until, late)
         if not VERSION.fullmatch(line):
             raise Failed(f"the first line isn't VERSION:2.0.0 but {line[:SHOWN]!r}")
@@ -100,9 +113,10 @@ class Seat:
         """The player's next line without its end, as printable text. Of one that is too long the beginning is told, behind
         words that no line begins with. `late` says what it is where none comes in time."""
         while b"\n" not in self.buffer:
+            is_late = is_past(until)
             self.buffer = self.buffer[: LINE + 1] + self.piece(until)
-            if b"\n" not in self.buffer:
-                judge(until, late)
+            if b"\n" not in self.buffer and is_late:
+                raise Failed(late)
         line, _, self.buffer = self.buffer.partition(b"\n")
         if len(line) > LINE:
             return f"(a line of more than {LINE} bytes) {printable(line[:SHOWN])}"
