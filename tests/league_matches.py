@@ -87,6 +87,15 @@ def responses_that_take_too_long():
 
 
 @test
+def who_comes_again_before_his_program_is_ended_has_no_seat():
+    """It answered nothing, and dials while it is asked to end: the seat is that of the program that is started then."""
+    league = League({"calls": command("calls"), "returns": command("returns")}, hands=2, t_response=8000)
+    league.does("match", "1")
+    result = league.result("calls.returns.1.0")
+    want((result["restarts"], result["defaults"]) == ([0, 1], [0, 0]), f"it is {result}")
+
+
+@test
 def one_who_never_comes_costs_the_other_nothing():
     """The limit of the start passes while the first seat is waited for; who came to the second one long before has come in
     time. None of the first one's processes is left."""
@@ -211,10 +220,12 @@ def players_are_tried_before_a_league():
     league.add("bad", command("quits"))
     league.add("none", "false {port}")
     league.add("three", command("calls"))
+    league.add("gone", "./nosuchbot {port}")
     printed = league.does("try", status=1)[0].splitlines()
-    want([line.split(":")[0] for line in printed] == ["good", "mended", "bad", "none", "three"], f"{printed}")
-    want([": failed: " in line for line in printed] == [False, False, True, True, False], f"{printed}")
+    want([line.split(":")[0] for line in printed] == ["good", "mended", "bad", "none", "three", "gone"], f"{printed}")
+    want([": failed: " in line for line in printed] == [False, False, True, True, False, True], f"{printed}")
     want("the player's program ended" in printed[3] and "bad.out" in printed[2], f"{printed}")
+    want(printed[5] == "gone: failed: the program can't be started: No such file or directory: ./nosuchbot", f"{printed}")
 
 
 @test

@@ -23,10 +23,10 @@ def record(kind, body):
     return (1 + len(body)).to_bytes(4, "big") + bytes([kind]) + body
 
 
-def hello(match, speaker, listener, mark=b"HDN1", digest=None, life=b"a stranger's own", link=0):
+def hello(match, speaker, listener, mark=b"HDN1", digest=None, life=b"a stranger's own", link=0, count=None):
     """The record by which a node begins; over a connection with codes it has a nonce."""
     digest = digest or hashlib.sha256((match.home(0) / "stores/match.kept").read_bytes()).digest()
-    return record(0, mark + bytes([link, speaker, listener, match.count]) + digest + life + bytes(16 + 5 + 32 * link))
+    return record(0, mark + bytes([link, speaker, listener, count or match.count]) + digest + life + bytes(16 + 5 + 32 * link))
 
 
 # What strangers say at a node's port, by the note that comes of it: by the match and the node.
@@ -35,6 +35,7 @@ SAID = {
     "121 BadKind": lambda match, node: record(9, bytes(20)),
     "122 BadHello": lambda match, node: hello(match, 2, node, mark=b"HDN3"),
     "123 OtherMatch digest": lambda match, node: hello(match, 2 if node < 2 else 1, node, digest=bytes(32)),
+    "123 OtherMatch nodes 5, not 3": lambda match, node: hello(match, 2 if node < 2 else 1, node, count=5),
     "123 OtherMatch number": lambda match, node: hello(match, 2, 1 - node) if node < 2 else hello(match, 1, node),
     "126 UnexpectedRecord": lambda match, node: record(2, bytes(20)),
 }
@@ -69,6 +70,8 @@ def strangers(seed, is_long):
             said(port, words(match, node))
         for node in range(3):
             match.await_note(node, f"inbound connection refused: {note}")
+    for node, numbers in enumerate(("1 called, not 0", "0 called, not 1", "1, not above 2")):
+        match.await_note(node, f"inbound connection refused: 123 OtherMatch number {numbers}")
     for node in (0, 1):
         # (on a busy machine node 2 may be gone for a moment, and its Hello is taken)
         waited(lambda: is_told(match, node, "128 AlreadyHere", hello(match, 2, node)), f"128 at node {node}", match.last_notes)
@@ -534,7 +537,7 @@ def many_askers(seed, is_long):
     match, delay = besieged(seed)
     match.begin().goes_on(20)
     calm, before = hands_a_second(match, 2), notes_bytes(match)
-    times = []
+    begun, times = time.monotonic(), []
     for is_idle in (False, True):
         if is_idle:
             match.may_act.clear()
@@ -545,7 +548,7 @@ def many_askers(seed, is_long):
             during = hands_a_second(match, 2) if not is_idle else during
         match.may_act.set()
     figures = f"{1000 * delay:.0f} ms a way: a line comes after {times[0]:.2f} s, at an idle table after {times[1]:.2f} s; {calm:.1f} hands a second before, {during:.1f} meanwhile"
-    is_quiet = are_few(match, before, 3)
+    is_quiet = are_few(match, before, time.monotonic() - begun)
     want(is_quiet, figures)
     match.in_time(max(times) <= 1 and during >= calm / 3, figures)
     match.ends()

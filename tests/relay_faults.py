@@ -7,15 +7,15 @@ import subprocess
 import threading
 import time
 
-from serving import TOP, Wrong, patience, want, waited
+from serving import TOP, free_ports, patience, want, waited
 
 from processes_keys import League
-from processes_match import Match, free_ports, serve
+from processes_match import Match, serve
 from processes_ways import NoHosts
 from relay_match import GAME, Dialler, Relay, RelayMatch, StockBot, in_words, test
 
-# How long a stock bot thinks where nodes are lost meanwhile, in seconds.
-PACE = 0.001
+# How long a stock bot thinks where nodes are lost meanwhile, in seconds: a quick machine plays no match before they are.
+PACE = 0.003
 
 
 @test(long_seeds=3)
@@ -331,9 +331,10 @@ def refused_answer(folder, seed, is_long):
     line = bots[0].line()
     want(line.split(b":")[3] == b"c", "the call is told to alice")
     bots[0].say(line.rstrip() + b":f\r\n")
-    time.sleep(6)
-    refusals = [[note for note in match.notes(node) if note.endswith(f"at node {node}, hand 0: 85 Illegal 21 FoldNotFacing")] for node in range(3)]
-    match.calmly([len(notes) for notes in refusals] == [1, 1, 1], f"notes of refusals: {refusals}")
+    refusals = lambda: [sum(note.endswith(f"at node {node}, hand 0: 85 Illegal 21 FoldNotFacing") for note in match.notes(node)) for node in range(3)]
+    waited(lambda: all(refusals()), "a refusal of each node", match.last_notes)
+    time.sleep(4.5)
+    match.calmly(refusals() == [1, 1, 1], f"so many refusals are told: {refusals()}")
     match.calmly(not any("lost" in note for note in relays[0].notes()), f"a connection ended: {relays[0].notes()}")
     bots[0].say(line.rstrip() + b":c\r\n")
     want(bots[0].line().split(b":")[3] == b"cc/", "the legal answer is taken")
@@ -404,7 +405,7 @@ def tokens(folder, seed, is_long):
     places = [[f"127.0.0.1:{match.seats[node] + seat}" for node in range(3)] for seat in range(2)]
     wrong = Relay(folder, "wrong", *places[0], options=["--token-file", files[1]])
     bot = Dialler(wrong)
-    wrong.await_note("turned away: wrong token? dials again in 5 s")
+    wrong.await_note("turned away: no quorum yet, or a wrong token? dials again in 5 s")
     bot.close()
     wrong.ends(1, "the bot ended its connection")
     relays = [Relay(folder, f"relay{seat}", *places[seat], options=["--token-file", files[seat]]) for seat in range(2)]

@@ -8,9 +8,9 @@ import time
 from pathlib import Path
 
 from refuser import refuser_in
-from serving import TOP, is_free, patience, want, waited
+from serving import TOP, free_ports, in_time, is_free, patience, want, waited
 
-from processes_match import Match, free_ports
+from processes_match import Match
 from relay_match import GAME, OTHER_TIME, VERSION, Dialler, Node, Relay, test
 
 # The button's first line of a hand, and the line behind his call: the big blind, at position 0, faces nothing.
@@ -48,7 +48,7 @@ def any_bytes_of_nodes(folder, seed, is_long):
             want([bot.line(), bot.line()] == [BEFORE + END, longest + END], f"beside {text[:40]!r} come not the lines")
             bot.gets_nothing()
             relay.await_note(f"node 0: disconnected, {note}")
-            waited(lambda: len(nodes[0].got) > 1, "another dial")
+            waited(lambda: len(nodes[0].got) > 1 and VERSION in nodes[0].got, "another dial", lambda: str(nodes[0].got))
             want(set(nodes[0].got) - {b""} == {VERSION}, f"the wrong node got {nodes[0].got}")
             want(len(right.connections) == number + 1 + (len(wrong["it sent what is no dealer's line"]) if "4096" in note else 0), "the right node's connection lasts")
             bot.close()
@@ -141,6 +141,7 @@ def all_lines_from_the_first(folder, seed, is_long):
     nodes[0].say(lines[1] + END)
     relay.await_note("node 0: disconnected, it began with a line that wasn't asked for")
     bot.gets_nothing()
+    waited(lambda: len(nodes[0].got) > 1 and nodes[0].got[-1] == VERSION, "another dial")
     told = 0
     for count in range(10, 60, 10):
         dialled = [len(node.got) for node in nodes]
@@ -185,6 +186,8 @@ def the_match_is_over(folder, seed, is_long):
         want(bot.line() == line + END, f"a bot that reads late: {line} comes next")
     want(bot.line() == b"", "the connection ends behind the last line")
     relay.ends(0, "the match is over")
+    # A connection that the relay ends itself isn't lost.
+    want(not any("connection lost" in note for note in relay.notes()), f"{relay.notes()}")
 
 
 @test()
@@ -208,7 +211,8 @@ def another_match(folder, seed, is_long):
     want(bot.line() == b"", "the connection ends")
     took = time.monotonic() - begun
     relay.ends(1, "the nodes have another match: the bot's last line isn't theirs")
-    want(OTHER_TIME - 0.5 <= took < OTHER_TIME + 15, f"the connection ended after {took:.1f} s")
+    want(OTHER_TIME - 0.5 <= took, f"the connection ended after {took:.1f} s")
+    in_time(took < OTHER_TIME + 15, f"the connection ended after {took:.1f} s")
 
 
 @test()
@@ -229,16 +233,19 @@ def answers_go_to_one_node(folder, seed, is_long):
     bot.say(LINE + b":c\r\n")
     answer, times = LINE + b":c" + END, {}
     while len(times) < 3:
-        want(time.monotonic() < begun + 10, f"the answer went to {times}")
-        for number, got in enumerate(got_by(nodes)):
+        want(time.monotonic() < begun + patience(), f"the answer went to {times}")
+        # (what is seen at once, by a test that didn't run itself meanwhile, has one time)
+        all_got, took = got_by(nodes), time.monotonic() - begun
+        for number, got in enumerate(all_got):
             want(got in (b"", answer), f"node {number} got {got!r}")
             if got:
-                times.setdefault(number, time.monotonic() - begun)
+                times.setdefault(number, took)
         time.sleep(0.002)
-    want(list(times) == [2, 3, 0], f"the order is {list(times)}")
+    want(times.get(2, 11) <= times.get(3, 10) <= times.get(0, 9), f"nodes were told at {times}")
     for number, due in ((2, 0), (3, 0.5), (0, 1.5)):
         # (a busy machine may be late, and never early)
-        want(due - 0.01 <= times[number] < due + 3, f"node {number} was told after {times[number]:.2f} s, not {due}")
+        want(due - 0.01 <= times[number], f"node {number} was told after {times[number]:.2f} s, not {due}")
+        in_time(times[number] < due + 3, f"node {number} was told after {times[number]:.2f} s, not {due}")
     time.sleep(4.5)
     want(got_by(nodes) == [answer, b"", answer, answer], f"nodes got {got_by(nodes)}")
     # The line comes of the node that hadn't told it yet: now it is told the answer too.
@@ -387,6 +394,14 @@ def wrong_actions_without_mending(folder, seed, is_long):
     relay.ends(1)
 
 
+def ticks_in_a_second(relay):
+    """For how many hundredths of the next second a relay has a processor."""
+    ticks = lambda: sum(map(int, Path(f"/proc/{relay.process.pid}/stat").read_text().rpartition(")")[2].split()[11:13]))
+    before = ticks()
+    time.sleep(1)
+    return ticks() - before
+
+
 @test()
 def a_bot_that_does_not_read(folder, seed, is_long):
     """What waits for it is bounded, the nodes are held up, and it gets all lines in order once it reads."""
@@ -397,10 +412,8 @@ def a_bot_that_does_not_read(folder, seed, is_long):
     time.sleep(2)
     kibibytes = int(Path(f"/proc/{relay.process.pid}/statm").read_text().split()[1]) * resource.getpagesize() // 1024
     want(kibibytes < 16384, f"the relay has {kibibytes} KiB")
-    ticks = sum(map(int, Path(f"/proc/{relay.process.pid}/stat").read_text().rpartition(")")[2].split()[11:13]))
-    time.sleep(1)
-    busy = sum(map(int, Path(f"/proc/{relay.process.pid}/stat").read_text().rpartition(")")[2].split()[11:13])) - ticks
-    want(busy <= 10, f"a relay that waits for its bot is busy for {busy} hundredths of a second")
+    # (on a busy machine it takes longer until it waits)
+    waited(lambda: ticks_in_a_second(relay) <= 10, "a relay that waits for its bot, and isn't busy for more than ten hundredths of a second")
     got = bytearray()
     while len(got) < len(lines):
         piece = bot.connection.recv(1 << 16)
@@ -497,7 +510,7 @@ def one_bot_at_a_time(folder, seed, is_long):
 
 def status_of(*words):
     """The status of a relay that is started so, and what it printed."""
-    ran = subprocess.run([Match.program, "relay", *map(str, words)], stdin=subprocess.DEVNULL, capture_output=True, timeout=20)
+    ran = subprocess.run([Match.program, "relay", *map(str, words)], stdin=subprocess.DEVNULL, capture_output=True, timeout=60)
     return ran.returncode, ran.stdout, ran.stderr
 
 
@@ -617,7 +630,8 @@ def no_node_is_reached(folder, seed, is_long):
     took = time.monotonic() - begun
     relay.ends(1, "no node was reached")
     # (a busy machine may be late, and never early)
-    want(2 <= took < 9, f"it gave up after {took:.1f} s")
+    want(2 <= took, f"it gave up after {took:.1f} s")
+    in_time(took < 9, f"it gave up after {took:.1f} s")
 
 
 @test()
@@ -632,12 +646,13 @@ def nodes_that_are_away(folder, seed, is_long):
     for line in lines[:5]:
         want([bot.line(), late.line()] == [line + END] * 2, f"{line} comes next")
     time.sleep(1.2)
-    node.remove()
     begun = time.monotonic()
+    node.remove()
     want(late.line() == b"", "the connection ends")
     took = time.monotonic() - begun
     other.ends(1, "no node was reached")
-    want(11 <= took < 30, f"the connection ended after {took:.1f} s")
+    want(11.5 <= took, f"the connection ended after {took:.1f} s")
+    in_time(took < 30, f"the connection ended after {took:.1f} s")
     again = Node(END.join(lines[4:]) + END, port=port)
     for line in lines[5:]:
         want(bot.line() == line + END, f"{line} comes next")
@@ -652,15 +667,16 @@ def turned_away(folder, seed, is_long):
     nodes = [Node(stays=False) for _ in range(3)]
     relay = relayed(folder, nodes)
     bot = Dialler(relay)
-    relay.await_note("turned away: wrong token? dials again in 5 s")
+    relay.await_note("turned away: no quorum yet, or a wrong token? dials again in 5 s")
     # (the file was written when the note was: a busy machine may have it read late)
     told, counts = relay.notes_file.stat().st_mtime, []
     while time.time() < told + 4.5:
         time.sleep(0.1)
+        count = [len(node.connections) for node in nodes]
         if told + 1 < time.time() < told + 4.5:
-            counts.append([len(node.connections) for node in nodes])
+            counts.append(count)
     want(counts[:1] * len(counts) == counts, f"nodes are dialled meanwhile: {counts}")
-    relay.await_note("turned away: wrong token? dials again in 10 s")
+    relay.await_note("turned away: no quorum yet, or a wrong token? dials again in 10 s")
     bot.close()
     relay.ends(1)
 

@@ -21,10 +21,15 @@ class Trial(Table):
 
     def __init__(self, players, folder, keeper):
         super().__init__(players, 0, folder, keeper)
-        self.answers, self.why = 0, None
+        self.answers, self.why, self.why_unstarted = 0, None, None
 
     def received(self, seat, at, line):
         self.answers += seat == 0 and line.startswith("MATCHSTATE:")
+
+    def unstarted(self, seat, why):
+        if seat == 0:
+            self.why_unstarted = why
+        super().unstarted(seat, why)
 
     def failed(self, seat, why, restarts):
         if seat == 0:
@@ -47,6 +52,8 @@ def try_player(league, player, keeper):
     players = [player, *callers(league, player.name)]
     table = Trial(players, folder, keeper)
     result = play(settings_of(league, "try", [it.name for it in players], HANDS, secrets.randbelow(2**63), folder), table)
+    if table.why_unstarted is not None:
+        return table.why_unstarted, None
     if table.why is not None:
         return f"{table.why}; what he wrote is in {folder / (player.name + '.out')}", None
     mean = result.used[0] / max(1, table.answers) / MILLISECOND

@@ -2,9 +2,9 @@
 
 use crate::test_streams::{config, holds, is_same, is_written, prints};
 use dealer_node::NodeFault;
-use match_file::{Difference, Key, MatchFault};
+use match_file::{Counts, Difference, Key, MatchFault};
 use match_log::Name;
-use node_links::{Digests, Mismatch, Own, PeerFault, Whose};
+use node_links::{Digests, Mismatch, Numbers, Own, PeerFault, Whose, WrongNumber};
 use node_peers::Peers;
 use node_runs::{LifeKeeper, NodeEnd, key_text, node_run, read_key};
 use node_seats::Seats;
@@ -13,7 +13,7 @@ use node_status::Askers;
 use node_wires::MemoryWire;
 use operator_notes::{KeyFault, NodeNote, life_path, node_kept_path, tell_node_note};
 use paxos_wire::Ballot;
-use peer_codes::{Key as SharedKey, Life, MatchDigest, RecordFault};
+use peer_codes::{Key as SharedKey, Life, MatchDigest};
 use promise_store::{Disk, OnceDisk, Store, StoreFault};
 use stations::Station;
 use std::alloc::{AllocError, Global};
@@ -32,7 +32,7 @@ peer 1: connected
 peer 1: disconnected
 peer 2: 127 StoreReplaced
 peer 0: 123 OtherMatch digest: here 1a2b3c4d, there 0000000a (from 10.0.0.7)
-inbound connection refused: 122 BadHello
+inbound connection refused: 123 OtherMatch number 2 called, not 1
 inbound connection refused: 124 WrongProof (from peer 2's address)
 peer 2: patience 100, here 12
 peer 2: start 1.050, here none
@@ -76,7 +76,10 @@ fn notes<'a>(name: Name) -> [NodeNote<'a>; 22] {
         },
         NodeNote::Caller {
             peer: None,
-            fault: PeerFault::Record(RecordFault::BadHello),
+            fault: PeerFault::OtherMatch(Mismatch::Number(WrongNumber::Called(Numbers {
+                said: 2,
+                expected: 1,
+            }))),
         },
         NodeNote::Caller {
             peer: Some(2),
@@ -149,8 +152,11 @@ fn the_status_says_what_is_at_fault(rt: HostRuntime) -> Result<(), Fail> {
     ends(&rt, alloc, NodeEnd::LogFailed, 1, "106 LogFailed")?;
     ends(&rt, alloc, NodeEnd::StoreInUse, 2, "108 StoreInUse")?;
     ends(&rt, alloc, NodeEnd::Unreadable, 2, "104 Unreadable")?;
-    let other = NodeEnd::OtherMatch(Difference::Node);
-    ends(&rt, alloc, other, 2, "109 OtherMatch node")?;
+    let other = NodeEnd::OtherMatch(Difference::Hands(Counts {
+        kept: 10000,
+        expected: 3000,
+    }));
+    ends(&rt, alloc, other, 2, "109 OtherMatch hands 10000, not 3000")?;
     let entry = NodeEnd::from(MatchFault::BadEntry(Key::Peers));
     ends(&rt, alloc, entry, 2, "101 BadEntry peers")?;
     is_same(&rt, NodeEnd::StoreReplaced.status(), 2);

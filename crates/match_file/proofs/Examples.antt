@@ -13,7 +13,7 @@ use Rattle.match_file.specs.declared.key.Key.TheVariants.{Name, Game, Hands, Nam
 use Rattle.match_file.specs.declared.outage.Outage.{Outage}
 use Rattle.match_file.specs.declared.match_fault.MatchFault.TheVariants.{BadEntry, Unreadable}
 use Rattle.match_file.specs.declared.difference.Difference.TheVariants as other
-use Rattle.match_file.specs.Kept.{Kept, Keeps, IsFirst, kept_text}
+use Rattle.match_file.specs.Kept.{Kept, Keeps, IsFirst, kept_text, difference_text}
 use Rattle.match_file.specs.Unused.{unused_keys}
 use Rattle.game_def.specs.Game.{Game as GameValue}
 use Rattle.match_file.specs.Keys.{key_text}
@@ -254,20 +254,32 @@ another_name same = cc
 another_game : IsFirst (kept (codes "tonight") (codes "nolimit.game") 20 seats 3 (limit_game 200)) tonight other.Game
 another_game = (refl, λ same. cc)
 
-more_hands : IsFirst (kept (codes "tonight") (codes "l2.game") 21 seats 3 (limit_game 200)) tonight other.Hands
-more_hands = (refl, refl, λ same. omega (arith, same))
+more_hands : IsFirst (kept (codes "tonight") (codes "l2.game") 21 seats 3 (limit_game 200)) tonight (other.Hands (record { kept = 21; expected = 20 }))
+more_hands = (refl, refl, (λ same. omega (arith, same), refl, refl))
+
+-- the kept count comes first
+no_counts_turned_round : IsFirst (kept (codes "tonight") (codes "l2.game") 21 seats 3 (limit_game 200)) tonight (other.Hands (record { kept = 20; expected = 21 })) → ⊥
+no_counts_turned_round first = let e : 20 ≡ 21 = first.2.1 in omega (arith, e)
 
 seats_in_another_order : IsFirst (kept (codes "tonight") (codes "l2.game") 20 (codes "bob" ∷ codes "alice" ∷ []) 3 (limit_game 200)) tonight other.Names
 seats_in_another_order = (refl, λ same. cc)
 
-more_nodes : IsFirst (kept (codes "tonight") (codes "l2.game") 20 seats 5 (limit_game 200)) tonight other.Node
-more_nodes = (refl, refl, λ same. omega (arith, same))
+more_nodes : IsFirst (kept (codes "tonight") (codes "l2.game") 20 seats 5 (limit_game 200)) tonight (other.Nodes (record { kept = 5; expected = 3 }))
+more_nodes = (refl, refl, (λ same. omega (arith, same), refl, refl))
 
 other_stacks : IsFirst (kept (codes "tonight") (codes "l2.game") 20 seats 3 (limit_game 201)) tonight other.Values
 other_stacks = (refl, refl, refl, λ same. let e : 201 ≡ 200 = stack_said same in omega (arith, e))
   where
     stack_said : {x y : ℕ} → limit_game x ≡ limit_game y → x ≡ y
     stack_said {x} {y} same = let e : x ∷ x ∷ [] ≡ y ∷ y ∷ [] = ap (λ (g : GameValue). g.stacks) same in cc
+
+other_hands_text : difference_text (other.Hands (record { kept = 10000; expected = 3000 })) ≡ codes "hands 10000, not 3000"
+unfolding digits
+other_hands_text = refl
+
+other_nodes_text : difference_text (other.Nodes (record { kept = 5; expected = 3 })) ≡ codes "nodes 5, not 3"
+unfolding digits
+other_nodes_text = refl
 
 -- what differs behind the first isn't told
 no_values_before_the_name : IsFirst (kept (codes "today") (codes "l2.game") 20 seats 3 (limit_game 201)) tonight other.Values → ⊥

@@ -15,7 +15,7 @@ use Rattle.dealer_kind.specs.Plans.{IsSetting}
 use Rattle.match_file.specs.Kept.{Kept, Keeps, IsFirst, line}
 use Rattle.match_file.specs.KeptLines.{Said, IsOneEach}
 use Rattle.match_file.specs.declared.difference.Difference.{Difference}
-use Rattle.match_file.specs.declared.difference.Difference.TheVariants.{Name, Game as GameWord, Hands, Names, Node, Values, Unread, Command}
+use Rattle.match_file.specs.declared.difference.Difference.TheVariants.{Name, Game as GameWord, Hands, Names, Nodes, Values, Unread, Node, Command}
 
 -- what is found in front of a feed, behind a word
 pub line_found : (text word behind : List ℕ) (found : Option (Bor (List ℕ) × Bor (List ℕ))) → text ≡ word ++ behind → IfSome found (λ parts. (behind ≡ parts.0.now ++ 10 ∷ parts.1.now) × IsFreeOf 10 parts.0.now) → IfSome found (λ parts. text ≡ line word parts.0.now parts.1.now)
@@ -73,11 +73,12 @@ kept_same a b said nodes = ap (λ (s : Setting). kept s a.nodes) said ∙ ap (λ
 pub none_first : (a b : Kept) (difference : Difference) → a ≡ b → IsFirst a b difference → ⊥
 none_first a b Name same first = first (ap (λ (k : Kept). k.setting.title.name) same)
 none_first a b GameWord same first = first.1 (ap (λ (k : Kept). k.setting.title.game) same)
-none_first a b Hands same first = first.2 (ap (λ (k : Kept). k.setting.title.hands) same)
+none_first a b (Hands counts) same first = first.2.0 (ap (λ (k : Kept). k.setting.title.hands) same)
 none_first a b Names same first = first.1 (ap (λ (k : Kept). k.setting.names) same)
-none_first a b Node same first = first.2 (ap (λ (k : Kept). k.nodes) same)
+none_first a b (Nodes counts) same first = first.2.0 (ap (λ (k : Kept). k.nodes) same)
 none_first a b Values same first = first.3 (ap (λ (k : Kept). k.setting.game) same)
 none_first a b Unread same first = first
+none_first a b Node same first = first
 none_first a b Command same first = first
 
 -- a text that keeps the one keeps the other just where nothing is first

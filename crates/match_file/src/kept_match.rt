@@ -4,7 +4,7 @@ ghost use Rattle.std.specs.Prelude.{◌≡◌, ◌≤◌, ℕ, List, decimal, So
 ghost use Rattle.dealer_kind.specs.Plans.{HasNodes};
 ghost use Rattle.match_file.specs.Kept.{Kept, Keeps, IsFirst, kept_of};
 
-use crate::difference::Difference;
+use crate::difference::{Counts, Difference};
 use crate::kept_lines::KeptLines;
 use crate::sameness::{are_same_games, are_same_names};
 use dealer_kind::Config;
@@ -75,7 +75,10 @@ impl<'a> KeptMatch<'a> {
             return Some(Difference::Game);
         }
         if self.hands != config.hands() {
-            return Some(Difference::Hands);
+            return Some(Difference::Hands(Counts {
+                kept: self.hands,
+                expected: config.hands(),
+            }));
         }
         None
     }
@@ -87,8 +90,12 @@ impl<'a> KeptMatch<'a> {
         if !are_same_names(self.names.as_slice(), config.names().as_slice()) {
             return Some(Difference::Names);
         }
-        if self.nodes as usize != config.nodes() {
-            return Some(Difference::Node);
+        let nodes = config.nodes() as u32;
+        if self.nodes != nodes {
+            return Some(Difference::Nodes(Counts {
+                kept: self.nodes,
+                expected: nodes,
+            }));
         }
         if !are_same_games(&self.game, config.game()) {
             return Some(Difference::Values);

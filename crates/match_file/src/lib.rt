@@ -47,7 +47,7 @@ mod unused;
 
 pub use absent::Absent;
 pub use addresses::Addresses;
-pub use difference::Difference;
+pub use difference::{Counts, Difference};
 pub use digest::source_digest;
 pub use kept::{kept_difference, kept_text};
 pub use key::Key;

@@ -3,7 +3,7 @@ use Rattle.std.specs.Prelude.{ℕ, List, [], codes}
 use Rattle.std.specs.declared.io.ErrorKind.{ErrorKind}
 use Rattle.std.specs.declared.io.ErrorKind.TheVariants as kind
 use Rattle.operator_notes.specs.declared.cause.Cause.{Cause}
-use Rattle.operator_notes.specs.declared.cause.Cause.TheVariants.{InUse, NotHere, NotFound, NoPermission, NoRoom, ThereAlready, NotAFolder, Failed, Unknown}
+use Rattle.operator_notes.specs.declared.cause.Cause.TheVariants.{InUse, NotHere, NotFound, NoFolder, NoPermission, NoRoom, ThereAlready, NotAFolder, Failed, Unknown}
 
 -- by the system's kind of error; a lock that another process holds is an operation that would wait
 abbrev pub cause_of : ErrorKind → Cause
@@ -23,6 +23,7 @@ abbrev pub cause_text : Cause → List ℕ
 cause_text InUse = codes ": in use"
 cause_text NotHere = codes ": not an address of this machine"
 cause_text NotFound = codes ": not found"
+cause_text NoFolder = codes ": no such folder"
 cause_text NoPermission = codes ": no permission"
 cause_text NoRoom = codes ": no room"
 cause_text ThereAlready = codes ": there already"

@@ -12,6 +12,8 @@ pub enum Cause {
     NotHere,
     /// There is no such file or folder.
     NotFound,
+    /// There is no such folder, in which a file was to be made.
+    NoFolder,
     /// This user may not have it.
     NoPermission,
     /// The disk is full, or this user's share of it.
@@ -51,6 +53,7 @@ impl Cause {
             Cause::InUse => ": in use",
             Cause::NotHere => ": not an address of this machine",
             Cause::NotFound => ": not found",
+            Cause::NoFolder => ": no such folder",
             Cause::NoPermission => ": no permission",
             Cause::NoRoom => ": no room",
             Cause::ThereAlready => ": there already",

@@ -27,17 +27,23 @@ impl RelayServer {
         Some(state.end(now))
     }
 
-    /// The connection to a node ended.
+    /// The connection to a node ended, and not by the relay.
     fn lose_node<W: Wire>(&mut self, wire: &mut W, node: u8, now: u64)
         ensures { Keeps self.old.desk self.new.desk (W.passed wire.old) (W.passed wire.new) }
     {
-        let told = self.has_told(node);
+        if self.has_told(node) {
+            self.note(RelayNotice::Lost { node });
+        }
+        self.part_from(wire, node, now);
+    }
+
+    /// Ends the connection to a node, without a notice: why it ends was noted, or was before.
+    fn part_from<W: Wire>(&mut self, wire: &mut W, node: u8, now: u64)
+        ensures { Keeps self.old.desk self.new.desk (W.passed wire.old) (W.passed wire.new) }
+    {
         let Some(parting) = self.leave(wire, node, now) else {
             return;
         };
-        if told {
-            self.note(RelayNotice::Lost { node });
-        }
         self.answering.lose(node, now);
         if parting == Parting::Lasted {
             self.holding.settle();
@@ -143,7 +149,7 @@ impl RelayServer {
     {
         let goes_on = self.take_lines(node, now)?;
         if !goes_on {
-            self.lose_node(wire, node, now);
+            self.part_from(wire, node, now);
         }
         Ok(goes_on)
     }

@@ -10,7 +10,7 @@ pub enum RelayNotice {
     BotGone { unfit: u64, too_long: u64 },
     /// The first line of a node came over its connection.
     Sits { node: u8 },
-    /// The connection to a node ended over which lines had come.
+    /// The connection to a node ended over which lines had come, and not by the relay.
     Lost { node: u8 },
     /// A node began with a line before which lines may be missing: its connection was ended.
     Ahead { node: u8 },

@@ -2,6 +2,7 @@
 use Rattle.std.proofs.Common.{◌≡◌, ℕ, List, [], ◌∷◌, ◌++◌, length, refl, ap, append_assoc, arith}
 use Rattle.std.specs.Prelude.{codes, decimal, None, Some, Ok, Err}
 use Rattle.std.specs.List.{IsDistinct}
+use Rattle.std.specs.Fmt.{digits}
 use Rattle.game_def.specs.Game.{Game}
 use Rattle.game_def.specs.declared.fault_kind.FaultKind.TheVariants.{Unsupported}
 use Rattle.betting.specs.declared.action.Action.TheVariants.{Call, Fold}
@@ -21,7 +22,7 @@ use Rattle.streamed.specs.Ending.{status_of, ending_text, stopped, words_text}
 use Rattle.match_log.specs.declared.fault_kind.LogFaultKind.TheVariants.{WrongValues}
 use Rattle.streamed.specs.Verdict.{verdict_text, EndsVerdict}
 use Rattle.streamed.specs.declared.ending.Ending.TheVariants.{Done, SaidNo, Refused, StoreInUse, OtherMatch, Unreadable, StreamFailed}
-use Rattle.match_file.specs.declared.difference.Difference.TheVariants.{Node, Unread}
+use Rattle.match_file.specs.declared.difference.Difference.TheVariants.{Nodes, Unread}
 use Rattle.operator_notes.specs.declared.stop.Stop.TheVariants as stop
 use Rattle.streamed.specs.declared.wrong_words.WrongWords.TheVariants.{Incomplete}
 use Rattle.streamed.specs.declared.script_line.ScriptLine.TheVariants.{Names, Told, Bad}
@@ -215,8 +216,12 @@ said_of_a_wrong_log : verdict_text (Err (record { kind = WrongValues; line = 2 }
 unfolding opened
 said_of_a_wrong_log = refl
 
-another_count_of_nodes_is_told : (ending_text (OtherMatch Node) ≡ codes "109 OtherMatch node") × (status_of (OtherMatch Node) ≡ 2)
-another_count_of_nodes_is_told = (refl, refl)
+another_count_of_nodes_is_told : ending_text (OtherMatch (Nodes (record { kept = 5; expected = 3 }))) ≡ codes "109 OtherMatch nodes 5, not 3"
+unfolding digits
+another_count_of_nodes_is_told = refl
+
+another_match_has_status_2 : status_of (OtherMatch Unread) ≡ 2
+another_match_has_status_2 = refl
 
 no_kept_match_is_told_by_its_file : ending_text (OtherMatch Unread) ≡ codes "109 OtherMatch match.kept"
 no_kept_match_is_told_by_its_file = refl
