@@ -284,8 +284,9 @@ Exit status:
      start the node again
 The last line of standard error says which; where an address or a file is at
 fault, the line before names it.
-docs/OPERATING.md says how to set up a match on three machines. docs/FAULTS.md
-says of each number what it means and what to do about it.
+docs/OPERATING-NODES.md says how to set up a match on three machines, and what
+to do when it stands still. docs/FAULTS.md says of each number what it means
+and what to do about it.
 
 Example, on the machine of node 1:
   holdem_table init match.toml 1

@@ -78,7 +78,23 @@ fn make_log(
     let mut options = File::options();
     options.read(true).append(true).create(true);
     let made = Readers::Group.open(rt, &mut options, path.as_str());
+    if is_without_folder(rt, folder, &made) {
+        notes.tell_file(folder, Cause::NoFolder);
+        return Err(Unserved::Fault(ServeFault::LogFailed));
+    }
     had(rt, made, path.as_str(), notes)
+}
+
+/// Whether a log couldn't be made since there is no such folder.
+fn is_without_folder(rt: &HostRuntime, folder: &str, made: &io::Result<File>) -> bool {
+    match made {
+        Err(error) if error.kind() == io::ErrorKind::NotFound => {}
+        _ => return false,
+    }
+    match fs::metadata(rt, folder) {
+        Err(error) => error.kind() == io::ErrorKind::NotFound,
+        Ok(_) => false,
+    }
 }
 
 /// A log that was opened, locked. A note names one that can't be had.

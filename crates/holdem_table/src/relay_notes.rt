@@ -20,10 +20,11 @@ const OTHER_MATCH: &str = "it has another match: the bot's last line isn't one o
 const UNFIT: &str =
     "bot: passed over a line that is no answer to the newest line (further ones are counted)";
 
-/// Why no node is dialled for a while: two at one seat, or a wrong token.
+/// Why no node is dialled for a while: two at one seat.
 const TAKEN: &str = "another client has this seat:";
 
-const TURNED_AWAY: &str = "turned away: wrong token?";
+/// Why no node is dialled for a while: nodes end connections before any line.
+const TURNED_AWAY: &str = "turned away: no quorum yet, or a wrong token?";
 
 /// Appends text.
 fn put(line: &mut Vec<u8>, text: &str) -> Result<(), AllocError> {
