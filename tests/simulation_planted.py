@@ -22,7 +22,7 @@ PLANTED = [
     ("no tick at all", "node_service/src/ticking.rt", "                self.tick();\n                0\n", "                50_000\n", {"progress", "gap"}),
     ("a wait that never doubles", "clockwork/src/waits.rt", "    wait.max(most.min(wait * times(ticks)))\n", "    let _ = (most, times(ticks));\n    wait\n", {"ballots"}),
     ("a connection is told of nobody", "node_service/src/taking.rt", "        let _ = self.desk.company.tell(ServerNotice::Joined { peer, life });\n", "        let _ = peer;\n", {"joined"}),
-    ("a call is made twice", "node_service/src/local_node.rt", "        let answer = self.member.step(event);", "        let _first = self.member.step(event); let answer = self.member.step(event);", {"twice"}),
+    ("a call is made twice", "node_service/src/local_node.rt", "        (self.desk.step(event), before)\n", "        let _first = self.desk.step(event);\n        (self.desk.step(event), before)\n", {"twice"}),
     ("an act that goes on is dropped", "node_service/src/desk.rt", "    company.send(to, frame, now);\n", "    if frame.len() < 6 || frame[5] != 8 { company.send(to, frame, now); }\n", {"progress", "gap"}),
     ("a quorum of two less", "paxos_wire/src/node_set.rt", "        for node in 0..nodes as usize {\n            if self.marks[node] {\n", "        for node in 0..nodes as usize {\n            if self.marks[node] || node < 2 {\n", {"one-list", "one-log", "agree", "chosen", "backed"}),
     ("a bot that names a line is told the newest", "node_service/src/seat_lines.rt", "        NamedLine::Told(at) => Start::At(at),\n", "        NamedLine::Told(_) => Start::At(newest_place(table)),\n", {"no-gap"}),

@@ -21,6 +21,9 @@ GIVEN_UP, SLOW_TURNS = 500_000, 20
 # A line to which a node hasn't come is awaited so long at least, and until its process has run for so long.
 SETTLED, REPLAYED = 2_000_000, 30_000_000
 
+# A process whose match is over ends at once: what its peers told in the last second may still wait behind its slow calls.
+UNTOLD = 1_000_000
+
 # What a status line says (docs/NOTES.md).
 YES, BALLOT = "(yes|no)", r"(-|\d+\.\d+)"
 STATUS = re.compile(rf"node (\d) front (\d+) hand (-|\d+) over {YES} replaying {YES} promised {BALLOT} leads {YES} quorum {YES} peers (\S+) seats (\S+) pending {YES} backlog (\S+) commands (\d+)/s\n")
@@ -51,7 +54,8 @@ class Process:
 
     def __init__(self, image, moment):
         self.disk, self.log, self.is_failed, self.began = Disk(image), "", False, moment
-        self.spoken, self.joined = set(), set()
+        # The moment of the first frame that was said to each peer, and the peers that were told to be there.
+        self.spoken, self.joined = {}, set()
         # Its campaigns since its front moved: the front, how many, and the moment of the last; and the moment of each ballot whose
         # Prepare isn't said yet.
         self.front, self.ballots, self.last, self.begun = None, 0, 0, {}
@@ -207,8 +211,9 @@ class Checker:
         self.count_faults("store", names_of(words))
         if words == "Over":
             self.over.add(node)
-            if process.spoken - process.joined and not self.may_refuse:
-                raise Wrong("joined", moment, f"node {node} sent frames to {process.spoken - process.joined}, and never told that they are there")
+            untold = {peer for peer, said in process.spoken.items() if said < moment - UNTOLD} - process.joined
+            if untold and not self.may_refuse:
+                raise Wrong("joined", moment, f"node {node} sent frames to {untold}, and never told that they are there")
             if not self.dealt.is_over() or process.log != self.dealt.log:
                 raise Wrong("whole-log", moment, f"node {node} ends well without the whole log")
         elif not process.is_failed and node not in self.failing and not self.may_refuse:
@@ -386,7 +391,7 @@ class Checker:
         if kind == 0:
             self.hello(moment, node, body)
         if kind == 2:
-            self.processes[node].spoken.add(connection.other(row[1]))
+            self.processes[node].spoken.setdefault(connection.other(row[1]), moment)
         if self.has_key:
             # What is behind a Hello can't be read.
             return
