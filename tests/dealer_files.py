@@ -13,18 +13,28 @@ from dealer_runs import (
     IS_LONG, OPTIONS, WAIT, Bot, Run, are_ended, are_killed, at_turn, calls, children, compiled, goes, hangs, here, memory_of, rows,
     rows_with_nodes, slow, test, waits,
 )
-from serving import want, waited
+from serving import size_of, want, waited
 
 from match_engine import AGAIN, DEFAULT, Limits, Match, Settings, Watcher
 
 # How many matches are killed, and how many tools play at once.
 KILLED, AT_ONCE = 4, 16
+# How long a response may take in matches like those of tools/league, in milliseconds: longer than it does on a busy machine.
+LATE = 3000
 
 
 def bots_in_c(run, program, *seeds):
     """The bots of a run, as programs in C: two of the same seeds act alike in each run."""
     words = [[program, str(seed), "127.0.0.1", str(port)] for seed, port in zip(seeds, run.ports)]
     return [subprocess.Popen(some, stdout=subprocess.DEVNULL) for some in words]
+
+
+def await_moment(run, dice):
+    """Waits a moment, or more often until some more actions were noted, however quick the machine is; or until the match is over."""
+    noted = lambda: size_of(run.folder / "m.tlog")
+    most = 0 if dice.random() < 0.3 else noted() + dice.randrange(15 * run.hands)
+    waited(lambda: noted() >= most or run.process.poll() is not None, "more actions", lambda: str(run.said()[-3:]))
+    time.sleep(dice.uniform(0, 0.02))
 
 
 @rows_with_nodes("killed and resumed", [(f"match {number}", number) for number in range(KILLED)])
@@ -44,7 +54,7 @@ def killed_and_resumed(number, nodes):
         bots = bots_in_c(run, program, 1, 2)
         if kill == kills:
             break
-        time.sleep(dice.uniform(0, 1 if nodes else 0.25))
+        await_moment(run, dice)
         started = children(run.process.pid)
         if not started:
             break
@@ -122,7 +132,8 @@ def limits_go_on_behind_a_resumption(nodes):
     (run.folder / "m.tlog").write_text("".join(lines))
     again = Run("-aT", *nodes, *here(), "--t_per_hand", "4000", hands=2, folder=run.folder)
     again.play(calls(again.game), at_turn(again.game, 0, waits(0.4)))
-    again.fails(r"seat 2 \(bob\): out of time: all responses in this match took 8\.\d{3} s, and the limit is 8.000 s")
+    # (a busy machine adds to the 0.4 s)
+    again.fails(r"seat 2 \(bob\): out of time: all responses in this match took ([89]|\d\d)\.\d{3} s, and the limit is 8.000 s")
 
 
 @test
@@ -155,7 +166,7 @@ def sixteen_play_at_once():
     program = compiled(runs[0].folder)
     bots = [bot for seed, run in enumerate(runs) for bot in bots_in_c(run, program, seed, 99)]
     for run in runs:
-        run.ends(0)
+        run.ends(0, 3 * WAIT)
         run.is_right()
     want([bot.wait(WAIT) for bot in bots] == [0] * 2 * AT_ONCE, "a bot ended otherwise than by 0")
 
@@ -211,7 +222,7 @@ class League(Watcher):
 
 
 def league_match(run, watcher, hands=5, **more):
-    limits = Limits(600, 60000, 7000, 3000)
+    limits = Limits(LATE, 60000, 12000, 30000)
     settings = Settings(
         "m", str(run.folder / run.word), hands, ["alice", "bob"], seed=7, limits=limits, log=run.folder / "e.log",
         transactions=run.folder / "e.tlog", may_return=True, **more,
@@ -232,7 +243,7 @@ def a_bot_may_return_and_then_its_seat_has_default_actions():
         result = match.play()
     whys = [(seat, restarts, why) for seat, why, restarts in watcher.failures]
     want([row[:2] for row in whys] == [(1, 0), (1, 1), (1, 2)], f"failures {whys}")
-    want(whys[1][2] == "the player's program ended" and "no response came within 0.600 s" in whys[2][2], f"failures {whys}")
+    want(whys[1][2] == "the player's program ended" and f"no response came within {LATE / 1000:.3f} s" in whys[2][2], f"failures {whys}")
     log = (run.folder / "e.log").read_text()
     want(log == "# name/game/hands m " + str(run.folder / run.word) + " 5\n" + "".join(line + "\n" for line in watcher.lines), "another log")
     marks = [line.split()[-1] for line in (run.folder / "e.tlog").read_text().splitlines()]

@@ -9,21 +9,91 @@ import subprocess
 import sys
 import threading
 import time
+import unittest.mock
 from pathlib import Path
+from types import SimpleNamespace
 
 sys.dont_write_bytecode = True
 
 from dealer_files import bots_in_c, stopped_in_hand
 from dealer_runs import (
-    IS_LONG, MEMORY, NODES, NOLIMIT_2P, TOP, WAIT, Run, are_killed, at_turn, calls, children, compiled, game_of, here, memory_of, rows, slow, test,
+    IS_LONG, MEMORY, NODES, NOLIMIT_2P, TOP, WAIT, Bot, Run, are_killed, at_turn, calls, children, compiled, game_of, goes, here, memory_of, rows,
+    slow, test,
 )
-from serving import Wrong, want, waited
+from serving import Wrong, free_ports, want, waited
 
+from match_engine import node_files
 from match_engine.course import Acted, Course, Ended
+from match_engine.node_match import LONGEST_LOOK, LookTime
+from match_engine.node_processes import FAILURES, Node
 from match_engine.slots import FIRST, Slot, bound
 
 # A random node is killed so often, in seconds.
 KILL_EACH = 0.3
+# tools/dealer as it is where it learns two seconds late what the relay of seat 1 told.
+LATE_DEALER = f"""#!{sys.executable}
+import os, runpy, sys, time
+sys.path.insert(0, "{TOP}/tools")
+from match_engine.relays import Relay
+at_once, late = Relay.piece, []
+def piece(relay, pipe):
+    if relay.seat != 0 or pipe is not relay.process.stdout:
+        return at_once(relay, pipe)
+    try:
+        late.append((time.monotonic() + 2, os.read(pipe.fileno(), 65536)))
+    except BlockingIOError:
+        pass
+    if not late or late[0][0] > time.monotonic():
+        time.sleep(0.005)
+        return b""
+    data = late.pop(0)[1]
+    return data or at_once(relay, pipe)
+Relay.piece = piece
+runpy.run_path("{TOP}/tools/dealer", run_name="__main__")
+"""
+# tools/dealer as it is where it stands still once for seven seconds between its look at the traces and its judgement, at the moment
+# that `WHEN` says of the match. It waits for nothing longer than five.
+STANDING_DEALER = f"""#!{sys.executable}
+import runpy, sys, time
+sys.path.insert(0, "{TOP}/tools")
+from match_engine import node_match
+node_match.GRACE = node_match.UNTOLD = node_match.TRACED = 5.0
+at_once, moments = node_match.NodeMatch.judge, [7]
+def judge(match):
+    if moments and (WHEN):
+        time.sleep(moments.pop())
+    at_once(match)
+node_match.NodeMatch.judge = judge
+runpy.run_path("{TOP}/tools/dealer", run_name="__main__")
+"""
+# tools/dealer as it is where node 1 hangs from its start on, for which it waits two seconds.
+HANGING_DEALER = f"""#!{sys.executable}
+import os, runpy, signal, sys
+sys.path.insert(0, "{TOP}/tools")
+from match_engine import node_match
+from match_engine.node_processes import Node
+node_match.HUNG = 2.0
+at_once = Node.start
+def start(node):
+    at_once(node)
+    if node.number == 1:
+        os.kill(node.process.pid, signal.SIGSTOP)
+Node.start = start
+runpy.run_path("{TOP}/tools/dealer", run_name="__main__")
+"""
+# tools/dealer as it is where a second passes before it lets go of a port.
+HOLDING_DEALER = f"""#!{sys.executable}
+import runpy, socket, sys, time
+sys.path.insert(0, "{TOP}/tools")
+from match_engine import relays
+at_once = socket.socket.close
+def close(held):
+    if held.family == socket.AF_INET and held.getsockname()[1] == PORT:
+        time.sleep(1)
+    at_once(held)
+socket.socket.close = close
+runpy.run_path("{TOP}/tools/dealer", run_name="__main__")
+"""
 # In the short form, and in the long one: matches whose nodes are killed, their hands, and tools that play at once.
 MATCHES, HANDS, AT_ONCE = (200, 200, 16) if IS_LONG else (3, 60, 4)
 
@@ -93,11 +163,13 @@ def nodes_are_killed(number):
     want([bot.wait(WAIT) for bot in bots] == [0, 0], "a bot ended otherwise than by 0")
     run, bots = script_match(linked_folder(), "-qT", *NODES, hands=HANDS, seed=number)
     dice, kills, until = random.Random(number), 0, time.monotonic() + 3 * WAIT
+    # (a quick machine may play all hands in less time than passes from kill to kill)
+    waited(lambda: run.process.poll() is not None or len(run.log().splitlines()) > 1, "a hand")
     while run.process.poll() is None and time.monotonic() < until:
-        time.sleep(KILL_EACH)
         running = node_processes(run)
         if running and kill(dice.choice(list(running.values()))):
             kills += 1
+        time.sleep(KILL_EACH)
     run.ends(0)
     want(kills > 0 and [bot.wait(WAIT) for bot in bots] == [0, 0], f"a bot ended otherwise than by 0; {kills} nodes were killed")
     want(run.is_right() == calm.log(), "the log is another one")
@@ -109,15 +181,22 @@ def nodes_are_killed(number):
 
 @test
 def two_of_five_nodes_are_killed():
-    """And come back no more, since their stores are gone; the match goes on."""
-    run = Run("-T", "--nodes", "5", *here(), hands=8)
-    run.play(slow(run.game, 0.01), slow(run.game, 0.01))
+    """And come back no more, since their stores are gone; the match goes on. It isn't over before."""
+    run, hands = Run("-T", "--nodes", "5", *here(), hands=8), 8
+    act, out = slow(run.game, 0.01), lambda: [text for text in run.warnings() if "stays out" in text]
+
+    def waits_at_last(line):
+        if int(line.split(":")[2]) == hands - 1:
+            waited(lambda: len(out()) == 2, "two nodes that stay out")
+        return act(line)
+
+    run.play(waits_at_last, waits_at_last)
     waited(lambda: len(run.log().splitlines()) > 2, "two hands")
     for number in (1, 4):
         spoil_store(run, number)
     run.ends(0)
     run.is_right()
-    out = [text for text in run.warnings() if "stays out" in text]
+    out = out()
     want(sorted(text.split()[1] for text in out) == ["1", "4"], f"warnings {run.warnings()}")
 
 
@@ -139,6 +218,16 @@ def a_match_ends_where_most_nodes_are_out():
     want(sum("stays out: 1" in text or "stays out: 9" in text for text in run.warnings()) == 2, f"warnings {run.warnings()}")
     want(run.warnings()[-1] == f"the stores are kept in {memory_of(run)}", f"warnings {run.warnings()}")
     want(memory_of(run).is_dir(), "the stores are gone")
+
+
+@test
+def a_node_that_fails_slowly_stays_out():
+    """Three seconds after each start, as on a busy machine; and not one that runs for half a minute each time."""
+    quick, slow = (Node(None, SimpleNamespace(notes=lambda number: "none"), number) for number in range(2))
+    for node, seconds in [(quick, 3), (slow, 30)] * FAILURES:
+        node.begun = time.monotonic() - seconds
+        node.take_end(1)
+    want(quick.is_out and not slow.is_out, f"out: {quick.is_out}, {slow.is_out}")
 
 
 # Stores
@@ -192,6 +281,22 @@ def a_folder_of_others_is_refused():
 
 
 @test
+def a_folder_that_another_dealer_removes_meanwhile_is_made():
+    """Between the look whether it is there and the look whose it is."""
+    place, at_once, removed = Run(command="true").folder / "place", os.mkdir, []
+
+    def mkdir(path, mode):
+        removed.append(path)
+        if len(removed) == 1:
+            raise FileExistsError
+        at_once(path, mode)
+
+    with unittest.mock.patch.object(node_files, "os", SimpleNamespace(**{**vars(os), "mkdir": mkdir})):
+        node_files.own_folder(place)
+    want(removed == [place, place] and place.stat().st_mode & 0o777 == 0o700, "it isn't made")
+
+
+@test
 def an_address_is_one_match_alone():
     one, other = Slot(3, 2), Slot(3, 2)
     try:
@@ -228,6 +333,16 @@ def a_match_with_nodes_goes_on_where_it_was():
     whole = Run("-aT", *NODES, *here(), hands=6, folder=run.folder)
     whole.refuses(f"{memory_of(run)}: there are no stores with which the match of m.tlog could go on")
     want(again.log() == whole.log() and not memory_of(run).exists(), "something has changed")
+
+
+@test
+def a_match_goes_on_while_a_node_hangs():
+    """From its first moment to its end. It is killed then."""
+    run = stopped_in_hand(2, *NODES)
+    again = altered_run(HANGING_DEALER, "-aT", hands=6, folder=run.folder)
+    again.play()
+    again.ends(0)
+    again.is_right()
 
 
 @test
@@ -293,7 +408,7 @@ def several_with_nodes_play_at_once():
     program = compiled(runs[0].folder)
     bots = [bot for seed, run in enumerate(runs) for bot in bots_in_c(run, program, seed, 99)]
     for run in runs:
-        run.ends(0)
+        run.ends(0, 3 * WAIT)
         run.is_right()
     want([bot.wait(WAIT) for bot in bots] == [0] * 2 * AT_ONCE, "a bot ended otherwise than by 0")
 
@@ -332,16 +447,146 @@ def a_relay_that_is_late_at_the_end_is_waited_for():
     relay = relays_of(run)[0]
 
     def last(line):
-        os.kill(relay, signal.SIGSTOP)
-        threading.Timer(3, os.kill, (relay, signal.SIGCONT)).start()
+        stop_for(3, [relay])
         return "c"
 
     # (who calls has four turns in a hand; in the first hand alice is first behind the flop)
-    run.play(calls(run.game), at_turn(run.game, 3, last))
     begun = time.monotonic()
+    run.play(calls(run.game), at_turn(run.game, 3, last))
     run.ends(0)
     want(time.monotonic() - begun >= 3, "the match is over before alice was told its end")
     run.is_right()
+
+
+def altered_run(script, *options, hands, folder=None):
+    """A run of a dealer that a script alters."""
+    folder = folder or Run(command="true").folder
+    dealer = folder / "altered_dealer"
+    dealer.write_text(script)
+    dealer.chmod(0o700)
+    return Run(*NODES, *here(), *options, hands=hands, folder=folder, command=dealer)
+
+
+def late_run(hands):
+    """A run of a dealer that learns late what the relay of seat 1 told."""
+    return altered_run(LATE_DEALER, hands=hands)
+
+
+@rows("a trace is late where a bot ends", [("in a middle hand", 10), ("in the last hand", 15)])
+def a_trace_is_late_where_a_bot_ends(turn):
+    """The log has all hands before that in which bob ends, of four turns each."""
+    run = late_run(4)
+    run.play(calls(run.game), at_turn(run.game, turn, goes))
+    run.fails(r"seat 2 \(bob\): the player ended the connection")
+    want(len(run.log().splitlines()) == 1 + turn // 4, f"other hands in the log: {run.log()}")
+
+
+def bots_of_whom_one_goes(run, turn, before=lambda: None):
+    """Alice calls; so does bob, who at his last turn does something before he answers, and leaves then."""
+    bots = []
+
+    def goes_home(line):
+        before()
+        bots[0].connection.sendall(f"{line}:c\n".encode())
+        goes(line)
+
+    bots += [Bot(run.ports[1], at_turn(run.game, turn, goes_home)), Bot(run.ports[0], calls(run.game))]
+    return bots
+
+
+@test
+def a_trace_is_late_where_a_bot_goes_when_all_is_done():
+    """Bob acts last in the third hand, and has done then all that he had to."""
+    run = late_run(3)
+    bots_of_whom_one_goes(run, 11)
+    run.ends(0)
+    run.is_right()
+
+
+@rows("the dealer stands still", [
+    ("while players come", "True", ("--start_timeout", "4000")),
+    ("while a bot answers", "any(True for _ in match.course.unanswered())", ("--t_response", "5000")),
+])
+def the_dealer_stands_still(when, options):
+    """All do in time what they are to do, and the dealer reads of it later."""
+    run = altered_run(STANDING_DEALER.replace("WHEN", when), *options, hands=2)
+    run.ports
+    time.sleep(0.5)
+    run.play()
+    run.ends(0)
+    run.is_right()
+
+
+@test
+def a_bot_that_dials_early_has_its_seat():
+    """Bob dials until he is connected, from before the dealer begins, and never again."""
+    first = free_ports(2)
+    run = altered_run(HOLDING_DEALER.replace("PORT", str(first + 1)), "-p", f"{first},{first + 1}", hands=2)
+    bob = waited(lambda: dialled(first + 1, calls(run.game)), "a connection")
+    Bot(run.ports[0], calls(run.game))
+    run.ends(0)
+    run.is_right()
+    want(bob.ends(), "bob got no lines")
+
+
+def dialled(port, act):
+    """A bot that is connected to a port; nothing where nobody listens there."""
+    try:
+        return Bot(port, act)
+    except ConnectionRefusedError:
+        return None
+
+
+def stop_for(seconds, processes):
+    """Has processes stand still for so long."""
+    for process in processes:
+        os.kill(process, signal.SIGSTOP)
+        threading.Timer(seconds, os.kill, (process, signal.SIGCONT)).start()
+
+
+@test
+def the_dealer_stands_still_where_a_bot_goes_when_all_is_done():
+    """Two nodes do too, so that the last hand isn't over for them when the dealer sees that bob has left."""
+    run = altered_run(STANDING_DEALER.replace("WHEN", "match.course.seats[1].is_gone"), hands=3)
+    bots_of_whom_one_goes(run, 11, lambda: stop_for(2, list(node_processes(run).values())[:2]))
+    run.ends(0)
+    run.is_right()
+
+
+@test
+def the_dealer_stands_still_while_a_match_is_played():
+    """Relays drop what they told last, which it didn't take. Bob goes when all is done, in hand 151; alice's relay ends later."""
+    run, done = Run(*NODES, *here(), hands=151), threading.Event()
+    run.ports
+    relay = relays_of(run)[0]
+
+    def stop_relay():
+        os.kill(relay, signal.SIGSTOP)
+        done.set()
+
+    bots_of_whom_one_goes(run, 4 * 151 - 1, stop_relay)
+    waited(lambda: len(run.log().splitlines()) > 1, "a hand")
+    run.process.send_signal(signal.SIGSTOP)
+    want(done.wait(WAIT), "the match isn't played")
+    time.sleep(1)
+    run.process.send_signal(signal.SIGCONT)
+    time.sleep(2)
+    os.kill(relay, signal.SIGCONT)
+    run.ends(0)
+    run.is_right()
+
+
+@test
+def the_dealer_stands_still_at_the_end():
+    """Alice's relay does too, so that her last line isn't traced when the log has the score. It is told in the end."""
+    run = altered_run(STANDING_DEALER.replace("WHEN", "match.scored is not None"), hands=1)
+    run.ports
+    relay = relays_of(run)[0]
+    bots = run.play(calls(run.game), at_turn(run.game, 3, lambda line: stop_for(2, [relay]) or "c"))
+    run.ends(0)
+    run.is_right()
+    for seat, bot in enumerate(bots, start=1):
+        want([line.split(" ", 4)[4] for line in run.said() if line.startswith(f"TO {seat} ")] == bot.ends(), f"seat {seat} got other lines")
 
 
 @test
@@ -428,3 +673,54 @@ def a_course_is_told_where_a_player_has_left():
     course.logged("STATE:0:f:AcAd|KcKd:50|-50:a|b")
     want(told(course) == [Acted(1, "f"), Ended("STATE:0:f:AcAd|KcKd:50|-50:a|b")], "another course")
     want(course.is_told(), "the last line isn't told")
+
+
+@test
+def a_course_is_held_up_by_a_player_who_has_left():
+    """Where all that is known was told, it is his turn, and he answered nothing there."""
+    course = Course(game_of(NOLIMIT_2P), 1)
+    course.gone(1)
+    want(not course.is_held_up_by(1), "it is held up where no line is known")
+    course.sent(0, 10, line(0, 0, ""))
+    want(course.is_held_up_by(1) and not course.is_held_up_by(0), "it isn't held up at his turn")
+    course.sent(0, 12, line(0, 0, "c"))
+    want(not course.is_held_up_by(1), "it is held up where more is known")
+    want(told(course) == [Acted(1, "c")] and not course.is_held_up_by(1), "it is held up at another's turn")
+    course.gone(0)
+    want(course.is_held_up_by(0), "it isn't held up by who has left too")
+    course.sent(0, 13, line(0, 0, "cr300"))
+    want(told(course) == [Acted(0, "r300")] and course.is_held_up_by(1), "it isn't held up at his second turn")
+    course.logged("STATE:0:cr300f:AcAd|KcKd:100|-100:a|b")
+    want(len(told(course)) == 2 and course.is_over() and not course.is_held_up_by(1), "it is held up where it is over")
+
+
+@test
+def a_course_asks_nobody_whose_answer_others_were_told():
+    """Also where his own trace hasn't come so far, or lacks it. The newest place is that of the log, if no line is newer."""
+    course = Course(game_of(NOLIMIT_2P), 3)
+    course.sent(1, 10, line(1, 0, ""))
+    want([seat for seat, _ in course.unanswered()] == [1] and course.newest() == (0, 0), "seat 1 isn't asked")
+    course.sent(0, 12, line(0, 0, "c"))
+    want([seat for seat, _ in course.unanswered()] == [0] and course.newest() == (0, 1), "others are asked")
+    course.logged("STATE:1:cr300f:AcAd|KcKd:100|-100:a|b")
+    want(not list(course.unanswered()) and course.newest() == (1, 3), "somebody is asked in a hand that is over")
+
+
+@test
+def a_look_that_takes_long_counts_little():
+    looked = LookTime()
+    looked.begin_look()
+    before = looked.seconds
+    time.sleep(1)
+    looked.begin_look()
+    want(abs(looked.seconds - before - LONGEST_LOOK) < 0.001, f"{looked.seconds - before} seconds count")
+
+
+@test
+def a_course_is_not_held_up_by_an_answer():
+    course = Course(game_of(NOLIMIT_2P), 1)
+    course.sent(1, 10, line(1, 0, ""))
+    want(not course.is_held_up_by(1), "it is held up by who is there")
+    course.received(1, 12, line(1, 0, "") + ":c")
+    course.gone(1)
+    want(not course.is_held_up_by(1), "it is held up, and its answer is on its way")

@@ -22,7 +22,7 @@ PROGRAM = TOP / "crates/holdem_table/out/holdem_table"
 LIMIT_2P, NOLIMIT_2P = "holdem.limit.2p.reverse_blinds.game", "holdem.nolimit.2p.reverse_blinds.game"
 LIMIT_3P, NOLIMIT_3P, NOLIMIT_6P = "holdem.limit.3p.game", "holdem.nolimit.3p.game", "holdem.nolimit.6p.game"
 # The longest wait for anything that has to happen, and for what needs no bot, in seconds.
-WAIT, SOON = 60, 20
+WAIT, SOON = 120, 60
 HEAD = ["#--t_response 600000", "#--t_hand 600000", "#--t_per_hand 7000"]
 TIME = r"([0-9]+\.[0-9]{6})"
 # All tests by their titles, and what the command line asks for.
@@ -80,7 +80,7 @@ class Run:
             folder = Path(tempfile.mkdtemp(prefix="dealer.", dir=FAST))
             self.folders.append(folder)
             shutil.copy(TOP / "examples" / game, folder)
-        self.folder, self.name, self.word, self.game = folder, name, game, game_of(game)
+        self.folder, self.name, self.word, self.game, self.hands = folder, name, game, game_of(game), hands
         self.players = self.game.players
         names = NAMES[: self.players] if names is None else names
         words = [name, game, str(hands), str(seed), *names, *options] if words is None else words

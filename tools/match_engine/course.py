@@ -1,6 +1,5 @@
 """The course of a match as relays' traces and a node's log tell it: who did what, and when."""
 import re
-import time
 from typing import NamedTuple, Optional
 
 from .program import Betting
@@ -17,13 +16,11 @@ class Place(NamedTuple):
 
 
 class Prompt(NamedTuple):
-    """A line that a seat is to answer: its place, its text, when it was sent, in microseconds since 1970, and when this process
-    heard of it, in seconds of the monotonic clock."""
+    """A line that a seat is to answer: its place, its text, and when it was sent, in microseconds since 1970."""
 
     place: Place
     line: str
     sent: int
-    heard: float
 
 
 class Acted(NamedTuple):
@@ -63,6 +60,10 @@ class Course:
         """The seat that is to act first; none where a hand is over as it is dealt."""
         return Betting(self.game, "").to_act()
 
+    def seat_at(self, position):
+        """The seat that has a position in the hand up to which `next` has told it."""
+        return (position + self.hand) % self.game.players
+
     def place(self):
         """The place up to which `next` has told it."""
         return Place(self.hand, self.count)
@@ -73,7 +74,7 @@ class Course:
         hand, told = int(hand), self.seats[seat]
         told.line, told.place = line, Place(hand, len(ACTION.findall(betting)))
         is_turn = Betting(self.game, betting).to_act() == int(position)
-        told.prompt = Prompt(told.place, line, at, time.monotonic()) if is_turn else None
+        told.prompt = Prompt(told.place, line, at) if is_turn else None
         self.see(hand, betting)
 
     def see(self, hand, betting):
@@ -105,10 +106,20 @@ class Course:
         """Nothing more comes of a seat's trace."""
         self.seats[seat].is_gone = True
 
+    def is_held_up_by(self, seat):
+        """Whether the match, as far as it is known, waits for an answer of a seat of whose trace nothing more comes."""
+        betting, told = self.bettings.get(self.hand), self.seats[seat]
+        if betting is None or self.place() < self.newest() or not told.is_gone or self.place() in told.answers:
+            return False
+        position = Betting(self.game, betting).to_act()
+        return position is not None and self.seat_at(position) == seat
+
     def unanswered(self):
-        """The seats that are to answer a line, each with it."""
+        """The seats that are to answer a line, each with it. Who did by what others were told since isn't one of them, even where
+        its own trace hasn't come so far."""
         for seat, told in enumerate(self.seats):
-            if told.prompt is not None and told.place not in told.answers and not told.is_gone:
+            is_open = told.prompt is not None and told.place not in told.answers and told.place >= self.newest()
+            if is_open and not told.is_gone:
                 yield seat, told.prompt
 
     def next(self, is_known=False):
@@ -124,8 +135,8 @@ class Course:
 
     def next_action(self, betting, found, is_known):
         position = Betting(self.game, betting[: found.start()]).to_act()
-        seat = (position + self.hand) % self.game.players
-        told, place = self.seats[seat], Place(self.hand, self.count)
+        seat, place = self.seat_at(position), self.place()
+        told = self.seats[seat]
         if not is_known and not told.is_gone and (told.place is None or told.place <= place):
             return None
         self.count += 1
@@ -139,8 +150,9 @@ class Course:
         return Ended(line)
 
     def newest(self):
-        """The number of the newest hand that a trace has shown."""
-        return max((told.place.hand for told in self.seats if told.place is not None), default=0)
+        """The newest place that a trace or the log has shown."""
+        hand = max(self.bettings, default=self.hand)
+        return Place(hand, len(ACTION.findall(self.bettings.get(hand, ""))))
 
     def is_over(self):
         """Whether all of the match was told."""

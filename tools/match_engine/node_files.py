@@ -19,17 +19,28 @@ def fault(path, why):
     return MatchFault(f"{path}: {why.strerror}")
 
 
+def found_at(path):
+    """What is at a path, not followed where it is a link; nothing where another dealer has removed it meanwhile."""
+    try:
+        return os.lstat(path)
+    except FileNotFoundError:
+        return None
+    except OSError as why:
+        raise fault(path, why) from why
+
+
 def own_folder(path):
     """Makes a folder that nobody else may enter, if it isn't there. Refused is anything else of this name, which another user
     may have put there."""
-    try:
+    found = None
+    while found is None:
         try:
             os.mkdir(path, 0o700)
         except FileExistsError:
             pass
-        found = os.lstat(path)
-    except OSError as why:
-        raise fault(path, why) from why
+        except OSError as why:
+            raise fault(path, why) from why
+        found = found_at(path)
     if not stat.S_ISDIR(found.st_mode) or found.st_uid != os.getuid() or found.st_mode & 0o077:
         raise MatchFault(f"{path}: expected a folder of this user's that nobody else may enter")
 

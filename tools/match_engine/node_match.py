@@ -20,12 +20,18 @@ from .slots import Slot
 LOOK, REPLAY_LOOK = 0.02, 0.05
 # Lines are told by their times: so long each is kept back, in microseconds.
 ORDERED = 50_000
-# How long a match whose player has left in the last hand may still come to its end, and a log to the hand in which a player
-# failed, in seconds.
-GRACE = 1.0
-# A relay drops lines of its trace where this process takes none for long. Once the log has its score, and no trace has told
-# anything for so many seconds, nothing more is waited for.
-UNTOLD = 30.0
+# How long nodes that replay wait for one of them that says nothing, in seconds; the others go on without it.
+HUNG = 30.0
+# Of a look that took longer, in seconds, so much counts.
+LONGEST_LOOK = 0.5
+# How far a trace may be behind a limit, in seconds: the relay writes it when it has time.
+TRACED = 10.0
+# How long nothing more may come of the match, in seconds, where a player who has left may have done all that he had to, or where
+# the hands before that in which a player failed aren't in the log.
+GRACE = 60.0
+# A relay drops lines of its trace where this process takes none for long. Once the log has its score, or a relay has ended with
+# the match, nothing more is waited for where nothing has come for so many seconds.
+UNTOLD = 300.0
 
 
 # The place at which each match begins.
@@ -49,6 +55,19 @@ def in_order(told, answer):
         behind[it] = max(it.at, latest)
         latest = behind[it] if it.call == answer else latest
     return sorted(told, key=lambda it: (behind[it], it.place, it.call == answer))
+
+
+class LookTime:
+    """How long this process has looked at the match, in seconds, up to the beginning of its newest look: what had come by then
+    was read since. Of a time in which it stood still little counts, since others may have stood still with it."""
+
+    def __init__(self):
+        self.seconds, self.begun = 0.0, time.monotonic()
+
+    def begin_look(self):
+        now = time.monotonic()
+        self.seconds += min(now - self.begun, LONGEST_LOOK)
+        self.begun = now
 
 
 class FarthestLog:
@@ -98,8 +117,9 @@ class NodeMatch:
         self.told, self.met, self.logged = [], 0, 0
         # Whether the nodes run, and whether nothing of the match is wanted any more.
         self.is_running, self.is_finished = False, False
-        # What is told soon, when the relays ended that have, and when a trace told something last.
-        self.relays, self.soon, self.gone_at, self.heard_at = [], [], {}, time.monotonic()
+        # What is told soon, which relays have ended, when each seat was sent its newest line, and when the match was last seen to go on.
+        self.relays, self.soon, self.gone, self.asked_at, self.news_at = [], [], [], [0.0] * self.players, 0.0
+        self.looked = LookTime()
         self.selector = self.kept(selectors.DefaultSelector())
         try:
             self.prepare()
@@ -194,11 +214,11 @@ class NodeMatch:
 
     def await_replay(self):
         """Starts the nodes, and waits until they know all that was chosen before: else players got lines of the past."""
-        self.is_running, front, before = True, None, None
-        while (front is None or front != before) and not self.nodes.are_over():
+        self.is_running, front, before, until = True, None, None, time.monotonic() + HUNG
+        while (front is None or front != before) and not self.nodes.know_the_end():
             time.sleep(REPLAY_LOOK)
             self.nodes.tend()
-            before, front = front, self.nodes.front()
+            before, front = front, self.nodes.front(is_majority_enough=time.monotonic() > until)
 
     def compare(self, lines, acted):
         """A MatchFault where the files aren't those of the match in the stores; neither was changed yet."""
@@ -240,12 +260,12 @@ class NodeMatch:
 
     def await_players(self):
         limit = self.settings.limits.start
-        until = None if limit < 0 else time.monotonic() + limit / THOUSAND
+        until = None if limit < 0 else self.looked.seconds + limit / THOUSAND
         while True:
             awaited = [relay for relay in self.relays if not relay.has_version()]
             if not awaited:
                 return
-            if until is not None and time.monotonic() >= until:
+            if until is not None and self.looked.seconds >= until:
                 what = "named no version" if awaited[0].has_come else "didn't connect"
                 raise SeatFault(awaited[0].seat, f"the player {what} in time")
             self.look()
@@ -265,21 +285,23 @@ class NodeMatch:
                 relay.process.send_signal(signal.SIGCONT)
 
     def look(self):
-        """Waits a moment for traces, and takes what they, the logs and the processes tell."""
-        self.selector.select(LOOK)
-        for relay in self.relays:
-            self.take_trace(relay)
-        self.take_known()
-        if self.is_running:
-            self.nodes.tend()
+        """Goes on by what traces, logs and processes tell, and looks whether a player has failed."""
+        self.advance()
         self.judge()
         self.tell(self.clock.now() - ORDERED)
 
-    def take_known(self):
-        """Takes what happened as far as it is known."""
-        self.take_log()
+    def advance(self):
+        """Waits a moment for traces, takes what happened as far as they and the logs tell, and starts nodes again that have ended."""
+        self.looked.begin_look()
+        self.selector.select(LOOK)
+        for relay in self.relays:
+            self.take_trace(relay)
+        if self.take_log():
+            self.news_at = self.looked.seconds
         for one in iter(self.next, None):
             self.take(one)
+        if self.is_running:
+            self.nodes.tend()
 
     def next(self):
         """What happened next, if that is known. What the transaction file told needs no trace."""
@@ -288,8 +310,8 @@ class NodeMatch:
     def take_trace(self, relay):
         """Takes what a relay tells."""
         for at, way, line in relay.read():
-            self.heard_at = time.monotonic()
             if way == "TO":
+                self.asked_at[relay.seat] = self.news_at = self.looked.seconds
                 self.course.sent(relay.seat, at, line)
                 self.tell_soon(relay.seat, at, self.watcher.sent, at, line)
             else:
@@ -297,8 +319,9 @@ class NodeMatch:
                 warning = self.course.received(relay.seat, at, line)
                 if warning is not None:
                     self.tell_soon(relay.seat, at, self.watcher.warned, warning)
-        if relay.status is not None and relay.seat not in self.gone_at:
-            self.gone_at[relay.seat] = time.monotonic()
+        if relay.status is not None and relay.seat not in self.gone:
+            self.gone.append(relay.seat)
+            self.news_at = self.looked.seconds
             self.course.gone(relay.seat)
             for pipe in relay.pipes():
                 self.selector.unregister(pipe)
@@ -363,33 +386,45 @@ class NodeMatch:
         if self.course.is_over() and self.score is None and self.scored is not None:
             self.publish(self.scored)
             self.score = self.scored
-        if self.scored is not None and time.monotonic() > self.heard_at + UNTOLD:
+        if self.scored is not None and self.is_silent_for(UNTOLD):
             for seat in range(self.players):
                 self.course.gone(seat)
         if self.is_done():
             return
-        for seat, prompt in self.course.unanswered():
-            if time.monotonic() > prompt.heard + self.settings.limits.response / THOUSAND:
+        for seat, _ in self.course.unanswered():
+            if self.looked.seconds > self.asked_at[seat] + self.settings.limits.response / THOUSAND + TRACED:
                 self.end_by(seat, self.fail_late)
-        for seat, at in self.gone_at.items():
-            if self.relays[seat].is_over():
-                # All that the player was to be told he was told: other traces, and the logs, may come to the end later.
-                is_lost = time.monotonic() > self.heard_at + UNTOLD
-            else:
-                is_last = self.course.hand >= self.settings.hands - 1 and self.relays[seat].has_left()
-                is_lost = not is_last or time.monotonic() > at + GRACE
-            if is_lost:
+        for seat in self.gone:
+            if self.is_lost(seat):
                 self.end_by(seat, self.relays[seat].fail)
+
+    def is_silent_for(self, seconds):
+        """Whether nothing has come of the match for so long."""
+        return self.looked.seconds > self.news_at + seconds
+
+    def is_lost(self, seat):
+        """Whether the match can't go on without a seat whose relay has ended."""
+        if self.relays[seat].is_over():
+            # All that the player was to be told he was told: other traces, and the logs, may come to the end later.
+            return self.is_silent_for(UNTOLD)
+        is_another_asked = any(True for _ in self.course.unanswered())
+        return not self.may_be_done(seat) or (self.is_silent_for(GRACE) and not is_another_asked)
+
+    def may_be_done(self, seat):
+        """Whether a player who has left may have done all that he had to: he left in the last hand, and nothing shows that the
+        match waits for him; or that isn't known, since his trace lacks lines."""
+        relay = self.relays[seat]
+        is_last = self.course.newest().hand >= self.settings.hands - 1
+        return relay.has_left() and (relay.has_gaps() or (is_last and not self.course.is_held_up_by(seat)))
 
     def fail_late(self):
         raise Failed(f"out of time: no response came within {self.settings.limits.response / THOUSAND:.3f} s")
 
     def end_by(self, seat, fail):
         """Ends the match by a call that says why the seat's player failed, once all hands before are in the log."""
-        until = time.monotonic() + GRACE
-        while self.course.hand < self.course.newest() and time.monotonic() < until:
-            self.take_known()
-            time.sleep(LOOK)
+        begun = self.looked.seconds
+        while self.course.hand < self.course.newest().hand and self.looked.seconds < max(begun, self.news_at) + GRACE:
+            self.advance()
         self.attempt(seat, fail)
 
     def attempt(self, seat, call, *words):

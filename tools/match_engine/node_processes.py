@@ -6,14 +6,14 @@ import subprocess
 import time
 
 from .faults import MatchFault
-from .program import end_with
+from .program import end_with, kill
 
 # How long after its end a node is started again, in seconds, and how long where the match was over for it.
 AGAIN_AFTER, OVER_AFTER = 0.2, 1.0
-# A node that ends by status 1 so often, each time within a second of its start, stays out.
-FAILURES, SHORT = 25, 1.0
+# A node that ends by status 1 so often, each time within ten seconds of its start, stays out: a busy machine takes a while for it.
+FAILURES, SHORT = 25, 10.0
 # How long a node may take to say how it is, in seconds.
-STATUS = 0.5
+STATUS = 3.0
 # The statuses behind which a node stays out: what is wrong has to be mended first.
 OUT = (2, 3)
 
@@ -111,8 +111,7 @@ class Node:
 
     def close(self):
         if self.process is not None:
-            self.process.kill()
-            self.process.wait()
+            kill(self.process)
             self.process = None
 
 
@@ -138,9 +137,9 @@ class Nodes:
         if 2 * len(out) > len(self.all):
             raise MatchFault(f"{len(out)} of {len(self.all)} nodes are out; the last note of node {out[-1].number}: {out[-1].note()}")
 
-    def are_over(self):
-        """Whether the match was over for each node that doesn't stay out."""
-        return all(node.is_over for node in self.all if not node.is_out)
+    def know_the_end(self):
+        """Whether the match was over for a node, which has all of it in its log."""
+        return any(node.is_over for node in self.all)
 
     def status(self, node):
         """What a node says of itself, by its words; nothing where it says nothing."""
@@ -151,13 +150,15 @@ class Nodes:
             return {}
         return dict(zip(words[::2], words[1::2]))
 
-    def front(self):
+    def front(self, is_majority_enough):
         """How many commands all nodes that don't stay out know to be chosen, where they agree, have a quorum and don't replay; else
-        none."""
-        told = [self.status(node.number) for node in self.all if not node.is_out]
+        none. Where more than half of all are enough, those that say nothing don't matter: others have a vote for all that was chosen."""
+        asked = [self.status(node.number) for node in self.all if not node.is_out]
+        told = [said for said in asked if said]
+        are_enough = told == asked or (is_majority_enough and 2 * len(told) > len(self.all))
         fronts = {said.get("front") for said in told}
         are_ready = all((said.get("replaying"), said.get("quorum")) == ("no", "yes") for said in told)
-        return fronts.pop() if are_ready and len(fronts) == 1 else None
+        return fronts.pop() if are_enough and are_ready and len(fronts) == 1 else None
 
     def close(self):
         for node in self.all:

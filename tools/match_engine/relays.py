@@ -1,11 +1,14 @@
 """The relay of a seat: a process between its player, who dials once, and the nodes."""
+import errno
 import os
 import re
 import subprocess
+from contextlib import ExitStack
 
 from .faults import Failed, MatchFault
 from .node_processes import ending, last_line, start
-from .seats import SHOWN, VERSION, Seat, printable
+from .program import kill
+from .seats import SHOWN, VERSION, bound, no_port, printable
 
 # A relay waits for nodes as long as it can, eleven days: it is for the dealer to say when there is nothing to wait for.
 GIVE_UP = 1_000_000
@@ -13,19 +16,19 @@ TRACED = re.compile(rb"(\d+)\.(\d{6}) (TO|FROM) (.*)", re.A | re.S)
 # The relay's last notes that are the player's fault, its last note once the match is over, and how the first note begins.
 LEFT, WRONG_VERSION = "the bot ended its connection", "the bot's first line isn't VERSION:2.0.0"
 OVER, CAME = "the match is over", b"bot: connected"
+# What stands in its notes where its trace lacks lines.
+GAPS = b"left out of the trace"
 # The most bytes of notes that are kept.
 NOTES = 4096
 
 
 def look_at_ports(listen, ports):
-    """A MatchFault where one of these ports can't be had."""
-    seats = []
-    try:
-        for port in ports:
-            seats.append(Seat(listen, port))
-    finally:
-        for seat in seats:
-            seat.close()
+    """A MatchFault where one of these ports can't be had. Nobody can come to one meanwhile: his connection would end with the look."""
+    with ExitStack() as held:
+        for place, port in enumerate(ports):
+            if port and port in ports[:place]:
+                raise no_port(listen, port, os.strerror(errno.EADDRINUSE))
+            held.enter_context(bound(listen, port))
 
 
 class Relay:
@@ -53,7 +56,7 @@ class Relay:
             if not piece:
                 said = last_line(self.process.stderr.read())
                 self.close()
-                raise MatchFault(f"port {port} at {listen} can't be had: {said}")
+                raise no_port(listen, port, said)
             line += piece
         return int(line)
 
@@ -108,6 +111,10 @@ class Relay:
         """Whether it has ended since the player ended the connection."""
         return self.status is not None and last_line(self.said) == LEFT
 
+    def has_gaps(self):
+        """Whether it has ended, and its trace lacks lines, which nobody took in time."""
+        return self.status is not None and GAPS in self.said
+
     def is_over(self):
         """Whether it has ended since the match is over."""
         return self.status is not None and last_line(self.said) == OVER
@@ -123,7 +130,6 @@ class Relay:
 
     def close(self):
         """Ends it, and so the player's connection."""
-        self.process.kill()
-        self.process.wait()
+        kill(self.process)
         for pipe in self.pipes():
             pipe.close()
