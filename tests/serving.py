@@ -30,6 +30,8 @@ WAIT, QUIET = 40, 0.4
 FIRST_LINE, REACHED = 10, 2
 # How often a test is tried that measures times: one that is late each time fails.
 TRIES = 3
+# Below those that a system gives to connections; and in how many parts processes of scripts that run side by side take them.
+PORTS, PARTS = (10000, 32000), 20
 # When all tests have to be done; nothing that has to happen is waited for beyond it.
 END = [None]
 # Where nothing waits for a disk, if there is such a place.
@@ -108,7 +110,9 @@ def size_of(file):
 
 
 def is_free(port):
+    """Whether a program may listen at a port. As with the programs, connections that ended a moment before don't hold it."""
     with socket.socket() as tried:
+        tried.setsockopt(socket.SOL_SOCKET, socket.SO_REUSEADDR, 1)
         try:
             tried.bind(("127.0.0.1", port))
         except OSError:
@@ -124,13 +128,56 @@ def dial(port):
     return connection
 
 
+class Ports:
+    """A part of the ports, which no process of another script takes meanwhile: this one holds a name for it as long as it runs. Where
+    no part is left it has all of them."""
+
+    own, lock = None, threading.Lock()
+
+    def __init__(self):
+        self.process, self.name = os.getpid(), socket.socket(socket.AF_UNIX)
+        (self.first, self.end), width = PORTS, (PORTS[1] - PORTS[0]) // PARTS
+        part = next((part for part in random.sample(range(PARTS), PARTS) if self.holds(part)), None)
+        if part is not None:
+            self.first += part * width
+            self.end = self.first + width
+        self.next = random.randrange(self.first, self.end)
+
+    def holds(self, part):
+        """Whether the system lets this process, and no other, have the name of a part."""
+        try:
+            self.name.bind(f"\0holdem_table.tests.ports.{part}")
+        except OSError:
+            return False
+        return True
+
+    def take(self, count):
+        """The first of the next so many ports in a row that nobody uses now, or nothing. Behind the last ones come the first ones
+        again."""
+        for begin in (self.next, self.first):
+            while begin + count <= self.end:
+                used = [port for port in range(begin, begin + count) if not is_free(port)]
+                if not used:
+                    self.next = begin + count
+                    return begin
+                begin = used[-1] + 1
+        return None
+
+
+def claim_ports():
+    """The ports of this process, which has others than the one that started it."""
+    if Ports.own is None or Ports.own.process != os.getpid():
+        Ports.own = Ports()
+    return Ports.own
+
+
 def free_ports(count):
-    """The first of so many ports in a row that nobody uses, below those that a system gives to connections."""
-    for _ in range(1000):
-        port = random.randrange(10000, 32000 - count)
-        if all(is_free(port + place) for place in range(count)):
-            return port
-    raise Wrong("no free ports were found")
+    """The first of so many ports in a row that nobody uses now. While this process has a part of its own no other script takes them."""
+    with Ports.lock:
+        port = claim_ports().take(count)
+    if port is None:
+        raise Wrong("no free ports were found")
+    return port
 
 
 class Match:
@@ -179,6 +226,10 @@ class Match:
                 stderr=stderr or notes, preexec_fn=limit if file_size is not None else None,
             )
         return self
+
+    def has_port(self, port):
+        """Whether a seat is at this port."""
+        return self.port <= port < self.port + self.nodes * self.players
 
     def seat(self, seat):
         """The ports of a seat, by node."""
@@ -242,18 +293,22 @@ class Match:
 
 
 class Player(threading.Thread):
-    """A player who keeps the lines that he gets, and may do something when he has got so many."""
+    """A player who keeps the lines that he gets, and may do something when he has got so many. He goes home once he is turned away
+    and the `serve` that ran when he came has ended."""
 
     def __init__(self, ports, answer, node=0, after=None, then=None):
         super().__init__(daemon=True)
         self.ports, self.answer, self.node, self.after, self.then = ports, answer, node, after, then
-        self.lines = []
+        self.lines, self.served_by = [], next((match.process for match in Match.made if match.has_port(ports[0])), None)
         self.start()
 
     def run(self):
         until = time.monotonic() + FIRST_LINE
-        while not self.lines and time.monotonic() < until:
+        while self.is_served() if self.lines else time.monotonic() < until:
             play(self.ports, self.answer, self.see, first=self.node)
+
+    def is_served(self):
+        return self.served_by is not None and self.served_by.poll() is None
 
     def see(self, line):
         self.lines.append(line)

@@ -18,8 +18,9 @@ from typing import NamedTuple
 
 # How long a bot pauses before it dials again, and how long a node of `node` may take to be reached, in seconds.
 PAUSE, REACHED = 0.2, 2.0
-# For how long all nodes of `serve` turn a bot away before it gives up, in seconds, if nothing else is said.
-GIVE_UP = 10.0
+# For how long all nodes of `serve` turn a bot away before it gives up, in seconds, if nothing else is said; and how long a
+# connection stands at most over which it is turned away.
+GIVE_UP, TURNED_AWAY = 10.0, 1.0
 # How long a node of `node` has for the line that follows an answer, before another node gets the answer too, in seconds:
 # the first node, the second and so on.
 WAITS = [0.5, 1.0, 2.0, 4.0]
@@ -80,12 +81,15 @@ def play(places, choose, see=ignore, token=None, give_up=None, record=Record(), 
 
 def play_at_one(ports, choose, see, give_up, record, node):
     """Plays where the seat is expected at one node at a time: the next one, when a connection has ended."""
-    came, turned_away, rounds = False, 0, round(give_up / PAUSE)
-    while turned_away < rounds * len(ports):
+    came, turned_away, since = False, 0, time.monotonic()
+    while turned_away < len(ports) or time.monotonic() - since < give_up:
         if turned_away and turned_away % len(ports) == 0:
             time.sleep(PAUSE)
-        if sit(ports[node], choose, see, record):
-            came, turned_away = True, 0
+        begun = time.monotonic()
+        heard = sit(ports[node], choose, see, record)
+        came = came or heard
+        if heard or time.monotonic() - begun > TURNED_AWAY:
+            turned_away, since = 0, time.monotonic()
         else:
             turned_away += 1
         node = (node + 1) % len(ports)
@@ -247,10 +251,11 @@ class Seat:
 
     def send_answer(self):
         """Sends the answer to the next node that sent the line. Over each connection it goes once."""
-        self.due = time.monotonic() + WAITS[min(len(self.told), len(WAITS) - 1)]
+        wait = WAITS[min(len(self.told), len(WAITS) - 1)]
         self.told.append(self.ready.pop(0))
         self.record.keep("FROM", self.answer)
         send(self.told[-1], self.answer)
+        self.due = time.monotonic() + wait
 
 
 def place_of(line):
