@@ -8,8 +8,8 @@
     sink HOST                          nothing: it takes in who dials a port of this address, and prints that port
 
 FIRST is the first of 64 addresses in a row of this machine, from which it dials in turn. It dials loopback addresses and those of
-the networks that tests/processes makes, and no others. All of it ends with standard input, and by itself after ten minutes or
-five million connections. Then it prints how many connections it made, and how many bytes it sent.
+the networks that tests/processes makes, and no others. It prints `begun` first. All of it ends with standard input, and by itself
+after ten minutes or five million connections. Then it prints how many connections it made, and how many bytes it sent.
 """
 import ipaddress
 import os
@@ -234,6 +234,7 @@ def main(words):
     most = resource.getrlimit(resource.RLIMIT_NOFILE)[1]
     resource.setrlimit(resource.RLIMIT_NOFILE, (most, most))
     attack, what = Attack(), words[0]
+    print("begun", flush=True)
     if what in ("dial", "ask"):
         first = ipaddress.ip_address(words[2])
         getattr(attack, what)(int(words[1]), [*map(place, words[3:])], [str(first + number) for number in range(ADDRESSES)])

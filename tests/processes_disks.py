@@ -97,8 +97,8 @@ def two_slow_disks(seed, is_long):
     median, longest = rounds[len(rounds) // 2], rounds[-1]
     ballots, joined = told(match, "campaigns"), told(match, ": connected") - joined
     match.in_time(median <= MEDIAN and longest <= LONGEST, f"{median:.2f} rounds to the next command in the median, {longest:.2f} at most")
-    want(ballots <= BALLOTS, f"{ballots} ballots")
-    want(joined <= JOINED, f"connections opened {joined} times behind the first command")
+    match.in_time(ballots <= BALLOTS, f"{ballots} ballots")
+    match.in_time(joined <= JOINED, f"connections opened {joined} times behind the first command")
     match.file.unlink()
     match.comes_to(len(match.seen) + 3, SOON)
     match.ends()

@@ -94,10 +94,13 @@ def another_key(seed, is_long):
     match.start(2)
     match.await_note(2, "124 WrongProof")
     match.await_note(0, "124 WrongProof")
+    counts = lambda: [sum("124 WrongProof" in note for note in match.notes(node)) for node in (0, 2)]
+    begun, before = time.monotonic(), counts()
     time.sleep(4)
-    for node in (0, 2):
-        count = sum("124 WrongProof" in note for note in match.notes(node))
-        want(count <= 4, f"node {node} told {count} times in four seconds that a key is another")
+    more = [count - old for count, old in zip(counts(), before)]
+    # (on a busy machine more time has passed)
+    most = 1 + time.monotonic() - begun
+    want(max(more) <= most, f"nodes 0 and 2 told {more} times in {most - 1:.1f} s that a key is another")
     match.goes_on(10)
     match.kill(2)
     key.write_text(right)
@@ -108,10 +111,11 @@ def another_key(seed, is_long):
 
 
 def came(port, words, seconds, most=1 << 20):
-    """Comes to a seat's port and says this; what it got within so long, or until it got so many bytes, and when the connection
-    ended, if it did."""
+    """Comes to a seat's port and says this; what it got within so long, or until it got so many bytes, and how long after the dial
+    the connection ended, if it did."""
+    begun = time.monotonic()
     with reached(("127.0.0.1", port)) as bot:
-        got, begun = b"", time.monotonic()
+        got = b""
         bot.sendall(words)
         while time.monotonic() - begun < seconds and len(got) < most:
             bot.settimeout(max(0.001, seconds - (time.monotonic() - begun)))
@@ -142,9 +146,10 @@ def wrong_tokens(seed, is_long):
     time.sleep(0.2)
     version, right = b"VERSION:2.0.0\r\n", match.token(0).encode()
     for words in (b"#TOKEN " + b"f" * 64 + b"\r\n", b"#TOKEN " + match.token(1).encode() + b"\n", b"#token " + right + b"\r\n", b"#TOKEN " + right + b" \r\n", version, b"#" * 5000):
-        got, ended = came(match.seats[0], words + version, 3)
-        want(got == b"" and ended is not None and ended < 2.5, f"who says {words[:80]!r} gets {got[:80]!r}, and it ends after {ended}")
-    got, ended = came(match.seats[0], b"#TOKEN ", 4)
+        got, ended = came(match.seats[0], words + version, patience())
+        want(got == b"" and ended is not None, f"who says {words[:80]!r} gets {got[:80]!r}, and it ends after {ended}")
+        match.in_time(ended < 2.5, f"the connection of who says {words[:80]!r} ends after {ended:.1f} s")
+    got, ended = came(match.seats[0], b"#TOKEN ", patience())
     want(got == b"" and ended is not None and ended >= 1.5, f"who says nothing more gets {got[:80]!r}, and it ends after {ended}")
     waited(lambda: told_times(match.notes(0), "seat 0 (alice) at node 0: wrong token") == 7, "a count of all who were refused", match.last_notes)
     for end in (b"\n", b"\r\n"):
@@ -178,7 +183,8 @@ def hung_bot(seed, is_long):
     waited(lambda: len(orders("(bob)")) >= 2, "two orders", match.last_notes)
     match.goes_on(5)
     match.ends()
-    want(not orders("(alice)"), f"who only takes his time is played for: {orders('')}")
+    # (who gets no processor for long takes more than his time)
+    match.in_time(not orders("(alice)"), f"who only takes his time is played for: {orders('')}")
     log = match.log(0).splitlines()[-1]
     time.sleep(2.5)
     want(match.log(0).splitlines()[-1] == log, "the log grows behind its end")

@@ -14,7 +14,7 @@ from pathlib import Path
 sys.dont_write_bytecode = True
 sys.path.insert(0, str(Path(__file__).resolve().parent))
 
-from serving import FAST, NAMES, TOP, Wrong, in_time, is_free, loaded, patience, reached, size_of, want, waited
+from serving import FAST, NAMES, TOP, free_ports, in_time, loaded, patience, reached, size_of, want, waited
 
 from player import batches, dial, send
 from processes_ways import Hosts, Ways
@@ -24,15 +24,13 @@ raiser = loaded("examples/bots/raiser")
 serve = loaded("tests/serve")
 
 # How long it may take until a match goes on after something happened, in seconds.
-GOES_ON = 20
+GOES_ON = 40
 # How long a bot thinks where a test needs time to do something to its match, in seconds.
 PACE = 0.02
 # How long a bot waits until a process is reached, and then for the line that follows what it said, in seconds.
 PATIENT = 2.0
 # How much longer than they run nodes wait for a processor where the machine is too busy to measure their speed.
 STARVED = 3
-# Below those that a system gives to connections; tests that run side by side have a part of these each.
-PORTS = [10000, 32000]
 TESTS = {}
 
 
@@ -49,23 +47,6 @@ def test(seeds=1, long_seeds=None, by_name=False):
         return function
 
     return taken
-
-
-def free_ports(count):
-    """The first of so many ports in a row that nobody uses."""
-    for _ in range(1000):
-        port = random.randrange(PORTS[0], PORTS[1] - count)
-        if all(is_free(port + place) for place in range(count)):
-            return port
-    raise Wrong("no free ports were found")
-
-
-def claim_ports(counter, jobs):
-    """Takes the next part of the ports, so that no two tests that run side by side find the same ones free."""
-    with counter.get_lock():
-        place, counter.value = counter.value % jobs, counter.value + 1
-    first, width = PORTS[0], (PORTS[1] - PORTS[0]) // jobs
-    PORTS[:] = [first + place * width, first + (place + 1) * width]
 
 
 def make_noise(connection, noise):

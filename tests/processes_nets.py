@@ -120,6 +120,9 @@ class Attack:
 
     def __enter__(self):
         self.program = subprocess.Popen(self.words, stdin=subprocess.PIPE, stdout=subprocess.PIPE, text=True)
+        # (on a busy machine it takes long to begin)
+        if self.program.stdout.readline() != "begun\n":
+            raise Wrong(f"{self.words[2:4]} doesn't begin")
         return self
 
     def __exit__(self, *_):

@@ -16,8 +16,8 @@ sys.dont_write_bytecode = True
 sys.path.insert(0, str(Path(__file__).resolve().parent))
 
 import processes_match
-from processes_match import Match, free_ports, serve
-from serving import FAST, TOP, is_free, patience, want, waited
+from processes_match import Match, serve
+from serving import FAST, TOP, patience, want, waited
 
 GAME = "n2.game"
 VERSION = b"VERSION:2.0.0\r\n"

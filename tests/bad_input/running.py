@@ -9,7 +9,7 @@ from .models import TOP
 PROGRAM = TOP / "crates/holdem_table/out/holdem_table"
 WORKLOAD = TOP / "crates/workload/out/workload"
 # The most that a run takes, in seconds: one of a single input, and one of many.
-SECONDS, LONG_RUN = 20, 100
+SECONDS, LONG_RUN = 60, 300
 # How many inputs a process of tests/inputs takes at once.
 AT_ONCE = 20
 # A line that says nothing: what is printed for it ends the answer to what stands before it.
