@@ -5,14 +5,23 @@ import functools
 import hashlib
 import os
 import re
+import shutil
 from pathlib import Path
 
 TOP = Path(__file__).resolve().parent.parent
 PAGE = TOP / "bench/RESULTS.md"
 TIMES = TOP / "out/times.md"
-BESIDE = TOP / "wrong-bodies"
-# What the last try of each mutant beside the gate came to, a line each: the crate and the edit, a sum of what it was tried on, the verdict.
-TRIED = BESIDE / "TRIED"
+# Beside the mutants of a crate: what the last try of each came to, a line each: the mutant, a sum of what it was tried on, the verdict.
+TRIED = "TRIED"
+# The crates that have mutants in must-fail/, so that whoever looks at `rt ci` alone sees some. `rt ci` proves such a crate a
+# second time, from nothing: of these that costs a minute or less each.
+TWICE = ("byte_queue", "side_pots", "deck_draw", "protocol_model", "dealer_kind", "joined_lines")
+# The first line of a mutant that `tools/wrong_bodies --gate` tries.
+GATE = "gate\n"
+# What a verdict says whose proof names what the mutant took away: that shows nothing of the contract.
+ITS_PROOF = "its proof names what is gone"
+# Where libraries stand aside while `rt ci` runs.
+ASIDE = TOP / "out/libraries"
 # The pages that are written by hand.
 PAGES = ["README.md", "CONTRIBUTING.md", "docs/*.md", "bench/RESULTS.md", "crates/*/README.md"]
 TABLE = re.compile(r"^\| crate \|.*(?:\n\|.*)*\n?", re.M)
@@ -20,9 +29,9 @@ TABLE = re.compile(r"^\| crate \|.*(?:\n\|.*)*\n?", re.M)
 KINDS = ("minutes of proofs", "of mutants")
 # What out/times.md says of a run that did not prove and try everything.
 PARTLY = ("kept from earlier runs", "it failed")
-# What a check of a crate is given of the memory, in bytes. Nearly all take at most 3 GB; the tests of the commands, which
-# are the largest, were seen to take 5.4.
-MEMORY = 5_000_000_000
+# What a check of a crate is given of the memory, in bytes, and what is left to all others. Nearly all checks take less; the
+# tests of the commands, which are the largest, were seen to take 5.4 GB.
+MEMORY, RESERVE = 3_000_000_000, 2_500_000_000
 
 
 def crates():
@@ -32,14 +41,81 @@ def crates():
     return {name: [it for it in below if it in named] for name, below in named.items()}
 
 
+def library(name):
+    """Where a crate's library stands, once it is built."""
+    return TOP / "crates" / name / "out/rlib" / f"{name}.rlib"
+
+
+@contextlib.contextmanager
+def libraries_aside():
+    """Sets the libraries aside that earlier runs left, so that those stay behind this part that `rt ci` makes in it: at its end
+    `rt ci` would put the earlier ones over its own, whatever text they are of. Those that `rt check` keeps, which have a
+    stamp, come back behind this part; the others are of no use to anybody."""
+    put_back_libraries()
+    for found in sorted(TOP.glob("crates/*/out/rlib")):
+        if (found / "stamp").is_file():
+            ASIDE.mkdir(parents=True, exist_ok=True)
+            shutil.move(found, ASIDE / found.parent.parent.name)
+        else:
+            shutil.rmtree(found)
+    try:
+        yield
+    finally:
+        put_back_libraries()
+
+
+def put_back_libraries():
+    """Puts the libraries back that were set aside, now or by a run that was killed; none over one that `rt check` made since."""
+    for kept in sorted(ASIDE.glob("*")):
+        place = TOP / "crates" / kept.name / "out/rlib"
+        if not (place / "stamp").is_file() and place.parent.parent.is_dir():
+            shutil.rmtree(place, ignore_errors=True)
+            place.parent.mkdir(exist_ok=True)
+            shutil.move(kept, place)
+    shutil.rmtree(ASIDE, ignore_errors=True)
+
+
+def of_kit(name):
+    """The libraries of the kit that a crate names in crates.txt."""
+    rows = dict(line.split("#")[0].partition(":")[::2] for line in (TOP / "crates.txt").read_text().splitlines() if ":" in line.split("#")[0])
+    named = {head.split()[0]: rest.split() for head, rest in rows.items()}
+    return [it for it in named[name] if it not in named]
+
+
 def places(name):
-    """The folders of a crate's refused edits: those that the gate tries, and those beside it."""
-    return TOP / "crates" / name / "must-fail", BESIDE / name
+    """The folders of a crate's mutants: those that `rt ci` tries, and those that tools/wrong_bodies tries."""
+    return TOP / "crates" / name / "must-fail", TOP / "crates" / name / "mutants"
 
 
 def edits(folder):
-    """The refused edits in a folder."""
+    """The mutants in a folder."""
     return sorted(folder.glob("*.edit"))
+
+
+def beside(name):
+    """The mutants of a crate that tools/wrong_bodies tries."""
+    return edits(places(name)[1])
+
+
+def is_of_gate(edit):
+    """Whether `tools/wrong_bodies --gate` tries a mutant: its first line is 'gate'."""
+    return edit.read_text(encoding="utf-8", errors="replace").startswith(GATE)
+
+
+def of_gate(name):
+    """The mutants of a crate that `tools/wrong_bodies --gate` tries."""
+    return [edit for edit in beside(name) if is_of_gate(edit)]
+
+
+def of_check(name):
+    """The mutants of a crate that ./check tries, by `rt ci` and behind it, and the others."""
+    tried = [*edits(places(name)[0]), *of_gate(name)]
+    return tried, [edit for edit in beside(name) if edit not in tried]
+
+
+def crate_of(edit):
+    """The name of a mutant's crate."""
+    return edit.parent.parent.name
 
 
 def struck(edit):
@@ -48,14 +124,15 @@ def struck(edit):
 
 
 def text_of(file):
-    """The text of an edit; of a file that strikes out a clause, behind that of its edit."""
+    """The text of an edit without the line that marks it for the gate; of a file that strikes out a clause, behind that of its edit."""
     text = file.read_text(encoding="utf-8", errors="replace")
+    text = text[len(GATE) :] if text.startswith(GATE) else text
     return text if file.suffix == ".edit" else f"{text_of(file.with_suffix('.edit'))}\n{text}"
 
 
 def stale(edit):
     """Why an edit can't be applied to its crate, none if it can: as the kit reads it, a pair of lines after another."""
-    crate = TOP / "crates" / (edit.parent.parent.name if edit.parent.name == "must-fail" else edit.parent.name)
+    crate = edit.parent.parent
     texts, path, old, pairs = {}, None, None, 0
     if not edit.with_suffix(".edit").is_file():
         return "no edit of this name is beside it"
@@ -102,8 +179,10 @@ def applied(edit, crate):
 
 
 def faults(folder):
-    """The files in a folder of a crate's refused edits that can't be applied or are no edits, each with why."""
+    """The files in a folder of a crate's mutants that can't be applied or are no mutants, each with why."""
     for file in sorted(folder.iterdir()) if folder.is_dir() else []:
+        if file.name == TRIED and folder.name == "mutants":
+            continue
         is_edit = file.is_file() and re.fullmatch(r"[\w-][\w.-]*\.(edit|struck)", file.name, re.A)
         why = stale(file) if is_edit else "no name of an edit: letters, digits, _, - and ., and .edit or .struck at the end"
         if why:
@@ -111,11 +190,13 @@ def faults(folder):
 
 
 def strangers():
-    """What stands in wrong-bodies/ and is no folder of a crate's edits, each with why."""
+    """The folders of mutants that nothing tries, or that cost a second proof, each with why."""
     names = crates()
-    for file in sorted(BESIDE.iterdir()) if BESIDE.is_dir() else []:
-        if file.name not in names and file.suffix != ".md" and file != TRIED:
-            yield file.relative_to(TOP), "crates.txt names no such crate"
+    for folder in sorted([*TOP.glob("crates/*/mutants"), *TOP.glob("crates/*/must-fail")]):
+        if folder.parent.name not in names:
+            yield folder.relative_to(TOP), "crates.txt names no such crate"
+        elif folder.name == "must-fail" and folder.parent.name not in TWICE:
+            yield folder.relative_to(TOP), "for this folder `rt ci` proves the crate a second time: its mutants belong in mutants/, with the line 'gate'"
 
 
 @functools.lru_cache(maxsize=None)
@@ -134,15 +215,16 @@ def sum_of(edit):
     Crates below are left out: else each change of one would make all edits above untried. What an edit shows is of its
     own crate's clauses.
     """
-    texts = [text_of(struck(edit) if struck(edit).is_file() else edit), sources_sum(edit.parent.name)]
+    texts = [text_of(struck(edit) if struck(edit).is_file() else edit), sources_sum(crate_of(edit))]
     return hashlib.sha256("\n".join(texts).encode()).hexdigest()[:16]
 
 
-def tries():
-    """What each edit in wrong-bodies/TRIED was tried on and came to, by the crate and the edit's name."""
-    lines = TRIED.read_text(encoding="utf-8").splitlines() if TRIED.is_file() else []
+def tries(name):
+    """What each mutant of a crate was tried on and came to, by the mutant's name."""
+    file = places(name)[1] / TRIED
+    lines = file.read_text(encoding="utf-8").splitlines() if file.is_file() else []
     rows = [line.split(None, 2) for line in lines if line and not line.startswith("#")]
-    return {name: (sum_then, verdict) for name, sum_then, verdict in rows}
+    return {stem: (sum_then, verdict) for stem, sum_then, verdict in rows}
 
 
 @contextlib.contextmanager
@@ -157,24 +239,27 @@ def alone_in(folder):
 
 
 def note_tries(verdicts):
-    """Writes what edits came to into wrong-bodies/TRIED, each with the sum of what it was tried on; lines of edits that are
-    gone go. Runs side by side, each over other crates, lose no line of each other."""
-    with alone_in(BESIDE):
-        rows = {name: row for name, row in tries().items() if (BESIDE / f"{name}.edit").is_file()}
-        rows.update({f"{edit.parent.name}/{edit.stem}": (tried_on, verdict) for edit, tried_on, verdict in verdicts})
-        made = TRIED.with_suffix(".new")
-        head = "# Written by tools/wrong_bodies: the crate and the edit, a sum of what it was tried on, and what the try came to.\n"
-        made.write_text(head + "".join(f"{name} {then} {verdict}\n" for name, (then, verdict) in sorted(rows.items())), encoding="utf-8")
-        made.replace(TRIED)
+    """Writes what mutants came to into the TRIED of their crates, each with the sum of what it was tried on; lines of mutants
+    that are gone go. Runs side by side lose no line of each other."""
+    for folder in {edit.parent for edit, _, _ in verdicts}:
+        with alone_in(folder):
+            rows = {stem: row for stem, row in tries(folder.parent.name).items() if (folder / f"{stem}.edit").is_file()}
+            rows.update({edit.stem: (tried_on, verdict) for edit, tried_on, verdict in verdicts if edit.parent == folder})
+            made = folder / f"{TRIED}.new"
+            head = "# Written by tools/wrong_bodies: the mutant, a sum of what it was tried on, and what the try came to.\n"
+            made.write_text(head + "".join(f"{stem} {then} {verdict}\n" for stem, (then, verdict) in sorted(rows.items())), encoding="utf-8")
+            made.replace(folder / TRIED)
 
 
 def untried(edits):
-    """Those of these edits of which nothing is known over today's files, each with why."""
-    found = tries()
+    """Those of these mutants of which nothing is known over today's files, each with why."""
+    of_crate = functools.lru_cache(maxsize=None)(tries)
     for edit in edits:
-        then, _ = found.get(f"{edit.parent.name}/{edit.stem}", (None, None))
+        then, verdict = of_crate(crate_of(edit)).get(edit.stem, (None, None))
         if then != sum_of(edit):
             yield edit, "tried before it or its crate changed" if then else "never tried"
+        elif ITS_PROOF in verdict:
+            yield edit, ITS_PROOF
 
 
 def figures(text):
@@ -199,7 +284,7 @@ def measured():
 def lanes():
     """How many checks run side by side: as many as there are processors, where memory allows, or as RT_JOBS says.
 
-    By itself `rt` sets aside two to seven times what a large crate's check takes, and lets processors idle for that.
+    By itself `rt` sets aside two to seven times what a large crate's check takes, and lets processors idle for that (DECISIONS).
     """
     given = os.environ.get("RT_JOBS", "")
     if given.isdigit() and int(given) > 0:
@@ -209,9 +294,9 @@ def lanes():
         free = int(re.search(r"^MemAvailable:\s+(\d+) kB$", Path("/proc/meminfo").read_text(), re.M)[1]) * 1024
     except (OSError, TypeError):
         return processors
-    return min(processors, max(1, free // MEMORY))
+    return min(processors, max(1, (free - RESERVE) // MEMORY))
 
 
 def surroundings():
-    """The variables that `rt` is run with."""
-    return {**os.environ, "RT_JOBS": str(lanes())}
+    """The variables that `rt` is run with. Where there is memory for one check alone, `rt` finds small ones that fit beside it."""
+    return {**os.environ, **({"RT_JOBS": str(lanes())} if lanes() > 1 else {})}

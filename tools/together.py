@@ -2,7 +2,7 @@
 
 A function's proof rests on its own body and on the contracts of the functions that it calls. So a wrong body shows in
 its own function: the check names its open goals. Hence no two mutants of a group are in one function. Of a function that
-calls one that isn't proved a check may say only so, or that its proof names what is gone; then it is tried without that one.
+calls one that isn't proved a check may say only so; then it is tried without that one.
 """
 import collections
 import re
@@ -21,7 +21,7 @@ OF_CODE = re.compile(r"^note: (?:\./)?(src/\S+?):(\d+):\d+: it is not proved tha
 GOAL = re.compile(r"`([^`\s]+)`")
 # A name in a proof that the edit took away, which says little of the contract.
 GONE = re.compile(r"has no field|is not in scope|has no `|was not admitted")
-ITS_PROOF = "its proof names what is gone"
+NO_GOAL = "no open goal of its own is named"
 # What antt says of a text that it can't read, where one that only makes a statement false reads well.
 UNREAD = re.compile(r"is not in scope|has no field|is no name|operand is missing|expected the end|cannot continue")
 
@@ -98,18 +98,22 @@ def body(lines, at, indent):
 
 
 class Calls:
-    """Which functions of a crate call which, as far as the text tells: rather too many than too few."""
+    """Which functions of a crate have a body and a contract, and which call which, as far as the text tells: rather too many
+    than too few."""
 
     NAMED = re.compile(r"(?:(\w+)(?:::<[^>]*>)?(::)|(\.))?\b(\w+)\b(\s*\()?")
 
     def __init__(self, crate):
-        self.known, texts = collections.defaultdict(list), {}
+        self.known, self.stated, texts = collections.defaultdict(list), [], {}
         for file in sorted((crate / "src").rglob("*.rt")):
             path, text = str(file.relative_to(crate)), file.read_text(encoding="utf-8")
             lines = text.split("\n")
             for function in functions(path, text):
                 self.known[function.name].append(function)
                 texts[function] = "\n".join(lines[function.lines[1] : function.lines[2] + 1])
+                is_stated = any(re.match(r" +ensures\b", line) for line in lines[function.lines[0] : function.lines[1]])
+                is_law = file.name == "laws.rt" or texts[function].strip() in ("}", "{}")
+                self.stated += [function] if is_stated and not is_law and f"trait {function.owner[1]}" not in text else []
         self.modules = {PurePosixPath(it.path).stem for it in texts} | {"crate", "super", "self"}
         called = {}
         for function, text in texts.items():
@@ -138,11 +142,30 @@ class Calls:
         return found
 
 
+class Controls:
+    """The functions of a crate that a check of changed ones may have for a control: an unchanged one that it must prove,
+    since of a crate of which it proves nothing its refusals show nothing."""
+
+    def __init__(self, crate):
+        calls = Calls(crate)
+        keys = collections.Counter(it.key() for it in calls.stated)
+        once = [it for it in calls.stated if keys[it.key()] == 1]
+        # A control is to cost little: one that calls no other and is short comes first. (A law may rest on many lemmas.)
+        self.functions = sorted(once, key=lambda it: (len(calls.below[it.key()]), it.lines[2] - it.lines[0], it.key()[0], it.name))
+        self.below = calls.below
+
+    def of(self, group):
+        """The control of a group's check, none if the crate has no function for it: one that the group doesn't change, nor
+        what it calls."""
+        names = {name for mutant in group for name in mutant.names}
+        return next((it for it in self.functions if it.key() not in names and not self.below[it.key()] & names), None)
+
+
 class Mutant:
     """An edit: the lines that it changes, by file and number, and the functions whose bodies have these lines. It has no
     functions if it changes anything else, and then is tried alone."""
 
-    def __init__(self, edit, crate, calls):
+    def __init__(self, edit, crate):
         self.edit, self.lines, self.functions, self.why = edit, {}, [], None
         before, after = repository.edited(edit, crate)
         for path, text in before.items():
@@ -157,15 +180,10 @@ class Mutant:
         if self.why:
             self.functions = []
         self.names = {it.key() for it in self.functions}
-        self.below = {key for name in self.names for key in calls.below.get(name, ())}
 
     def is_apart(self, other):
         """Whether they change different functions."""
         return bool(self.names and other.names) and not self.names & other.names
-
-    def rests_on(self, other):
-        """Whether a function that it changes calls one that the other changes, by others maybe."""
-        return bool(self.below & other.names)
 
 
 def groups(mutants, most=MOST):
@@ -221,13 +239,13 @@ def refusals(said, of_group):
                 if what or "it calls" not in named[3]:
                     found.setdefault(function, []).extend(what)
             elif placed and placed[1].startswith("proofs/") and function.is_at(placed[1], -1):
-                if GONE.search(placed[3]):
+                if is_gone(line):
                     gone.add(function)
                 else:
                     found.setdefault(function, []).extend(goals(line))
             elif coded and function.is_at(coded[1], int(coded[2]) - 1):
                 found.setdefault(function, []).extend(goals(line))
-    return {it: list(dict.fromkeys(what or ([ITS_PROOF] if it in gone else []))) for it, what in found.items()}
+    return {it: list(dict.fromkeys(what or ([repository.ITS_PROOF] if it in gone else []))) for it, what in found.items()}
 
 
 def unread(said):
@@ -239,8 +257,9 @@ def unread(said):
 
 
 def come_to(group, said, status):
-    """What the check of a group says of each of its mutants: 'refused: ' and the open goals, or 'let through', or 'stale';
-    of those that it doesn't name nothing, and of none where it came to no verdict."""
+    """What the check of a group says of each of its mutants: 'refused: ' and the open goals of its functions, or 'let
+    through', or 'stale', or 'not tried: ' and why; of those of which it names no goal nothing, but where one is tried
+    alone, and of none where it came to no verdict."""
     lines = said.splitlines()
     if status not in (0, 1) or (status == 1 and not any(OF_FUNCTION.match(line) or OF_PLACE.match(line) or "error" in line for line in lines)):
         return {}
@@ -249,28 +268,53 @@ def come_to(group, said, status):
     if unread(said):
         return {}
     found = refusals(said, [function for mutant in group for function in mutant.functions])
-    of_each = {mutant: [goal for it in mutant.functions for goal in found.get(it, [])] for mutant in group if any(it in found for it in mutant.functions)}
-    # Where no goal of its own is named, it may be for what it calls.
-    own = lambda mutant, what: set(what) - {ITS_PROOF} or not any(mutant.rests_on(other) for other in group)
-    return {mutant: worded(what) for mutant, what in of_each.items() if own(mutant, what)}
+    verdicts = {mutant: worded([goal for it in mutant.functions for goal in found.get(it, [])]) for mutant in group}
+    return {mutant: verdict for mutant, verdict in verdicts.items() if verdict.startswith("refused")}
 
 
 def alone(mutant, said, status):
-    """What the check of one mutant says of it."""
+    """What the check of one mutant says of it. One of a definition is refused by whatever rests on that."""
     if status == 0:
         return "let through"
     if unread(said):
         return "stale"
-    found = refusals(said, mutant.functions)
-    named = [goal for what in found.values() for goal in what]
-    return worded(named or [goal for line in said.splitlines() if OF_FUNCTION.match(line) or OF_PLACE.match(line) for goal in goals(line)])
+    if mutant.functions:
+        return worded([goal for what in refusals(said, mutant.functions).values() for goal in what])
+    lines = [line for line in said.splitlines() if OF_FUNCTION.match(line) or OF_PLACE.match(line)]
+    return worded([goal for line in lines for goal in ([repository.ITS_PROOF] if is_gone(line) else goals(line))])
+
+
+def is_proved(said, function):
+    """Whether a check says of a function that it is proved; without one, of any function."""
+    names = [line[len("fn ") : -len(": proved")] for line in said.splitlines() if line.startswith("fn ") and line.endswith(": proved")]
+    return any(function is None or function.is_named(name.split("::")) for name in names)
+
+
+def is_gone(line):
+    """Whether a line says only that a proof names what an edit took away."""
+    placed = OF_PLACE.match(line)
+    return bool(placed and placed[1].startswith("proofs/") and GONE.search(placed[3]))
 
 
 def worded(named):
-    """A verdict with the first three of the open goals."""
-    named = list(dict.fromkeys(named))
-    more = f" and {len(named) - 3} more" if len(named) > 3 else ""
-    return f"refused: {', '.join(named[:3])}{more}" if named else "refused"
+    """A verdict with the first three of the open goals. Without any it shows nothing of the contract."""
+    own = [goal for goal in dict.fromkeys(named) if goal != repository.ITS_PROOF]
+    more = f" and {len(own) - 3} more" if len(own) > 3 else ""
+    return f"refused: {', '.join(own[:3])}{more}" if own else f"not tried: {repository.ITS_PROOF if named else NO_GOAL}"
+
+
+def left_of(group, came_to, said, status):
+    """The groups in which those are to be tried of which the check of a group said nothing: one of which it named no goal
+    alone, and where it came to no verdict those apart that it couldn't read, or else each half."""
+    left = [it for it in group if it not in came_to]
+    if len(group) == 1:
+        return []
+    if came_to or status == 0:
+        return [[it] for it in left]
+    lost = unread_of(group, said) if unread(said) else []
+    others = [it for it in group if it not in lost]
+    half = len(others) // 2
+    return [[it] for it in lost] + [it for it in ([others] if lost else [others[:half], others[half:]]) if it]
 
 
 def unread_of(group, said):
