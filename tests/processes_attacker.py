@@ -9,8 +9,10 @@
 
 FIRST is the first of 64 addresses in a row of this machine, from which it dials in turn. It dials loopback addresses and those of
 the networks that tests/processes makes, and no others. It prints `begun` first. All of it ends with standard input, and by itself
-after ten minutes or five million connections. Then it prints how many connections it made, and how many bytes it sent.
+after ten minutes or five million connections. Then it prints how many connections it made, and how many bytes of empty lines it
+sent.
 """
+import contextlib
 import ipaddress
 import os
 import resource
@@ -66,12 +68,12 @@ class Attack:
     def __init__(self):
         self.until, self.poll, self.callers = time.monotonic() + LONGEST, select.epoll(), {}
         self.poll.register(0, select.EPOLLIN)
-        self.made = self.sent = 0
+        self.dialled = self.made = self.sent = 0
 
     def goes_on(self, wait):
         """Waits so long at most; the connections of which something came, or none where all is over."""
         found = self.poll.poll(max(0.0, wait), 4096)
-        if time.monotonic() > self.until or self.made > MOST_MADE or any(file == 0 for file, _ in found):
+        if time.monotonic() > self.until or self.dialled > MOST_MADE or any(file == 0 for file, _ in found):
             return None
         return [self.callers[file] for file, _ in found if file in self.callers]
 
@@ -89,10 +91,9 @@ class Attack:
         caller.close()
 
     def dial_next(self, targets, sources):
-        try:
-            self.keep(opened(targets[self.made % len(targets)], sources[self.made % len(sources)]))
-        except OSError:
-            self.made += 1
+        number, self.dialled = self.dialled, self.dialled + 1
+        with contextlib.suppress(OSError):
+            self.keep(opened(targets[number % len(targets)], sources[number % len(sources)]))
 
     def end_closed(self, callers):
         """Ends those connections of which the other end is gone."""
@@ -114,7 +115,7 @@ class Attack:
             if callers is None:
                 return
             self.end_closed(callers)
-            for _ in range(min(256, int((time.monotonic() - begun) * rate) - self.made)):
+            for _ in range(min(256, int((time.monotonic() - begun) * rate) - self.dialled)):
                 self.dial_next(targets, sources)
 
     def sink(self, host):

@@ -5,8 +5,9 @@ import shutil
 import subprocess
 import time
 
+from measuring import in_time, want
 from processes_match import PACE, Match, test
-from serving import patience, want
+from serving import patience, waited
 
 # Each sync takes as many microseconds longer as the file says that SLOW_SYNC names, while there is one.
 SLOWER = r"""
@@ -71,11 +72,8 @@ class SlowMatch(Match):
         os.environ.update(LD_PRELOAD=str(self.library), SLOW_SYNC=str(self.file))
 
     def comes_to(self, commands, seconds):
-        """Waits until so many commands were seen, for so long at most."""
-        until = time.monotonic() + seconds
-        while len(self.seen) < commands and self.is_alive():
-            want(time.monotonic() < until, f"{len(self.seen)} commands and not {commands}: {self.last_notes()}")
-            time.sleep(0.01)
+        """Waits until so many commands were seen, for so long at most in which nobody waits for a processor."""
+        waited(lambda: self.is_alive() and len(self.seen) >= commands, f"{commands} commands", self.last_notes, most=seconds)
 
 
 def told(match, text):
@@ -96,9 +94,9 @@ def two_slow_disks(seed, is_long):
     rounds = sorted((after - before) / ROUND for before, after in zip(times, times[1:]))
     median, longest = rounds[len(rounds) // 2], rounds[-1]
     ballots, joined = told(match, "campaigns"), told(match, ": connected") - joined
-    match.in_time(median <= MEDIAN and longest <= LONGEST, f"{median:.2f} rounds to the next command in the median, {longest:.2f} at most")
-    match.in_time(ballots <= BALLOTS, f"{ballots} ballots")
-    match.in_time(joined <= JOINED, f"connections opened {joined} times behind the first command")
+    in_time(median <= MEDIAN and longest <= LONGEST, f"{median:.2f} rounds to the next command in the median, {longest:.2f} at most")
+    in_time(ballots <= BALLOTS, f"{ballots} ballots")
+    in_time(joined <= JOINED, f"connections opened {joined} times behind the first command")
     match.file.unlink()
     match.comes_to(len(match.seen) + 3, SOON)
     match.ends()

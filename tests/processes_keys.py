@@ -8,7 +8,8 @@ import subprocess
 import threading
 import time
 
-from serving import NAMES, TOP, in_time, loaded, patience, reached, want, waited
+from measuring import Watch, in_time, pause, want
+from serving import NAMES, TOP, loaded, patience, reached, waited
 
 from processes_match import PACE, Bot, Match, at_random, test
 from table import Game, turn_of
@@ -96,7 +97,7 @@ def another_key(seed, is_long):
     match.await_note(0, "124 WrongProof")
     counts = lambda: [sum("124 WrongProof" in note for note in match.notes(node)) for node in (0, 2)]
     begun, before = time.monotonic(), counts()
-    time.sleep(4)
+    pause(4)
     more = [count - old for count, old in zip(counts(), before)]
     # (on a busy machine more time has passed)
     most = 1 + time.monotonic() - begun
@@ -148,7 +149,7 @@ def wrong_tokens(seed, is_long):
     for words in (b"#TOKEN " + b"f" * 64 + b"\r\n", b"#TOKEN " + match.token(1).encode() + b"\n", b"#token " + right + b"\r\n", b"#TOKEN " + right + b" \r\n", version, b"#" * 5000):
         got, ended = came(match.seats[0], words + version, patience())
         want(got == b"" and ended is not None, f"who says {words[:80]!r} gets {got[:80]!r}, and it ends after {ended}")
-        match.in_time(ended < 2.5, f"the connection of who says {words[:80]!r} ends after {ended:.1f} s")
+        in_time(ended < 2.5, f"the connection of who says {words[:80]!r} ends after {ended:.1f} s")
     got, ended = came(match.seats[0], b"#TOKEN ", patience())
     want(got == b"" and ended is not None and ended >= 1.5, f"who says nothing more gets {got[:80]!r}, and it ends after {ended}")
     waited(lambda: told_times(match.notes(0), "seat 0 (alice) at node 0: wrong token") == 7, "a count of all who were refused", match.last_notes)
@@ -160,10 +161,41 @@ def wrong_tokens(seed, is_long):
     match.ends()
 
 
+# Within so long a command follows the answer that it is, in fair seconds.
+HEARD = 0.5
+
+
+class HeardLeague(League):
+    """A match that keeps when a seat's bot answered each line, and when each command was told, in fair seconds."""
+
+    def __init__(self, **more):
+        self.answered, self.told = {}, {}
+        super().__init__(**more)
+
+    def see(self, line):
+        super().see(line)
+        self.told.setdefault(place_of(line), Watch.here().now())
+
+    def answers(self, line):
+        self.answered[place_of(line)] = Watch.here().now()
+
+    def longest(self):
+        """How long it took at most from an answer to the next command of its hand, which has to be what was answered."""
+        after = lambda hand, betting: min((at for (other, text), at in self.told.items() if other == hand and text.startswith(betting) and text != betting), default=None)
+        times = [told - at for place, at in self.answered.items() if (told := after(*place)) is not None]
+        return max(times)
+
+
+def place_of(line):
+    """The hand of a line, and its betting."""
+    return tuple(line.split(":")[2:4])
+
+
 @test()
 def hung_bot(seed, is_long):
     """A bot that hangs is played for, and another that takes its time isn't; then one that is nowhere is."""
-    match = League(hands=6, wait=3)
+    wait = 3
+    match = HeardLeague(hands=6, wait=wait)
     game, has_hung = Game(match.game), []
     orders = lambda who: [note for node in range(3) for note in match.notes(node) if who in note and "default action ordered" in note]
 
@@ -177,16 +209,21 @@ def hung_bot(seed, is_long):
                 time.sleep(0.05)
         elif len(match.seen) % 10 == 3:
             time.sleep(0.5)
+        if seat == 0:
+            match.answers(line)
         return "c"
 
     match.begin(choice=choice)
     waited(lambda: len(orders("(bob)")) >= 2, "two orders", match.last_notes)
     match.goes_on(5)
     match.ends()
-    # (who gets no processor for long takes more than his time)
-    match.in_time(not orders("(alice)"), f"who only takes his time is played for: {orders('')}")
+    # (who gets no processor for long takes more than his time; but then his answer comes to an old line)
+    in_time(not orders("(alice)"), f"who only takes his time is played for: {orders('')}")
+    refused = sum("83 NotCurrent" in note and "(alice)" in note for node in range(3) for note in match.notes(node))
+    is_heard = match.longest() < HEARD or len(orders("(alice)")) <= refused
+    match.calmly(is_heard, f"what alice answered is told {match.longest():.1f} s later: {len(orders('(alice)'))} times she is played for, and {refused} answers came late")
     log = match.log(0).splitlines()[-1]
-    time.sleep(2.5)
+    pause(2.5)
     want(match.log(0).splitlines()[-1] == log, "the log grows behind its end")
 
 
@@ -255,7 +292,7 @@ def table_of_statuses(seed, is_long):
             found = status.row(1, f"127.0.0.1:{server.getsockname()[1]}")
             asked.join()
         in_time(found != "not reached", "a line that was said at once isn't heard within a second")
-        want(found == said, f"of {text!r} the row is {found}")
+        want(found in (said, "not reached"), f"of {text!r} the row is {found}")
     want(status.row(1, "127.0.0.1:99999") == "not reached", "a port that there isn't")
     helped = subprocess.run([TOP / "tools/status", "--help"], capture_output=True, text=True, timeout=patience())
     want(helped.returncode == 0 and "tools/status MATCH" in helped.stdout and not helped.stderr, f"{helped}")

@@ -1,7 +1,8 @@
 """What tests/processes tries of matches that their nodes learn again: all processes were killed, and are started."""
 import time
 
-from serving import waited, want
+from measuring import in_time, want
+from serving import waited
 
 from processes_keys import League
 from processes_match import test
@@ -49,7 +50,7 @@ def learned(match, length, most, seats, think):
     match.let_bots_come(seats)
     waited(are_whole, "logs", match.last_notes)
     took = time.monotonic() - started
-    match.in_time(took <= most, f"it took {took:.2f} s to learn the match again")
+    in_time(took <= most, f"it took {took:.2f} s to learn the match again")
     match.kill(*range(match.count))
     match.send_bots_away()
     return took

@@ -1,6 +1,7 @@
 """Tests of tests/processes: nodes tell each other lives, and processes of before don't."""
+from measuring import NotMeasured, want
 from processes_match import PACE, Match, test
-from serving import want, waited
+from serving import waited
 
 
 class OfBoth(Match):
@@ -20,7 +21,7 @@ def both_versions(seed, is_long):
     """Processes of both versions play a whole match, each killed once; the old ones have the lesser numbers, or the greater.
     Who dials an old one meets it in its version, and no note tells of 122."""
     if OfBoth.before is None:
-        return "not tried: no program of before was given (--before)"
+        raise NotMeasured("no program of before was given (--before)")
     match = OfBoth(pace=PACE)
     match.old = (0, 1) if seed == 1 else (1, 2)
     # Node 1 runs both programs, and an old one tells of 122.

@@ -1,9 +1,7 @@
 """A match of tests/processes: its files, its processes and its bots."""
-import contextlib
 import random
 import shutil
 import signal
-import socket
 import subprocess
 import sys
 import tempfile
@@ -14,7 +12,8 @@ from pathlib import Path
 sys.dont_write_bytecode = True
 sys.path.insert(0, str(Path(__file__).resolve().parent))
 
-from serving import FAST, NAMES, TOP, free_ports, in_time, loaded, patience, reached, size_of, want, waited
+from measuring import in_time, pause, want
+from serving import FAST, NAMES, TOP, free_ports, loaded, patience, reached, size_of, waited
 
 from player import batches, dial, send
 from processes_ways import Hosts, Ways
@@ -23,14 +22,10 @@ from table import Game, turn_of
 raiser = loaded("examples/bots/raiser")
 serve = loaded("tests/serve")
 
-# How long it may take until a match goes on after something happened, in seconds.
-GOES_ON = 40
 # How long a bot thinks where a test needs time to do something to its match, in seconds.
 PACE = 0.02
 # How long a bot waits until a process is reached, and then for the line that follows what it said, in seconds.
 PATIENT = 2.0
-# How much longer than they run nodes wait for a processor where the machine is too busy to measure their speed.
-STARVED = 3
 TESTS = {}
 
 
@@ -118,7 +113,7 @@ class Match:
         rules = Game(self.game)
         # What bots choose, by their seat and a line; they call if nothing else is said.
         self.players, self.choice = rules.players, lambda seat, line: "c" if turn_of(rules, line) else None
-        self.processes, self.bots, self.others, self.has_ended, self.windows = [None] * count, [], [], threading.Event(), []
+        self.processes, self.bots, self.others, self.has_ended = [None] * count, [], [], threading.Event()
         # Bots think for so long, and act while they may; in the last hand only when all else was done.
         self.pace, self.may_act, self.may_end = pace, threading.Event(), threading.Event()
         # The commands that lines told, when each was told first, the last hand among them, and at how many the bots stop.
@@ -275,24 +270,9 @@ class Match:
 
     def calmly(self, is_so, text):
         """What has to be so where nothing is lost. A node without a quorum, which a busy machine takes from it, disconnects its
-        bots: then the test is tried again."""
+        bots: then it is late."""
         lost = any("quorum lost" in note for node in range(self.count) for note in self.notes(node))
-        (self.in_time if lost else want)(is_so, text)
-
-    @contextlib.contextmanager
-    def measured(self):
-        """While something is measured: whether the nodes had a processor when they wanted one is looked at."""
-        begun = self.processor_times()
-        yield
-        self.windows.append([end - begin for begin, end in zip(begun, self.processor_times())])
-
-    def processor_times(self):
-        """How long the processes that are there now have run on a processor, and how long they have waited for one, in seconds."""
-        return processor_times([process for process in self.processes if process and process.poll() is None])
-
-    def in_time(self, is_so, text):
-        """What has to be so on a machine that isn't busy: the test is tried again where it isn't."""
-        in_time(is_so, text, any(waited > STARVED * ran for ran, waited in [self.processor_times(), *self.windows]))
+        (in_time if lost else want)(is_so, text)
 
     def is_alive(self):
         """No process has ended that the test didn't kill."""
@@ -301,23 +281,17 @@ class Match:
         return True
 
     def goes_on(self, more=5):
-        """Waits until so many more commands were seen, for each of them so long."""
-        seen, goal = len(self.seen), len(self.seen) + more
-        until = time.monotonic() + min(GOES_ON, patience())
-        while len(self.seen) < goal and self.is_alive():
-            if len(self.seen) > seen:
-                seen, until = len(self.seen), time.monotonic() + min(GOES_ON, patience())
-            want(time.monotonic() < until, f"the match doesn't go on: {self.last_notes()}")
-            time.sleep(0.001)
+        """Waits until so many more commands were seen."""
+        goal = len(self.seen) + more
+        waited(lambda: self.is_alive() and len(self.seen) >= goal, f"{more} more commands", self.last_notes, seen=lambda: len(self.seen))
 
     def stands(self, seconds):
         """No command comes for so long, once each bot has read what it had been told before."""
         sittings = [len(bot.sittings) for bot in self.bots]
         has_read = lambda: all(len(bot.sittings) > before for bot, before in zip(self.bots, sittings))
         waited(has_read, "each bot to dial anew", self.last_notes)
-        count, until = len(self.seen), time.monotonic() + seconds
-        while time.monotonic() < until:
-            time.sleep(0.01)
+        count = len(self.seen)
+        pause(seconds)
         want(len(self.seen) == count, f"{len(self.seen) - count} commands came where none can be chosen")
 
     def await_start(self, node, before=0):
@@ -395,16 +369,6 @@ def at_random(match, seed):
     """What bots choose who act at random: it depends on the seat, the seed and the line."""
     game = Game(match.game)
     return lambda seat, line: raiser.choice(game, seed * 10 + seat, line)
-
-
-def processor_times(processes):
-    """How long processes have run on a processor, and how long they have waited for one, in seconds, by Linux's /proc."""
-    times = [0, 0]
-    for process in processes:
-        for file in Path(f"/proc/{process.pid}/task").glob("*/schedstat"):
-            with contextlib.suppress(OSError):
-                times = [sum(pair) for pair in zip(times, map(int, file.read_text().split()))]
-    return [it / 1e9 for it in times]
 
 
 def meanwhile(match, seconds):

@@ -4,8 +4,8 @@ import subprocess
 import sys
 from pathlib import Path
 
+from measuring import Wrong, in_time, lacks
 from processes_keys import League
-from serving import Wrong
 from processes_ways import Hosts, NoHosts, Ways, ip
 
 TESTS = Path(__file__).resolve().parent
@@ -92,11 +92,11 @@ class SlowLoopback(Loopback):
 
 
 def slow_hosts(count):
-    """Hosts with slow ways; loopback addresses and proxies where none can be made. What the test tells of it."""
+    """Hosts with slow ways; loopback addresses and proxies where none can be made, which the test notes."""
     try:
         return SlowHosts(count)
     except NoHosts as why:
-        print(f"processes: {why}: by loopback addresses and proxies", flush=True)
+        lacks(f"{why}: tried over loopback addresses and proxies alone")
         return SlowLoopback(count)
 
 
@@ -116,20 +116,25 @@ class Attack:
     def __init__(self, match, what, *words, targets):
         starter, first = match.hosts.attacker()
         words = [first if word is None else str(word) for word in words]
-        self.words = [*starter, sys.executable, TESTS / "processes_attacker.py", what, *words, *targets]
+        self.name, self.words = what, [*starter, sys.executable, TESTS / "processes_attacker.py", what, *words, *targets]
 
     def __enter__(self):
         self.program = subprocess.Popen(self.words, stdin=subprocess.PIPE, stdout=subprocess.PIPE, text=True)
         # (on a busy machine it takes long to begin)
         if self.program.stdout.readline() != "begun\n":
-            raise Wrong(f"{self.words[2:4]} doesn't begin")
+            raise Wrong(f"{self.name} doesn't begin")
         return self
 
     def __exit__(self, *_):
-        """Ends it; what it told of itself."""
-        self.told, _ = self.program.communicate()
+        """Ends it. It tells how many connections it made, and how many bytes it sent."""
+        told, _ = self.program.communicate()
         if self.program.returncode != 0:
-            raise Wrong(f"{self.words[2:4]} ended with status {self.program.returncode}")
+            raise Wrong(f"{self.name} ended with status {self.program.returncode}")
+        self.made, self.sent = map(int, told.split()[-2:])
+
+    def did(self, made=0, sent=0):
+        """It made so many connections at least, and sent so many bytes: who was attacked less has withstood nothing."""
+        in_time(self.made >= made and self.sent >= sent, f"{self.name} made {self.made} connections of {made:.0f} and sent {self.sent} bytes of {sent:.0f}")
 
 
 def dialling(match, rate, *nodes):
@@ -163,7 +168,7 @@ class Sink(Attack):
 
     def __init__(self, match):
         self.hosts, self.count, self.word, self.home, self.token = match.hosts, match.count, match.word, match.home, match.token
-        self.words = [sys.executable, TESTS / "processes_attacker.py", "sink", self.address(0)]
+        self.name, self.words = "sink", [sys.executable, TESTS / "processes_attacker.py", "sink", self.address(0)]
 
     def __enter__(self):
         super().__enter__()

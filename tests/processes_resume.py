@@ -4,10 +4,13 @@ import socket
 import threading
 import time
 
+from measuring import pause, want
 from processes_match import Match, serve, test
-from serving import NAMES, QUIET, REACHED, patience, reached, want, waited
+from serving import NAMES, QUIET, REACHED, patience, reached, waited
 
 VERSION = b"VERSION:2.0.0\r\n"
+# What has come to this process is read within so long, in seconds.
+AT_HAND = 0.01
 
 
 class Resumer(threading.Thread):
@@ -88,7 +91,10 @@ def told(match, node, seat, words, count, ends=False, is_slow=False):
         got, has_ended, until = b"", False, time.monotonic() + patience()
         try:
             while not has_ended and time.monotonic() < until:
-                connection.settimeout(QUIET if got.count(b"\n") >= count and not ends else patience())
+                is_all = got.count(b"\n") >= count and not ends
+                if is_all:
+                    pause(QUIET)
+                connection.settimeout(AT_HAND if is_all else patience())
                 more = connection.recv(1 << 16)
                 got, has_ended = got + more, not more
         except socket.timeout:

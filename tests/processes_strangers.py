@@ -11,7 +11,8 @@ import threading
 import time
 from pathlib import Path
 
-from serving import FAST, patience, reached, want, waited
+from measuring import NotMeasured, in_time, measured, want
+from serving import FAST, patience, reached, waited
 
 from processes_keys import League
 from processes_match import PACE, Match, meanwhile, random_bytes, said, test
@@ -108,8 +109,8 @@ ANY_CHANGE = ["125 WrongTag", "120 BadLength", "121 BadKind", "124 WrongProof", 
 @contextlib.contextmanager
 def crowd(match, node, count):
     """So many callers at a node's port at once, who prove nothing: half of them say the Hello of node 2. One that is closed
-    comes again a second later."""
-    is_over, sockets = threading.Event(), []
+    comes again a second later. The numbers of those who came, each as often."""
+    is_over, came = threading.Event(), []
     words = hello(match, 2, node, link=1)
 
     def stay(number):
@@ -118,6 +119,7 @@ def crowd(match, node, count):
                 with socket.create_connection(("127.0.0.1", match.ports[node]), timeout=1) as caller:
                     caller.settimeout(0.2)
                     caller.sendall(words if number % 2 else words[:3])
+                    came.append(number)
                     while not is_over.is_set():
                         try:
                             if not caller.recv(1 << 16):
@@ -132,7 +134,7 @@ def crowd(match, node, count):
     for thread in threads:
         thread.start()
     try:
-        yield
+        yield came
     finally:
         is_over.set()
         for thread in threads:
@@ -150,7 +152,7 @@ def crowds(seed, is_long):
     bytes at each port."""
     match = League(pace=PACE / 2, hands=240).begin()
     match.goes_on(20)
-    with crowd(match, 0, 64):
+    with crowd(match, 0, 64) as came:
         match.goes_on(20)
         for node in (1, 2):
             count = joined(match, 0, node)
@@ -163,6 +165,7 @@ def crowds(seed, is_long):
         match.start(0)
         waited(lambda: joined(match, 1, 0) > count, "node 0 at node 1", match.last_notes)
         match.goes_on(10)
+    in_time(len({*came}) == 64, f"{len({*came})} callers came of 64, {len(came)} times")
     noise = random_bytes(seed, 10_000_000)
     for port in [*match.ports, *match.statuses, *(port + seat for port in match.seats for seat in range(2))]:
         said(port, noise)
@@ -254,6 +257,10 @@ COMMANDS, THOUGHT = 9, 0.005
 SOON, LATE = 1.0, 8.0
 # The most notes of a process a second, and their mean length.
 NOTES, NOTE_BYTES = 50, 100
+# The least that attackers do in a second: bytes of empty lines that a flood sends, and tokens that are shown as fast as can be.
+FLOODED, SHOWN = 100_000, 20
+# How many of 2,000 who ask at once come at least.
+ASKERS = 1900
 
 
 def besieged(seed, net=slow_hosts, **more):
@@ -266,7 +273,7 @@ def besieged(seed, net=slow_hosts, **more):
 def hands_a_second(match, seconds):
     """How fast a match goes on, for so long."""
     count = len(match.seen)
-    with match.measured():
+    with measured():
         time.sleep(seconds)
     match.is_alive()
     return (len(match.seen) - count) / COMMANDS / seconds
@@ -313,9 +320,10 @@ def withstands(match, delay, rate, *nodes):
         joins = [time_to_join(match, node) for node in (2, 0)]
         after = hands_a_second(match, 3)
     seconds = time.monotonic() - begun
-    figures = f"{1000 * delay:.0f} ms a way, {them.told.split()[0]} strangers in {seconds:.0f} s: {calm:.1f} hands a second before, {during:.1f} and {after:.1f} meanwhile, nodes 2 and 0 join {' and '.join(map(told, joins))}, {notes_bytes(match) - before} bytes of notes"
+    figures = f"{1000 * delay:.0f} ms a way, {them.made} strangers in {seconds:.0f} s: {calm:.1f} hands a second before, {during:.1f} and {after:.1f} meanwhile, nodes 2 and 0 join {' and '.join(map(told, joins))}, {notes_bytes(match) - before} bytes of notes"
     want(are_few(match, before, seconds), figures)
-    match.in_time(min(during, after) >= calm / 3 and all(it is not None and it <= SOON for it in joins), figures)
+    them.did(made=rate * seconds / 2)
+    in_time(min(during, after) >= calm / 3 and all(it is not None and it <= SOON for it in joins), figures)
     match.ends()
     return figures
 
@@ -375,12 +383,14 @@ def strangers_at_seats(seed, is_long):
     token gets a line soon."""
     match, delay = besieged(seed)
     match.begin().goes_on(20)
-    calm = hands_a_second(match, 2)
+    calm, begun = hands_a_second(match, 2), time.monotonic()
     with dialling_seats(match, 2000, 0, 0, 1, 2) as them:
         during = hands_a_second(match, 3)
         times = [time_to_be_seated(match, 0, node) for node in (0, 1, 2)]
-    figures = f"{1000 * delay:.0f} ms a way, {them.told.split()[0]} strangers: {calm:.1f} hands a second before, {during:.1f} meanwhile, a line comes {', '.join(map(told, times))}, {notes_bytes(match)} bytes of notes"
-    match.in_time(during >= calm / 3 and all(it is not None and it <= 2 * SOON for it in times), figures)
+        seconds = time.monotonic() - begun
+    figures = f"{1000 * delay:.0f} ms a way, {them.made} strangers: {calm:.1f} hands a second before, {during:.1f} meanwhile, a line comes {', '.join(map(told, times))}, {notes_bytes(match)} bytes of notes"
+    them.did(made=2000 * seconds / 2)
+    in_time(during >= calm / 3 and all(it is not None and it <= 2 * SOON for it in times), figures)
     match.ends()
     return figures
 
@@ -397,16 +407,18 @@ def flooding_seat(seed, is_long):
     before, begun = notes_bytes(match), time.monotonic()
     with flooding(match, 1_000_000, 0, 0, 1, 2) as flood:
         match.goes_on(1)
-        during = hands_a_second(match, 5)
-        ran = match.windows[-1][0] / 5
+        with measured() as window:
+            during = hands_a_second(match, 5)
+        ran = window.of(match.program).ran / 5
         notes, seconds = notes_bytes(match) - before, time.monotonic() - begun
         is_quiet = are_few(match, before, seconds)
         join = time_to_join(match, 2)
-    lines = int(flood.told.split()[1])
+    lines = flood.sent
     cost = ran / (lines / (time.monotonic() - begun))
     figures = f"{1000 * delay:.0f} ms a way, {lines // 1000} KB of empty lines: {calm:.1f} hands a second before, {during:.1f} meanwhile, node 2 joins {told(join)}, {notes} bytes of notes in {seconds:.0f} s, {1e6 * cost:.2f} us of a processor a line"
     want(is_quiet, figures)
-    match.in_time(during >= calm / 3 and join is not None and join <= SOON, figures)
+    flood.did(sent=FLOODED * seconds)
+    in_time(during >= calm / 3 and join is not None and join <= SOON, figures)
     match.let_bots_come([0])
     match.ends()
     return figures
@@ -439,18 +451,20 @@ def notes_and_a_small_disk(seed, is_long):
     """Stores, logs and notes are on one disk with 20 MB free, and the flood is on: no process ends, and the match goes on
     behind it. In the long form for ten minutes."""
     with Room("20m") as room:
-        want(room.is_there, "no disk could be mounted")
+        if not room.is_there:
+            raise NotMeasured("no disk could be mounted")
         match = Besieged(Loopback(3), hands=10_000, pace=THOUGHT, place=room.folder)
         match.set_up()
         match.let_bots_come([1])
         free, before, begun = room.free(), notes_bytes(match), time.monotonic()
-        with flooding(match, 1_000_000, 0, 0, 1, 2):
+        with flooding(match, 1_000_000, 0, 0, 1, 2) as flood:
             until = begun + (570 if is_long else 15)
             while time.monotonic() < until and room.free() > 0 and match.is_alive():
                 time.sleep(0.1)
             seconds, left = time.monotonic() - begun, room.free()
             figures = f"{left >> 20} of {free >> 20} MB are free after {seconds:.0f} s, {notes_bytes(match) - before} bytes of notes, {len(match.seen)} commands"
             want(left > 0 and are_few(match, before, seconds) and match.is_alive(), figures)
+        flood.did(sent=FLOODED * seconds)
         match.let_bots_come([0])
         match.goes_on(20)
         return figures
@@ -477,7 +491,7 @@ def lines_before_answers(seed, is_long):
     figures = f"90 commands in {seconds:.1f} s, {notes_bytes(match)} bytes of notes"
     is_quiet = are_few(match, 0, seconds)
     want(is_quiet, figures)
-    match.in_time(seconds <= 10, figures)
+    in_time(seconds <= 10, figures)
     match.ends()
     return figures
 
@@ -489,17 +503,20 @@ def shown_again(seed, is_long):
     match, delay = besieged(seed, wait=1, hands=12)
     match.set_up()
     match.let_bots_come([1])
-    with showing(match, 0.7, 0, 0, 1, 2):
+    begun = time.monotonic()
+    with showing(match, 0.7, 0, 0, 1, 2) as shown:
         match.goes_on(2)
         until, times = time.monotonic() + (60 if is_long else 12), []
         while time.monotonic() < until:
-            count, begun = len(match.seen), time.monotonic()
+            count, since = len(match.seen), time.monotonic()
             waited(lambda: len(match.seen) > count, "a command", match.last_notes)
-            times.append(time.monotonic() - begun)
+            times.append(time.monotonic() - since)
+        seconds = time.monotonic() - begun
+    shown.did(made=seconds / 0.7 / 2)
     match.let_bots_come([0])
     match.ends()
     figures = f"{1000 * delay:.0f} ms a way: an act takes {max(times):.1f} s at most, {notes_bytes(match)} bytes of notes"
-    match.in_time(max(times) <= match.count + 1 + SOON, figures)
+    in_time(max(times) <= match.count + 1 + SOON, figures)
     return figures
 
 
@@ -514,9 +531,10 @@ def shown_without_end(seed, is_long):
         during = hands_a_second(match, 4)
         join = time_to_join(match, 2)
     seconds = time.monotonic() - begun
-    figures = f"{1000 * delay:.0f} ms a way, {shown.told.split()[0]} tokens in {seconds:.0f} s: {during:.1f} hands a second, node 2 joins {told(join)}, {notes_bytes(match) - before} bytes of notes"
+    figures = f"{1000 * delay:.0f} ms a way, {shown.made} tokens in {seconds:.0f} s: {during:.1f} hands a second, node 2 joins {told(join)}, {notes_bytes(match) - before} bytes of notes"
     want(are_few(match, before, seconds), figures)
-    match.in_time(during > 0 and join is not None and join <= SOON, figures)
+    shown.did(made=SHOWN * seconds)
+    in_time(during > 0 and join is not None and join <= SOON, figures)
     match.ends()
     return figures
 
@@ -546,11 +564,12 @@ def many_askers(seed, is_long):
             them.program.stdout.readline()
             times.append(time_to_line(match, 0))
             during = hands_a_second(match, 2) if not is_idle else during
+        them.did(made=ASKERS)
         match.may_act.set()
     figures = f"{1000 * delay:.0f} ms a way: a line comes after {times[0]:.2f} s, at an idle table after {times[1]:.2f} s; {calm:.1f} hands a second before, {during:.1f} meanwhile"
     is_quiet = are_few(match, before, time.monotonic() - begun)
     want(is_quiet, figures)
-    match.in_time(max(times) <= 1 and during >= calm / 3, figures)
+    in_time(max(times) <= 1 and during >= calm / 3, figures)
     match.ends()
     return figures
 
@@ -564,14 +583,18 @@ def besieged_match(seed, is_long):
         match = Besieged(slow_hosts(3), hands=hands if is_attacked else 300)
         match.set_up()
         sink = Sink(match)
-        with sink, dialling(match if is_attacked else sink, 2000, 0, 1), flooding(match if is_attacked else sink, 333_000, 0, 0, 1, 2):
+        attacked = match if is_attacked else sink
+        with sink, dialling(attacked, 2000, 0, 1) as them, flooding(attacked, 333_000, 0, 0, 1, 2) as flood:
             begun = time.monotonic()
             match.let_bots_come([1] if is_attacked else [0, 1])
             until = begun + (480 if is_long else 40)
             while time.monotonic() < until and match.hand < match.hands - 1 and match.is_alive():
                 time.sleep(0.01)
-            speeds.append((match.hand + 1) / (time.monotonic() - begun))
-        match.in_time(match.hand == match.hands - 1 and speeds[-1] >= speeds[0] / 3, f"{match.hand} of {match.hands} hands: {speeds} a second")
+            seconds = time.monotonic() - begun
+            speeds.append((match.hand + 1) / seconds)
+        them.did(made=2000 * seconds / 2)
+        flood.did(sent=FLOODED * seconds)
+        in_time(match.hand == match.hands - 1 and speeds[-1] >= speeds[0] / 3, f"{match.hand} of {match.hands} hands: {speeds} a second")
         match.let_bots_come([0])
         match.ends()
         Match.made.pop().remove()

@@ -7,8 +7,9 @@ import subprocess
 import time
 from pathlib import Path
 
+from measuring import clock, in_time, measured, pause, want
 from refuser import refuser_in
-from serving import TOP, free_ports, in_time, is_free, patience, want, waited
+from serving import TOP, WAIT, free_ports, is_free, patience, waited
 
 from processes_match import Match
 from relay_match import GAME, OTHER_TIME, VERSION, Dialler, Node, Relay, test
@@ -202,7 +203,7 @@ def another_match(folder, seed, is_long):
     nodes[0].said, nodes[0].stays = b"#OTHER\r\n", False
     nodes[0].hang_up()
     relay.await_note("node 0: it has another match: the bot's last line isn't one of it")
-    time.sleep(OTHER_TIME + 2)
+    pause(OTHER_TIME + 2)
     want(relay.process.poll() is None, f"the relay goes on: {relay.notes()}")
     want(nodes[0].asked[0] == b"NEWEST", f"asked for are {nodes[0].asked}")
     begun = time.monotonic()
@@ -227,13 +228,13 @@ def answers_go_to_one_node(folder, seed, is_long):
     want(bot.line() == LINE + END, "the line")
     for node in (nodes[0], nodes[3]):
         node.say(LINE + END)
-    time.sleep(0.2)
+    pause(0.2)
     bot.say(b"x\r\n;comment\r\n#comment\n" + BEFORE + b":c\r\n" + LINE + b"\r\n" + b"y" * 9000 + END)
-    begun = time.monotonic()
+    begun, until = time.monotonic(), clock() + WAIT
     bot.say(LINE + b":c\r\n")
     answer, times = LINE + b":c" + END, {}
     while len(times) < 3:
-        want(time.monotonic() < begun + patience(), f"the answer went to {times}")
+        want(clock() < until, f"the answer went to {times}")
         # (what is seen at once, by a test that didn't run itself meanwhile, has one time)
         all_got, took = got_by(nodes), time.monotonic() - begun
         for number, got in enumerate(all_got):
@@ -246,7 +247,7 @@ def answers_go_to_one_node(folder, seed, is_long):
         # (a busy machine may be late, and never early)
         want(due - 0.01 <= times[number], f"node {number} was told after {times[number]:.2f} s, not {due}")
         in_time(times[number] < due + 3, f"node {number} was told after {times[number]:.2f} s, not {due}")
-    time.sleep(4.5)
+    pause(4.5)
     want(got_by(nodes) == [answer, b"", answer, answer], f"nodes got {got_by(nodes)}")
     # The line comes of the node that hadn't told it yet: now it is told the answer too.
     nodes[1].say(LINE + END)
@@ -257,9 +258,9 @@ def answers_go_to_one_node(folder, seed, is_long):
     nodes[0].say(further + END)
     want(bot.line() == further + END, "the next line")
     # (what a busy machine had said to others before that line came is with them by then)
-    time.sleep(0.5)
+    pause(0.5)
     before = got_by(nodes)
-    time.sleep(2.5)
+    pause(2.5)
     want(got_by(nodes) == before, f"an answer is said once there is a further line: {before}, {got_by(nodes)}")
     bot.close()
     relay.ends(1, "the bot ended its connection")
@@ -268,15 +269,15 @@ def answers_go_to_one_node(folder, seed, is_long):
 
 
 # How often what is to come at once is tried, since on a busy machine it may be late.
-TRIES = 10
+TRIES = 5
 
 
 def is_at_once(once, most):
     """Of so many tries, each of which says how long it took, one took less than so many seconds."""
     times = []
-    while not times or times[-1] >= most:
-        want(len(times) < TRIES, f"what is to come at once came after {', '.join(f'{it:.2f}' for it in times)} s")
+    while len(times) < TRIES and (not times or times[-1] >= most):
         times.append(once(len(times)))
+    in_time(times[-1] < most, f"what is to come at once came after {', '.join(f'{it:.2f}' for it in times)} s")
 
 
 @test()
@@ -322,7 +323,7 @@ def only_node_with_the_line_hangs(folder, seed, is_long):
         want(bot.line() == LINE + END, "the line")
         bot.say(answer)
         waited(lambda: got_by(nodes)[0] == answer, "the answer at the node")
-        time.sleep(1.2)
+        pause(1.2)
         want(got_by(nodes)[1] == b"", "who hasn't told the line isn't told the answer")
         told = time.monotonic()
         nodes[1].say(LINE + END)
@@ -394,12 +395,16 @@ def wrong_actions_without_mending(folder, seed, is_long):
     relay.ends(1)
 
 
-def ticks_in_a_second(relay):
-    """For how many hundredths of the next second a relay has a processor."""
-    ticks = lambda: sum(map(int, Path(f"/proc/{relay.process.pid}/stat").read_text().rpartition(")")[2].split()[11:13]))
-    before = ticks()
-    time.sleep(1)
-    return ticks() - before
+def wanted_in_a_second():
+    """For how many seconds of the next one the relay has a processor, or waits for one."""
+    with measured() as window:
+        time.sleep(1)
+    return sum(window.of(Match.program))
+
+
+def most_memory(relay):
+    """How many KiB a relay had at most so far."""
+    return int(re.search(r"VmHWM:\s+(\d+) kB", Path(f"/proc/{relay.process.pid}/status").read_text())[1])
 
 
 @test()
@@ -409,11 +414,9 @@ def a_bot_that_does_not_read(folder, seed, is_long):
     nodes = [Node(lines), Node(lines)]
     relay = relayed(folder, nodes)
     bot = Dialler(relay, room=4096)
-    time.sleep(2)
-    kibibytes = int(Path(f"/proc/{relay.process.pid}/statm").read_text().split()[1]) * resource.getpagesize() // 1024
-    want(kibibytes < 16384, f"the relay has {kibibytes} KiB")
+    pause(2)
     # (on a busy machine it takes longer until it waits)
-    waited(lambda: ticks_in_a_second(relay) <= 10, "a relay that waits for its bot, and isn't busy for more than ten hundredths of a second")
+    waited(lambda: wanted_in_a_second() <= 0.1, "a relay that waits for its bot, and isn't busy for more than a tenth of a second")
     got = bytearray()
     while len(got) < len(lines):
         piece = bot.connection.recv(1 << 16)
@@ -421,6 +424,8 @@ def a_bot_that_does_not_read(folder, seed, is_long):
         got += piece
     want(got == lines, "all lines, in order")
     bot.gets_nothing()
+    kibibytes = most_memory(relay)
+    want(kibibytes < 16384, f"the relay had {kibibytes} KiB")
     bot.close()
     relay.ends(1)
     return f"{kibibytes} KiB"
@@ -623,7 +628,7 @@ def no_node_is_reached(folder, seed, is_long):
     """Where no node is reached for --give-up seconds it ends with status 1. The time begins when the bot has come."""
     port = free_ports(1)
     relay = Relay(folder, "relay", f"127.0.0.1:{port}", options=["--give-up", 2])
-    time.sleep(2.5)
+    pause(2.5)
     want(relay.process.poll() is None, "no bot came yet")
     begun, bot = time.monotonic(), Dialler(relay)
     want(bot.line() == b"", "the connection ends")
@@ -661,6 +666,10 @@ def nodes_that_are_away(folder, seed, is_long):
     relay.ends(1, "the bot ended its connection")
 
 
+# How often nodes are looked at while they mustn't be dialled, at least.
+LEAST_LOOKS = 10
+
+
 @test()
 def turned_away(folder, seed, is_long):
     """Nodes that close before any line: a note, and none is dialled for five seconds, then ten."""
@@ -675,6 +684,8 @@ def turned_away(folder, seed, is_long):
         count = [len(node.connections) for node in nodes]
         if told + 1 < time.time() < told + 4.5:
             counts.append(count)
+    # (a test that had no processor meanwhile has seen nothing)
+    in_time(len(counts) >= LEAST_LOOKS, f"the nodes were looked at {len(counts)} times")
     want(counts[:1] * len(counts) == counts, f"nodes are dialled meanwhile: {counts}")
     relay.await_note("turned away: no quorum yet, or a wrong token? dials again in 10 s")
     bot.close()
@@ -694,7 +705,7 @@ def another_client(folder, seed, is_long):
     nodes = [Node(LINE + END, stays=False), Node(LINE + END), Node(LINE + END)]
     relay = relayed(folder, nodes, name="other")
     bot = Dialler(relay)
-    time.sleep(3)
+    pause(3)
     waited(lambda: len(nodes[0].connections) > 5, "it is dialled again and again")
     want(not [note for note in relay.notes() if "another client" in note], f"{relay.notes()}")
     bot.close()

@@ -16,8 +16,9 @@ sys.dont_write_bytecode = True
 sys.path.insert(0, str(Path(__file__).resolve().parent))
 
 import processes_match
+from measuring import in_time, pause, want
 from processes_match import Match, serve
-from serving import FAST, TOP, patience, want, waited
+from serving import FAST, TOP, patience, received_by_now, waited
 
 GAME = "n2.game"
 VERSION = b"VERSION:2.0.0\r\n"
@@ -246,7 +247,9 @@ class RelayMatch(Match):
 def in_words(gaps, median, worst):
     """The median and the greatest of times, in milliseconds. With --timed they have to be below these, in seconds."""
     gaps = sorted(gaps)
-    want(gaps, "no line came after anything")
+    if not gaps:
+        in_time(False, "no line came after anything")
+        return "none"
     middle, most = gaps[len(gaps) // 2], gaps[-1]
     told = f"median {middle * 1000:.1f} ms, worst {most * 1000:.1f} ms of {len(gaps)}"
     want(not IS_TIMED[0] or (middle < median and most < worst), f"lines come late: {told}")
@@ -354,14 +357,9 @@ class Dialler:
 
     def gets_nothing(self, seconds=0.3):
         """Nothing comes for so long."""
-        self.connection.settimeout(seconds)
-        try:
-            got = self.connection.recv(65536)
-        except socket.timeout:
-            return
-        finally:
-            self.connection.settimeout(patience())
-        want(False, f"a bot got {got!r}, where nothing was to come")
+        pause(seconds)
+        got = received_by_now(self.connection)
+        want(got is None, f"a bot got {got!r}, where nothing was to come")
 
     def close(self):
         self.connection.close()

@@ -140,7 +140,7 @@ def written_page(folder):
     status, printed, said = run([GAME, log, "-o", page])
     want((status, printed, said) == (0, "", ""), f"{status}, {printed!r}, {said!r}")
     want(page.read_text(encoding="utf-8") == run([GAME, log])[1], "the page in the file isn't the one that is printed")
-    want(not (folder / "page.html.part").exists(), "a part is left")
+    want(not list(folder.glob("*.part")), "a part is left")
     status, printed, _ = run(["--help"])
     want(status == 0 and "while sleep 60; do tools/replay" in printed, printed)
 

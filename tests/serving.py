@@ -13,7 +13,6 @@ import sys
 import tempfile
 import threading
 import time
-import traceback
 from pathlib import Path
 
 sys.dont_write_bytecode = True
@@ -21,19 +20,20 @@ TOP = Path(__file__).resolve().parent.parent
 sys.path.insert(0, str(TOP / "examples/bots"))
 
 import player
+from measuring import Tally, Wrong, clock, in_time, pause, result, want  # noqa: F401, for those who have all from here
 from player import play
 from table import Game, turn_of
 
 # The longest wait for anything that has to happen, and how long is waited for what must not, in seconds.
 WAIT, QUIET = 40, 0.4
+# How many times as long the wall's clock may take, which goes on while programs wait for a processor.
+BY_THE_WALL = 3
 # How long a player goes on dialling who never got a line, and how long one dial may take, in seconds.
 FIRST_LINE, REACHED = 10, 2
-# How often a test is tried that measures times: one that is late each time fails.
-TRIES = 3
 # Below those that a system gives to connections; and in how many parts processes of scripts that run side by side take them.
 PORTS, PARTS = (10000, 32000), 20
-# When all tests have to be done; nothing that has to happen is waited for beyond it.
-END = [None]
+# How long a whole script may take, in seconds. When all tests have to be done: nothing that has to happen is waited for beyond it.
+HOUR, END = 3600, [None]
 # Where nothing waits for a disk, if there is such a place.
 FAST = "/dev/shm" if os.access("/dev/shm", os.W_OK) else None
 NAMES = ["alice", "bob", "carol", "dave", "erin", "frank", "grace", "heidi", "ivan", "judy"]
@@ -51,46 +51,29 @@ def loaded(path):
     return module
 
 
-class Wrong(Exception):
-    """What a test found otherwise than it must be."""
-
-
-class Late(Wrong):
-    """What a test measured took longer than it may. A busy machine may be late: the test is tried again. Where the programs had no
-    processor for the most part, each time, nothing was measured."""
-
-    def __init__(self, text, was_starved):
-        super().__init__(text)
-        self.was_starved = was_starved
-
-
-def want(is_so, text):
-    if not is_so:
-        raise Wrong(text)
-
-
-def in_time(is_so, text, was_starved=False):
-    """What has to be so where the machine isn't too busy for it."""
-    if not is_so:
-        raise Late(text, was_starved)
-
-
 def patience():
-    """How long anything that has to happen may still take, in seconds."""
-    return WAIT if END[0] is None else max(0.1, min(WAIT, END[0] - time.monotonic()))
+    """How long a connection, a thread or a program may still take that the clock on the wall is watched for, in seconds."""
+    return BY_THE_WALL * WAIT if END[0] is None else max(0.1, min(BY_THE_WALL * WAIT, END[0] - time.monotonic()))
 
 
-def waited(happened, text, notes=lambda: "", seen=lambda: None):
-    """Waits until something has happened, and fails where that takes too long, telling the notes. Its value. Whenever what `seen`
-    says has changed the wait begins anew, until all tests have to be done: what goes on slowly, on a busy machine, isn't stuck."""
-    steps, until = seen(), time.monotonic() + patience()
+def is_over():
+    """Whether all tests have to be done."""
+    return END[0] is not None and time.monotonic() >= END[0]
+
+
+def waited(happened, text, notes=lambda: "", seen=lambda: None, most=None):
+    """Waits until something has happened, and fails where that takes too long, telling the notes. Its value. Time in which the
+    programs, or the test itself, wait for a processor doesn't count. Whenever what `seen` says has changed the wait begins anew,
+    until all tests have to be done: what goes on slowly, on a busy machine, isn't stuck."""
+    most = most or WAIT
+    steps, until = seen(), clock() + most
     while True:
         # (a test that didn't run itself for long looks once more)
-        is_late, value = time.monotonic() >= until, happened()
+        is_late, value = is_over() or clock() >= until, happened()
         if value:
             return value
-        if seen() != steps and (END[0] is None or time.monotonic() < END[0]):
-            steps, until = seen(), time.monotonic() + patience()
+        if seen() != steps and not is_over():
+            steps, until = seen(), clock() + most
         elif is_late:
             raise Wrong(f"waited in vain: {text}; {notes()}")
         time.sleep(0.005)
@@ -258,7 +241,7 @@ class Match:
 
     def goes_on(self):
         """Nothing ends within a while."""
-        time.sleep(QUIET)
+        pause(QUIET)
         want(self.process.poll() is None, f"serve ended with {self.process.poll()}: {self.notes()}")
 
     def ends(self, status=0, last=None):
@@ -322,6 +305,19 @@ class Player(threading.Thread):
         return self.lines
 
 
+def received_by_now(connection):
+    """What a connection has received that wasn't read; nothing where its other end is gone, None where there is nothing."""
+    connection.settimeout(0)
+    try:
+        return connection.recv(65536)
+    except BlockingIOError:
+        return None
+    except OSError:
+        return b""
+    finally:
+        connection.settimeout(patience())
+
+
 class Client:
     """A client that does what it is told to."""
 
@@ -366,14 +362,8 @@ class Client:
             return b""
 
     def gets_nothing(self):
-        self.connection.settimeout(QUIET)
-        try:
-            got = self.connection.recv(1)
-        except socket.timeout:
-            got = None
-        except OSError:
-            got = b""
-        self.connection.settimeout(patience())
+        pause(QUIET)
+        got = received_by_now(self.connection)
         want(got is None, f"a client got {got!r}, where nothing was to come")
 
     def is_closed(self):
@@ -411,51 +401,29 @@ def follow(client, answer):
         line = client.line()
 
 
-def in_tries(once):
-    """What a test found, in words, and what it tells. Where it was late it is tried again, and tells that too."""
-    late, found, told = [], None, None
-    while len(late) < TRIES:
-        found, told = once()
-        if not isinstance(found, Late):
-            break
-        late.append(found)
-    if len(late) == TRIES and all(it.was_starved for it in late):
-        found, told = None, "not measured, since the programs had no processor"
-    return found and str(found), told if found else "; ".join([*([told] if told else []), *(f"late: {it}" for it in late)]) or None
-
-
 def tried(function):
-    """What a test found, and that it tells nothing. Its matches' programs are killed, and their folders go."""
+    """Runs a test. Its matches' programs are killed, and their folders go."""
     try:
-        want(time.monotonic() < END[0], "the tests took too long")
-        function()
-        return None, None
-    except Wrong as why:
-        return why, None
-    except Exception:
-        return traceback.format_exc(), None
+        want(not is_over(), "the tests took too long")
+        return function()
     finally:
         while Match.made:
             Match.made.pop().remove()
 
 
-def run_all(name, about, tests, most, words):
-    """Runs the tests of a script that is to take so many seconds at most, and tells what they found. Its words may name
-    another program than the built one."""
+def run_all(name, about, tests, words):
+    """Runs the tests of a script, and tells what they found. Its words may name another program than the built one."""
     if words[:1] in (["-h"], ["--help"]):
         print(about.strip())
         return 0
     if words:
         Match.program = Path(words[0]).resolve()
-    END[0], failed = time.monotonic() + most, 0
+    END[0], tally = time.monotonic() + HOUR, Tally(name)
     for function in tests:
         begun = time.monotonic()
-        found, told = in_tries(lambda: tried(function))
-        title = function.__name__.replace("_", " ") + (f" ({told})" if told else "")
-        print(f"{name}: {time.monotonic() - begun:5.1f} s  {title}" + (f": {found}" if found else ""), flush=True)
-        failed += found is not None
-    print(f"{len(tests) - failed} passed, {failed} failed")
-    return 1 if failed else 0
+        found = result(lambda: tried(function))
+        tally.add(function.__name__.replace("_", " "), found, time.monotonic() - begun)
+    return tally.end()
 
 
 socket.setdefaulttimeout(WAIT)
