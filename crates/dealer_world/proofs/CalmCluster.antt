@@ -1,19 +1,16 @@
--- A cluster at rest moves: its events are those of a round of the rules.
-use Rattle.std.proofs.Common.{Option, Some, None, ◌≡◌, ◌≢◌, ℕ, ◌+◌, ◌<◌, ◌≤◌, ◌-◌, ◌^◌, ◌⊎◌, inl, inr, Bool, true, false, ◌==◌, if◌then◌else◌, List, [], ◌∷◌, ◌++◌, map, length, get_or, set, Result, Err, IsTrue, refl, ap, sym, ◌∙◌, subst, arith, length-set, get_or-set_same, get_or-set_other, le_refl}
+-- A cluster moves on: its events are those of a way of the rules.
+use Rattle.std.proofs.Common.{Option, Some, None, ◌≡◌, ◌≢◌, ℕ, ◌+◌, ◌<◌, ◌≤◌, ◌-◌, ◌^◌, ◌⊎◌, inl, inr, true, false, ◌==◌, List, [], ◌∷◌, ◌++◌, length, get_or, set, Result, Err, IsTrue, refl, ap, sym, ◌∙◌, subst, arith, length-set, get_or-set_same, get_or-set_other, le_refl}
 use Rattle.std.proofs.Math.Logic.{∥∥₁_map, ∥∥₁_elim}
 use Rattle.std.proofs.lemmas.List.{get_or_default}
 use Rattle.std.proofs.lemmas.Bool.Decides.{eqb_tells}
 use Rattle.promise_store.specs.declared.disk.Disk.{Ghosts}
 use Rattle.promise_store.specs.Disks.{Rose}
 use Rattle.promise_store.specs.declared.fault.StoreFault.TheVariants.{Disk}
-use Rattle.paxos_wire.specs.declared.ballot.Ballot.{Ballot}
-use Rattle.slot_log.specs.declared.command.Command.{Command}
 use Rattle.protocol_model.specs.Sets.{In}
-use Rattle.protocol_model.specs.Ballots.{Below}
-use Rattle.protocol_model.specs.Messages.{Vote}
 use Rattle.protocol_model.specs.Stores.{Store, empty_store}
-use Rattle.protocol_model.proofs.Sets.{in_first, in_later, in_split}
+use Rattle.protocol_model.proofs.Sets.{in_first, in_later}
 use Rattle.node_rules.proofs.Members.{above_all}
+use Rattle.node_rules.proofs.WayMembers.{AllIn, way_in, movable_same, way_same, some_command}
 use Rattle.dealer_kind.specs.Plans.{Plan}
 use Rattle.node_rules.specs.Standings.{Place, Standing, place_of, stopped, front_of}
 use Rattle.node_rules.specs.Sending.{Frame as Outgoing}
@@ -21,14 +18,11 @@ use Rattle.node_rules.specs.Showing.{Piece as Shown, SeatFault}
 use Rattle.node_rules.specs.Calls.{Call, Start, Tick, Line, Connect, Drop, Stop}
 use Rattle.node_rules.specs.Calls as call
 use Rattle.node_rules.specs.Called.{Ends, took, refused, failed, unchanged}
-use Rattle.protocol_model.specs.Votes.{told_by}
-use Rattle.node_rules.specs.Proposing.{is_over, own_value}
-use Rattle.paxos_wire.specs.declared.limits.TheConstants.{SLOTS, WINDOW}
-use Rattle.node_rules.specs.Calm.{without, IsHeld, IsGreatestHeld, AreGreatestHeld, IsUnheld, IsToldCommandRun, Calm, Ticks, Delivers, delivers, ballot_after, round}
+use Rattle.node_rules.specs.Calm.{Ticks, Delivers}
 use Rattle.node_rules.specs.Calm as calm
 use Rattle.node_rules.specs.CalmRound as of_round
 use Rattle.node_rules.specs.CalmRound.{AreKnown}
-use Rattle.paxos_wire.specs.declared.message.Message.TheVariants.{Prepare, Promise, Accept, Accepted}
+use Rattle.node_rules.specs.Ways.{IsWay, CalmIsMovable}
 use Rattle.dealer_node.specs.Nodes.{Node}
 use Rattle.dealer_node.specs.declared.fault.NodeFault.{NodeFault}
 use Rattle.dealer_node.specs.declared.fault.NodeFault.TheVariants as fault
@@ -44,8 +38,8 @@ use Rattle.dealer_world.specs.RuleRuns.{State}
 use Rattle.dealer_world.specs.Events.{node_of, call_of}
 use Rattle.dealer_world.specs.Stepping.{View, Stepped, Ran, none, more, arrived_by_event, begins_by_event}
 use Rattle.dealer_world.specs.Ruling.{AreAtPlaces, AreSeen, IsBehind}
-use Rattle.dealer_world.specs.CalmRun.{standing_at, IsUntroubled, TakesEvent, TakesEvents, RoundsMoveOn}
-use Rattle.dealer_world.specs.CalmCluster.{IsEvent, AreEvents, HaveNotFailed, MovesOn}
+use Rattle.dealer_world.specs.CalmRun.{standing_at, IsUntroubled, TakesEvent, TakesEvents, NoDeadEnd}
+use Rattle.dealer_world.specs.CalmCluster.{IsEvent, AreEvents, HaveNotFailed, MovesOn, ClustersAtRestMove}
 use Rattle.dealer_world.proofs.Ruled.{ruled_by, front_seen, same_count, seen_at, seen_set}
 use Rattle.dealer_world.proofs.Advancing.{same_place}
 use Rattle.dealer_world.proofs.Answering.{all_is, TellsUp}
@@ -110,149 +104,6 @@ split (x ∷ before) e (y ∷ ys) are =
 takes_one_more : (plan : Plan) (first : State) (ys : List calm.Event) (between last : State) (y : calm.Event) → TakesEvents plan first ys between → TakesEvent plan between y last → TakesEvents plan first (ys ++ y ∷ []) last
 takes_one_more plan first [] between last y e takes = (last, subst (λ (s : State). TakesEvent plan s y last) e takes, refl)
 takes_one_more plan first (x ∷ ys) between last y (mid, one, rest) takes = (mid, one, takes_one_more plan mid ys between last y rest takes)
-
--- ---- all are members
-
-abbrev AllIn : List ℕ → List calm.Event → Type 0
-AllIn members ys = (y : calm.Event) → In y ys → In (of_round.node_of y) members
-
-from_map : (f : ℕ → calm.Event) (to : ℕ → ℕ) (js : List ℕ) (members : List ℕ) → ((j : ℕ) → of_round.node_of (f j) ≡ to j) → ((j : ℕ) → In j js → In (to j) members)
-    → (y : calm.Event) → In y (map f js) → In (of_round.node_of y) members
-from_map f to [] members at inside y h = absurd h
-from_map f to (j ∷ js) members at inside y (inl e) = subst (λ (k : ℕ). In k members) (sym (ap of_round.node_of e ∙ at j)) (inside j (inl refl))
-from_map f to (j ∷ js) members at inside y (inr h) = from_map f to js members at (λ k i. inside k (inr i)) y h
-
-without_step : (i m : ℕ) (ms : List ℕ) (k : ℕ) (b : Bool) → (In k (without i ms) → In k ms) → In k (if b then without i ms else m ∷ without i ms) → In k (m ∷ ms)
-without_step i m ms k true later h = inr (later h)
-without_step i m ms k false later (inl e) = inl e
-without_step i m ms k false later (inr h) = inr (later h)
-
-without_in : (i : ℕ) (ms : List ℕ) (k : ℕ) → In k (without i ms) → In k ms
-without_in i [] k h = absurd h
-without_in i (m ∷ ms) k h = without_step i m ms k (m == i) (λ t. without_in i ms k t) h
-
-round_in : (standings : ℕ → Standing) (i : ℕ) (members : List ℕ) (commands : List Command) → In i members → (y : calm.Event) → In y (round standings i members commands) → In (of_round.node_of y) members
-round_in standings i members commands among y (inl e) = subst (λ (k : ℕ). In k members) (sym (ap of_round.node_of e)) among
-round_in standings i members commands among y (inr h) = elim (in_split (map asks others) _ y h) [
-  | inl a ↦ from_map asks (λ j. j) others members (λ j. refl) (λ j k. without_in i members j k) y a
-  | inr h ↦ elim (in_split (map promises others) _ y h) [
-    | inl a ↦ from_map promises (λ j. i) others members (λ j. refl) (λ j k. among) y a
-    | inr h ↦ elim (in_split (map proposes others) _ y h) [
-      | inl a ↦ from_map proposes (λ j. j) others members (λ j. refl) (λ j k. without_in i members j k) y a
-      | inr a ↦ from_map accepts (λ j. i) others members (λ j. refl) (λ j k. among) y a
-    ]
-  ]
-]
-  where
-    b : Ballot
-    b = ballot_after i (standings i)
-
-    f : ℕ
-    f = front_of (standings i)
-
-    others : List ℕ
-    others = without i members
-
-    asks : ℕ → calm.Event
-    asks j = delivers i j (Prepare (ballot_after i (standings i)) (front_of (standings i)))
-
-    promises : ℕ → calm.Event
-    promises j = delivers j i (Promise (ballot_after i (standings i)) (front_of (standings i)) (told_by (standings j).store (front_of (standings i))))
-
-    proposes : ℕ → calm.Event
-    proposes j = delivers i j (Accept (ballot_after i (standings i)) (front_of (standings i)) commands)
-
-    accepts : ℕ → calm.Event
-    accepts j = delivers j i (Accepted (ballot_after i (standings i)) (front_of (standings i)) commands)
-
--- ---- standings that are the same at all members
-
-map_same : {A : Type 0} (f h : ℕ → A) (js : List ℕ) → ((j : ℕ) → In j js → f j ≡ h j) → map f js ≡ map h js
-map_same f h [] same = refl
-map_same f h (j ∷ js) same = λ k. same j (inl refl) k ∷ map_same f h js (λ m i. same m (inr i)) k
-
-round_same : (a b : ℕ → Standing) (i : ℕ) (members : List ℕ) (commands : List Command) → In i members → ((k : ℕ) → In k members → a k ≡ b k) → round a i members commands ≡ round b i members commands
-round_same a b i members commands among same = λ k.
-    let ballot = ballot_after i (here k) in
-    let slot = front_of (here k) in
-    Ticks i ∷ (map (λ j. delivers i j (Prepare ballot slot)) (without i members)
-    ++ (told k
-    ++ (map (λ j. delivers i j (Accept ballot slot commands)) (without i members)
-    ++ map (λ j. delivers j i (Accepted ballot slot commands)) (without i members))))
-  where
-    here : a i ≡ b i
-    here = same i among
-
-    told : map (λ j. delivers j i (Promise (ballot_after i (a i)) (front_of (a i)) (told_by (a j).store (front_of (a i))))) (without i members)
-        ≡ map (λ j. delivers j i (Promise (ballot_after i (b i)) (front_of (b i)) (told_by (b j).store (front_of (b i))))) (without i members)
-    told = map_same _ _ (without i members)
-        (λ j h k. delivers j i (Promise (ballot_after i (here k)) (front_of (here k)) (told_by (same j (without_in i members j h) k).store (front_of (here k)))))
-
-held_same : (a b : ℕ → Standing) (members : List ℕ) (slot : ℕ) (vote : Vote) → ((k : ℕ) → In k members → a k ≡ b k) → IsHeld a members slot vote → IsHeld b members slot vote
-held_same a b members slot vote same (node, among, e) = (node, among, ap (λ (s : Standing). s.store.votes slot) (sym (same node among)) ∙ e)
-
-greatest_same : (a b : ℕ → Standing) (members : List ℕ) (slot : ℕ) (command : Command) → ((k : ℕ) → In k members → a k ≡ b k) → IsGreatestHeld a members slot command → IsGreatestHeld b members slot command
-greatest_same a b members slot command same held = record {
-  greatest = held.greatest;
-  held = held_same a b members slot held.greatest same held.held;
-  same = held.same;
-  above = λ v h. held.above v (held_same b a members slot v (λ k m. sym (same k m)) h);
-}
-
-all_greatest_same : (a b : ℕ → Standing) (members : List ℕ) (slot : ℕ) (commands : List Command) → ((k : ℕ) → In k members → a k ≡ b k)
-    → AreGreatestHeld a members slot commands → AreGreatestHeld b members slot commands
-all_greatest_same a b members slot [] same held = tt
-all_greatest_same a b members slot (command ∷ later) same (first, rest) = (greatest_same a b members slot command same first, all_greatest_same a b members (slot + 1) later same rest)
-
-unheld_same : (a b : ℕ → Standing) (members : List ℕ) (slot : ℕ) → ((k : ℕ) → In k members → a k ≡ b k) → IsUnheld a members slot → IsUnheld b members slot
-unheld_same a b members slot same unheld = λ v h. unheld v (held_same b a members slot v (λ k m. sym (same k m)) h)
-
-ends_same : (a b : ℕ → Standing) (members : List ℕ) (slot count : ℕ) → ((k : ℕ) → In k members → a k ≡ b k) → (count ≡ WINDOW) ⊎ ((slot ≡ SLOTS) ⊎ IsUnheld a members slot)
-    → (count ≡ WINDOW) ⊎ ((slot ≡ SLOTS) ⊎ IsUnheld b members slot)
-ends_same a b members slot count same (inl window) = inl window
-ends_same a b members slot count same (inr (inl last)) = inr (inl last)
-ends_same a b members slot count same (inr (inr unheld)) = inr (inr (unheld_same a b members slot same unheld))
-
-told_same : (a b : ℕ → Standing) (members : List ℕ) (slot : ℕ) (commands : List Command) → ((k : ℕ) → In k members → a k ≡ b k) → IsToldCommandRun a members slot commands
-    → IsToldCommandRun b members slot commands
-told_same a b members slot commands same told = record {
-  least = told.least;
-  most = told.most;
-  slots = told.slots;
-  held = all_greatest_same a b members slot commands same told.held;
-  ends = ends_same a b members (slot + length commands) (length commands) same told.ends;
-}
-
-calm_same : (place : Place) (a b : ℕ → Standing) (i : ℕ) (members : List ℕ) (commands : List Command) → ((k : ℕ) → In k members → a k ≡ b k) → Calm place a i members commands → Calm place b i members commands
-calm_same place a b i members commands same calm = record {
-  of_node = calm.of_node;
-  quorum = calm.quorum;
-  member = calm.member;
-  up = λ k h. ap (λ (s : Standing). s.up) (sym (same k h)) ∙ calm.up k h;
-  round_left = subst (λ (s : Standing). (ballot_after i s).round < 2 ^ 32) (same i calm.member) calm.round_left;
-  slot_left = subst (λ (s : Standing). front_of s < SLOTS) (same i calm.member) calm.slot_left;
-  unpromised = λ k h. subst (λ (s : Standing). Below s.store.promise (ballot_after i (b i))) (same k h)
-      (subst (λ (s : Standing). Below (a k).store.promise (ballot_after i s)) (same i calm.member) (calm.unpromised k h));
-  goes_on = ap (is_over place) (sym (same i calm.member)) ∙ calm.goes_on;
-  value = elim calm.value [
-    | inl told ↦ inl (subst (λ (s : Standing). IsToldCommandRun b members (front_of s) commands) (same i calm.member) (told_same a b members (front_of (a i)) commands same told))
-    | inr own ↦ inr (
-      own.0,
-      own.1,
-      (
-        subst (λ (s : Standing). IsUnheld b members (front_of s)) (same i calm.member) (unheld_same a b members (front_of (a i)) same own.2.0),
-        ap (own_value place) (sym (same i calm.member)) ∙ own.2.1,
-      ),
-    )
-  ];
-}
-
--- a round has a command
-some_command : (place : Place) (standings : ℕ → Standing) (i : ℕ) (members : List ℕ) (commands : List Command) → Calm place standings i members commands → 1 ≤ length commands
-some_command place standings i members commands calm = elim calm.value [
-  | inl told ↦ told.least
-  | inr own ↦ let one : length commands ≡ 1 = ap (λ (l : List Command). length l) own.1 in omega (arith, one)
-]
 
 -- ---- small facts
 
@@ -434,35 +285,41 @@ module _ {D : Type 0} (g : Ghosts D) where
   up_above member None (Some disk) s slot seen above = let none : front_of s ≡ 0 = ap (λ (k : Standing). front_of k) seen.stopped in absurd (omega (arith, none, above))
   up_above member None None s slot seen above = absurd seen
 
-  pub moves_on : (old new : View (Node D)) (events : List Event) → RoundsMoveOn → SeenAsOne → TellsUp g → ∥ AreAtPlaces old.config old.nodes ∥₁ → length old.nodes ≡ length old.config.sources
+  pub moves_on : (old new : View (Node D)) (events : List Event) → NoDeadEnd → SeenAsOne → TellsUp g → ∥ AreAtPlaces old.config old.nodes ∥₁ → length old.nodes ≡ length old.config.sources
       → IsBehind g old.opened old.config old.nodes old.all → Ran g old events new → MovesOn g old events new
-  moves_on old new events law one up at_places count behind ran before standings i members commands first rest goes honest unforged seen calm_now whole are sound =
+  moves_on old new events law one up at_places count behind ran before standings i members commands first rest goes honest unforged seen movable_now way are sound =
       ∥∥₁_elim at_places (hlevel) (λ each. ∥∥₁_map (behind before goes honest) (λ ruled.
       let plan : Plan = old.config in
       let n : ℕ = length old.config.sources in
       let state : State = state_of ruled.standings old in
-      let low : (k : ℕ) → In k members → k < n = (λ k h. (above_all 0 n members k calm_now.quorum.rise h).1) in
+      let low : (k : ℕ) → In k members → k < n = (λ k h. (above_all 0 n members k movable_now.quorum.rise h).1) in
       let same : (k : ℕ) → In k members → standings k ≡ standing_at plan state k =
       (λ k h. let within : k < length old.nodes = subst (λ (m : ℕ). k < m) (sym count) (low k h) in
       node_there old.nodes k within (λ d.
       one (get_or old.nodes k d) (standings k) (standing_at plan state k) honest (seen k d h)
-      (seen_at g old.nodes ruled.standings k d (stopped (place_of plan k) empty_store empty_store) within ruled.seen) (calm_now.up k h))) in
-      let calm_then = calm_same (place_of plan i) standings (standing_at plan state) i members commands same calm_now in
-      let split_then : round (standing_at plan state) i members commands ≡ first ++ rest = sym (round_same standings (standing_at plan state) i members commands calm_now.member same) ∙ whole in
+      (seen_at g old.nodes ruled.standings k d (stopped (place_of plan k) empty_store empty_store) within ruled.seen) (movable_now.up k h))) in
+      let movable_then = movable_same (place_of plan i) standings (standing_at plan state) i members commands same movable_now in
+      let way_then = way_same standings (standing_at plan state) i members commands (first ++ rest) movable_now.member same way in
       let inside : AllIn members first =
-      (λ y h. round_in (standing_at plan state) i members commands calm_now.member y (subst (λ (l : List calm.Event). In y l) (sym split_then) (in_first first rest y h))) in
+      (λ y h. way_in (standing_at plan state) i members commands (first ++ rest) movable_now.member way_then y (in_first first rest y h)) in
       let m = ran_on n members plan ruled.standings old new events first count low ran are inside each ruled.seen honest up sound in
-      let moved = law plan.setting n before plan.sources state (state_of m.after new) i members commands first rest ruled.runs unforged calm_then split_then m.takes in
-      let within : i < length new.nodes = subst (λ (k : ℕ). i < k) (sym (m.count ∙ count)) (low i calm_now.member) in
-      let front_is : front_of (standing_at plan state i) ≡ front_of (standings i) = ap (λ (x : Standing). front_of x) (sym (same i calm_now.member)) in
+      let moved = (law plan.setting n before plan.sources state (state_of m.after new) i members commands ruled.runs unforged movable_then).1 first rest way_then m.takes in
+      let within : i < length new.nodes = subst (λ (k : ℕ). i < k) (sym (m.count ∙ count)) (low i movable_now.member) in
+      let front_is : front_of (standing_at plan state i) ≡ front_of (standings i) = ap (λ (x : Standing). front_of x) (sym (same i movable_now.member)) in
       let s : Standing = standing_at plan (state_of m.after new) i in (
         moved.0,
         λ all d.
             let is = seen_at g new.nodes m.after i d (stopped (place_of plan i) empty_store empty_store) within m.seen in
             let passed = moved.2 all in
             let further = subst (λ (f : ℕ). (f + length commands ≤ front_of s) × AreKnown s.learned.log f commands) front_is passed in
-            let some = some_command (place_of plan i) standings i members commands calm_now in
+            let some = some_command (place_of plan i) standings i members commands movable_now.value in
             let up_to = further.0 in
             let above : front_of (standings i) < front_of s = omega (arith, some, up_to) in
             (s, is, up_above (member_in (get_or new.nodes i d)) (get_or new.nodes i d).up (get_or new.nodes i d).disk s (front_of (standings i)) is.by above, further.0, further.1),
       )))
+
+  -- a cluster at rest moves
+  pub moves_at_rest : CalmIsMovable → ClustersAtRestMove g
+  moves_at_rest is_movable old new events moves before standings i members commands first rest goes honest unforged seen calm_now whole are sound =
+      let m = is_movable (place_of old.config i) standings i members commands calm_now in
+      moves before standings i members commands first rest goes honest unforged seen m.0 (subst (IsWay standings i members commands) whole m.1) are sound

@@ -1,4 +1,4 @@
--- The round of a cluster at rest, in the runs of the rules.
+-- The ways on of a cluster, in the runs of the rules.
 use Rattle.std.proofs.Common.{◌≡◌, ◌≢◌, ℕ, ◌<◌, ◌⊎◌, inl, inr, Bool, true, false, ◌==◌, if◌then◌else◌, List, [], ◌∷◌, ◌++◌, map, length, Result, Ok, Err, refl, ap, sym, ◌∙◌, subst, arith, get_or, set, get_or-set_same, get_or-set_other}
 use Rattle.std.specs.Prelude.{slice_get, take}
 use Rattle.std.proofs.lemmas.List.{get_or_default, take-append-le}
@@ -20,7 +20,8 @@ use Rattle.node_rules.specs.Calls.{Call}
 use Rattle.node_rules.specs.Rules.{IsTurn}
 use Rattle.node_rules.specs.Called.{Ends, took, refused, failed, unchanged}
 use Rattle.node_rules.specs.Calm.{Event, Ticks, Delivers}
-use Rattle.node_rules.specs.CalmRound.{node_of, call_of, Sent, sent_by, IsOnItsWay, AreReadBack, GoOn, HasMovedOn, AreOf, CalmRoundMoves}
+use Rattle.node_rules.specs.CalmRound.{node_of, call_of, Sent, sent_by, IsOnItsWay, AreReadBack, GoOn, HasMovedOn, AreOf}
+use Rattle.node_rules.specs.Ways.{IsWay, CalmIsMovable, NoDeadEnd as RulesHaveNoDeadEnd}
 use Rattle.dealer_world.specs.Records.{Frame, Record, Arrived, Arrival, log_of, last_start}
 use Rattle.dealer_world.specs.Unforged.{IsAmong, IsUnforged, ArePlaced}
 use Rattle.dealer_world.specs.Headline.{Era}
@@ -28,7 +29,7 @@ use Rattle.dealer_world.specs.Calls.{Made}
 use Rattle.dealer_world.specs.Views.{placed_at, grown}
 use Rattle.dealer_world.specs.Runs.{AreWritten, arrived_at, Keeps}
 use Rattle.dealer_world.specs.RuleRuns.{State, plan_of}
-use Rattle.dealer_world.specs.CalmRun.{standing_at, IsUntroubled, TakesEvent, TakesEvents, IsNextTaken, RoundsMoveOn}
+use Rattle.dealer_world.specs.CalmRun.{standing_at, IsUntroubled, TakesEvent, TakesEvents, IsNextTaken, NoDeadEnd, RoundsMoveOn}
 use Rattle.dealer_world.specs.Given.{Given}
 use Rattle.node_rules.proofs.Results.{ok_is, ok_not}
 use Rattle.protocol_model.proofs.Sets.{in_first, in_later, in_split}
@@ -232,12 +233,21 @@ members_of laws setting n before sources old members was unforged low =
       },
     )
 
-pub rounds_move_on : Given → CalmRoundMoves → RoundsMoveOn
-rounds_move_on laws calm_moves setting n before sources old new i members commands first rest run unforged calm e takes =
+pub no_dead_end : Given → RulesHaveNoDeadEnd → NoDeadEnd
+no_dead_end laws rules setting n before sources old new i members commands run unforged movable =
     let was = run_keeps laws setting n before sources old run in
     let plan : Plan = plan_of setting sources in
-    let are = members_of laws setting n before sources old members was unforged (λ k h. (above_all 0 (length sources) members k calm.quorum.rise h).1) in
-    let go = calm_moves (own_of setting sources before) setting (length sources) (λ k. deals_from setting.game.players (slice_get sources k)) are.0 (standing_at plan old) i members commands are.1 calm in
-    walk plan (HasMovedOn i (front_of (standing_at plan old i)) commands) first rest (standing_at plan old) [] old new
-    (record { standings = refl; known = λ s h. absurd h; unforged = unforged; placed = was.placed })
-    (subst (GoOn (place_of plan) (HasMovedOn i (front_of (standing_at plan old i)) commands) (standing_at plan old) []) e go) takes
+    let are = members_of laws setting n before sources old members was unforged (λ k h. (above_all 0 (length sources) members k movable.quorum.rise h).1) in
+    let ways = rules (own_of setting sources before) setting (length sources) (λ k. deals_from setting.game.players (slice_get sources k)) are.0 (standing_at plan old) i members commands are.1 movable in (
+      ways.0,
+      λ first rest way takes.
+          walk plan (HasMovedOn i (front_of (standing_at plan old i)) commands) first rest (standing_at plan old) [] old new
+          (record { standings = refl; known = λ s h. absurd h; unforged = unforged; placed = was.placed }) (ways.1 (first ++ rest) way) takes,
+    )
+
+-- a cluster at rest moves
+pub rounds_move_on : NoDeadEnd → CalmIsMovable → RoundsMoveOn
+rounds_move_on law is_movable setting n before sources old new i members commands first rest run unforged calm e takes =
+    let plan : Plan = plan_of setting sources in
+    let m = is_movable (place_of plan i) (standing_at plan old) i members commands calm in
+    (law setting n before sources old new i members commands run unforged m.0).1 first rest (subst (IsWay (standing_at plan old) i members commands) e m.1) takes

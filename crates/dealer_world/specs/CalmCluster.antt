@@ -1,4 +1,4 @@
--- A cluster at rest moves.
+-- No state of a cluster is a dead end, and a cluster at rest moves.
 use Rattle.std.specs.Prelude.{◌≡◌, ℕ, ◌+◌, ◌<◌, ◌≤◌, ◌-◌, ◌^◌, true, List, [], ◌∷◌, ◌++◌, length, IsTrue}
 use Rattle.std.proofs.Common.{get_or}
 use Rattle.promise_store.specs.declared.disk.Disk.{Ghosts}
@@ -8,6 +8,7 @@ use Rattle.node_rules.specs.Standings.{Standing, place_of, front_of}
 use Rattle.node_rules.specs.Calm.{Calm, Ticks, Delivers, round}
 use Rattle.node_rules.specs.Calm as calm
 use Rattle.node_rules.specs.CalmRound.{AreKnown}
+use Rattle.node_rules.specs.Ways.{Movable, IsWay}
 use Rattle.dealer_node.specs.Nodes.{Node}
 use Rattle.dealer_node.specs.Seeing.{IsSeen, failures_of}
 use Rattle.dealer_world.specs.declared.event.Event.{Event}
@@ -47,12 +48,24 @@ module _ {D : Type 0} (g : Ghosts D) where
   HasPassed view i slot commands = (d : Node D)
       → (s : Standing) × IsSeen g (get_or view.nodes i d) s × (s.up ≡ true) × (slot + length commands ≤ front_of s) × AreKnown s.learned.log slot commands
 
-  -- over honest disks, where no frame was forged before: where the members of a least quorum, seen as these standings, were calm for node i and some commands,
-  -- the events were a beginning of its round, and no member's disk failed, no frame was forged in it either; and if they were all of its round, the front of i has
-  -- passed as many slots from where it stood, at each of which its command is known
+  -- over honest disks, where no frame was forged before: where the members of a least quorum are seen as these standings, node i is movable with them to some
+  -- commands, the events were a beginning of a way of it, and no member's disk failed, no frame was forged in it either; and if they were all of the way, the front
+  -- of i has passed as many slots from where it stood, at each of which its command is known
   abbrev pub MovesOn : View (Node D) → List Event → View (Node D) → Type 0
   MovesOn old events new = (before : List Era) (standings : ℕ → Standing) (i : ℕ) (members : List ℕ) (commands : List Command) (first rest : List calm.Event)
+      → GoesOnFrom g old before → IsTrue g.is_honest → HasNoForged old
+      → ((k : ℕ) (d : Node D) → In k members → IsSeen g (get_or old.nodes k d) (standings k)) → Movable (place_of old.config i) standings i members commands
+      → IsWay standings i members commands (first ++ rest) → AreEvents events first → HaveNotFailed old new members
+      → ∥ HasNoForged new × (rest ≡ [] → HasPassed new i (front_of (standings i)) commands) ∥₁
+
+  -- the same of members that are calm for node i, where the events were a beginning of its round
+  abbrev pub MovesOnAtRest : View (Node D) → List Event → View (Node D) → Type 0
+  MovesOnAtRest old events new = (before : List Era) (standings : ℕ → Standing) (i : ℕ) (members : List ℕ) (commands : List Command) (first rest : List calm.Event)
       → GoesOnFrom g old before → IsTrue g.is_honest → HasNoForged old
       → ((k : ℕ) (d : Node D) → In k members → IsSeen g (get_or old.nodes k d) (standings k)) → Calm (place_of old.config i) standings i members commands
       → round standings i members commands ≡ first ++ rest → AreEvents events first → HaveNotFailed old new members
       → ∥ HasNoForged new × (rest ≡ [] → HasPassed new i (front_of (standings i)) commands) ∥₁
+
+  -- which follows: the round of a cluster at rest is a way of it
+  abbrev pub ClustersAtRestMove : Type 0
+  ClustersAtRestMove = (old new : View (Node D)) (events : List Event) → MovesOn old events new → MovesOnAtRest old events new

@@ -17,6 +17,7 @@ use Rattle.node_rules.specs.Rules.{IsTurn}
 use Rattle.node_rules.specs.Called.{Ends, took, refused, failed, unchanged}
 use Rattle.node_rules.specs.Calm.{IsLeastQuorum, Calm, Event, round}
 use Rattle.node_rules.specs.CalmRound.{node_of, call_of, HasMovedOn}
+use Rattle.node_rules.specs.Ways.{Movable, IsWay, HasShortWay}
 use Rattle.dealer_world.specs.Unforged.{IsUnforged}
 use Rattle.dealer_world.specs.Headline.{Era}
 use Rattle.dealer_world.specs.RuleRuns.{State, Steps, plan_of, RunsTo}
@@ -49,6 +50,19 @@ abbrev pub IsNextTaken : Plan → State → List Event → Type 0
 IsNextTaken plan state [] = Unit {0}
 IsNextTaken plan state (event ∷ events) =
     (outcome : Result Turn Refusal) → IsTurn (place_of plan (node_of event)) (standing_at plan state (node_of event)) (call_of event) outcome → (turn : Turn) × (outcome ≡ Ok turn)
+
+-- no reached state is a dead end: in every run of the rules in which no frame was forged, a node that is movable with the members of a least quorum has a short
+-- way; and after each beginning of each way of it no frame was forged, and the event that comes next isn't refused; and after all of the way the node's front
+-- has passed the slots of the commands, each of which it knows at its own
+abbrev pub NoDeadEnd : Type 0
+NoDeadEnd = (setting : Setting) (n : ℕ) (before : List Era) (sources : List Source) (old new : State) (i : ℕ) (members : List ℕ) (commands : List Command)
+    → RunsTo setting n before sources old → IsUnforged old.now.sent old.now.delivered
+    → Movable (place_of (plan_of setting sources) i) (standing_at (plan_of setting sources) old) i members commands
+    → HasShortWay (standing_at (plan_of setting sources) old) i members commands
+    × ((first rest : List Event) → IsWay (standing_at (plan_of setting sources) old) i members commands (first ++ rest) → TakesEvents (plan_of setting sources) old first new
+    → IsUnforged new.now.sent new.now.delivered
+    × IsNextTaken (plan_of setting sources) new rest
+    × (rest ≡ [] → HasMovedOn i (front_of (standing_at (plan_of setting sources) old i)) commands (standing_at (plan_of setting sources) new)))
 
 -- in every run of the rules in which no frame was forged: where the members of a least quorum are calm for a node, after each beginning of its round no frame
 -- was forged, and the event that comes next isn't refused; and after all of it the node's front has passed the slots of the commands, each of which

@@ -28,7 +28,7 @@ use crate::begun::Begun;
 use crate::event::Event;
 use crate::frames::Frame;
 use crate::laws::{
-    rounds_move_on, runs_are_backed, runs_never_conflict, runs_send_to_nodes, runs_show_one_list,
+    no_dead_end, runs_are_backed, runs_never_conflict, runs_send_to_nodes, runs_show_one_list,
 };
 use crate::recording::Recording;
 use crate::shown::Piece;
@@ -167,14 +167,14 @@ impl<D: Disk + Drop> Cluster<D> {
         ensures addressed { AreAddressed D.Disk (view_of self.new) }
         // 95 is the answer of no event, of these or of any others that lead on from here.
         ensures conflict { NoneConflicts D.Disk (view_of self.old) }
-        // A cluster at rest moves by the events of its round.
+        // No state is a dead end: a node that has something to propose moves on by the events of its way.
         ensures moves_on { OnOk result (MovesOn D.Disk (view_of self.old) events.now (view_of self.new)) }
     {
         runs_show_one_list();
         runs_are_backed();
         runs_send_to_nodes();
         runs_never_conflict();
-        rounds_move_on();
+        no_dead_end();
         images_are_seen::<D>();
         seen_as_one::<D>();
         for (at, event) in events.iter().enumerate() {

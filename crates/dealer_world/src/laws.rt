@@ -13,7 +13,8 @@ ghost use Rattle.protocol_model.specs.Laws.{OneDealer, HasOrigin};
 ghost use Rattle.protocol_model.specs.Worlds.{World, Reached};
 ghost use Rattle.dealer_world.specs.Given.{Given};
 ghost use Rattle.dealer_world.specs.RecordLaws.{OldFramesSayTheSame, LinesOfRecordsAgree, AlikeListsShowTheSame, CompleteLogsAreMatchLogs};
-ghost use Rattle.dealer_world.specs.CalmRun.{RoundsMoveOn, FreshClustersAreCalm};
+ghost use Rattle.dealer_world.specs.CalmRun.{NoDeadEnd, RoundsMoveOn, FreshClustersAreCalm};
+ghost use Rattle.dealer_world.specs.CalmCluster.{ClustersAtRestMove};
 ghost use Rattle.dealer_world.specs.Calling.{EventsAreCalls, VainEventsAreNone, FrontsAreSeen, ConflictsAreRefusals, BrokenEventsAreCalls};
 ghost use Rattle.dealer_world.specs.RuleRuns.{RunsShowOneList, RunsAreBacked, RunsSendToNodes, RunsNeverConflict, RunsApplyTheChosen, RunsChooseOneList};
 
@@ -161,15 +162,36 @@ pub fn runs_choose_one_list()
     one_choice();
 }
 
+/// No reached state is a dead end: in every run of the rules in which no frame was forged, where a node of a least quorum
+/// of nodes that run has something to propose, and rounds and slots are left, it has a way on of at most four events for
+/// each member.
+///
+/// None of the way's frames is forged and none of its events is refused, after each beginning of it; and once all of it
+/// was given to its nodes, and found memory and disks that didn't fail, the node's front has passed the slots of the
+/// commands, each of which it knows.
+pub fn no_dead_end()
+    ensures { NoDeadEnd }
+{
+    layers_below();
+    node_rules::laws::no_dead_end();
+}
+
 /// A cluster at rest whose nodes keep the rules moves: in every run in which no frame was forged, where the members of a
 /// least quorum are calm for a node, none of the frames of its round is forged and none of its events is refused, after
 /// each beginning of it; and once all of it was given to its nodes, and found memory and disks that didn't fail, that
-/// node's front has passed the slots of the round's commands, each of which it knows.
+/// node's front has passed the slots of the round's commands, each of which it knows. It follows from `no_dead_end`.
 pub fn rounds_move_on()
     ensures { RoundsMoveOn }
 {
-    layers_below();
-    calm_rounds_move();
+    no_dead_end();
+    node_rules::laws::no_dead_end();
+}
+
+/// What `Cluster::run` promises of the ways of a node that is movable, it promises of the round of a cluster at rest.
+pub fn clusters_at_rest_move<D: Disk + Drop>()
+    ensures { ClustersAtRestMove D.Disk }
+{
+    node_rules::laws::no_dead_end();
 }
 
 /// Nodes that have just been started on empty stores are at rest: where a node deals the first hand, it could move each

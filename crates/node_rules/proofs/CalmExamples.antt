@@ -97,12 +97,12 @@ own_with_more_is_refuted calm = elim calm.value [
 
 -- ---- node 1 voted for node 0's deal, and nobody knows it; node 2 promised that ballot
 
-abbrev left_over : ℕ → Standing
+abbrev pub left_over : ℕ → Standing
 left_over zero = first 0
 left_over (suc zero) = voted_1
 left_over (suc (suc node)) = record (first 2) { store = promised empty_store (ballot 1 0); begun = promised empty_store (ballot 1 0); seen = ballot 1 0 }
 
-last_two : IsLeastQuorum 3 (1 ∷ 2 ∷ [])
+pub last_two : IsLeastQuorum 3 (1 ∷ 2 ∷ [])
 last_two = record { rise = (omega arith, omega arith, (omega arith, omega arith, tt)); most = omega arith; least = omega arith }
 
 -- the vote that is told goes before node 2's own deal
@@ -258,7 +258,7 @@ three_are_refuted command calm = elim calm.value [
     none_at (suc (suc node)) vote e = cc
 
 -- node 1 promised a ballot above that which node 2 would begin
-abbrev further_on : ℕ → Standing
+abbrev pub further_on : ℕ → Standing
 further_on zero = left_over zero
 further_on (suc zero) = record voted_1 { store = promised voted_1.store (ballot 3 1) }
 further_on (suc (suc node)) = left_over (suc (suc node))

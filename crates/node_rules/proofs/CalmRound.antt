@@ -1,8 +1,6 @@
 -- The calm round goes on to its end.
-use Rattle.std.proofs.Common.{◌≡◌, ◌≢◌, ℕ, suc, ◌<◌, ◌≤◌, ◌+◌, ◌*◌, ◌⊎◌, inl, inr, Bool, true, false, ◌==◌, List, [], ◌∷◌, ◌++◌, map, Option, Some, Result, Ok, refl, sym, ap, subst, ◌∙◌, arith, length}
+use Rattle.std.proofs.Common.{◌≡◌, ◌≢◌, ℕ, suc, ◌<◌, ◌≤◌, ◌+◌, ◌*◌, ◌⊎◌, inl, inr, true, false, ◌==◌, List, [], ◌∷◌, ◌++◌, map, Option, Some, Ok, refl, sym, ap, subst, ◌∙◌, arith, length}
 use Rattle.std.proofs.lemmas.Bool.Decides.{eqb_tells}
-use Rattle.paxos_wire.specs.declared.fault.FrameFault.{FrameFault}
-use Rattle.paxos_wire.specs.declared.message.Message.{Message as Wire}
 use Rattle.paxos_wire.specs.Spelling.{frame as bytes_of}
 use Rattle.paxos_wire.specs.Faults.{reading}
 use Rattle.slot_log.specs.Slots.{IsLog}
@@ -20,15 +18,13 @@ use Rattle.proposer.proofs.SafeRuns.{PassedRun, passed_run}
 use Rattle.learner.specs.Learning.{Learned}
 use Rattle.learner.specs.CommandRuns.{hearing_run}
 use Rattle.node_rules.proofs.CalmPromises.{IsCounted}
-use Rattle.node_rules.specs.Standings.{Place, Standing, front_of}
-use Rattle.node_rules.specs.Sending.{Frame, one, to_others}
-use Rattle.node_rules.specs.Turns.{Turn, Refusal, still, joined, and_then}
-use Rattle.node_rules.specs.Proposing.{prepared, ticking, own_value, closing}
-use Rattle.node_rules.specs.Calls.{Tick}
-use Rattle.node_rules.specs.Calls as call
-use Rattle.node_rules.specs.Rules.{asking, on_message, on_read, IsTurnBy, IsTurn}
+use Rattle.node_rules.specs.Standings.{Standing, front_of}
+use Rattle.node_rules.specs.Sending.{one, to_others}
+use Rattle.node_rules.specs.Turns.{Turn, still, joined}
+use Rattle.node_rules.specs.Proposing.{prepared, own_value}
+use Rattle.node_rules.specs.Rules.{asking, on_message}
 use Rattle.node_rules.specs.Calm.{Rise, without, Event, Ticks, delivers, round}
-use Rattle.node_rules.specs.CalmRound.{place_in, node_of, call_of, Sent, sent_by, IsOnItsWay, AreReadBack, GoOn, AreKnown, HasMovedOn}
+use Rattle.node_rules.specs.CalmRound.{place_in, Sent, sent_by, AreReadBack, GoOn, AreKnown, HasMovedOn}
 use Rattle.protocol_model.proofs.Sets.{Within, in_first, in_later, put_same, put_other}
 use Rattle.node_rules.proofs.OwnRuns.{votes_outside}
 use Rattle.node_rules.proofs.Asked.{asked_same}
@@ -37,40 +33,8 @@ use Rattle.node_rules.proofs.Settled.{marked_at}
 use Rattle.node_rules.proofs.Electing.{covered}
 use Rattle.node_rules.proofs.Counting.{Counts, GrowsByEach, votes_grow, answers_had}
 use Rattle.node_rules.proofs.Members.{AreDistinct, above_all, rise_distinct, without_in, in_without, without_rise, without_length}
-use Rattle.node_rules.proofs.CalmTurns.{Round, place_at, ballot_in, slot_in, told_in, stores_in, IsRest, no_vote, unvoted_slot, begun_counted, begun_turn, tick_turn, prepare_in, promise_in, promised_turn, prepare_turn, IsPreparing, with_counted, preparing_more, promise_turn, made_in, none_marked, completed_turn, completed_run, completing_turn, accept_in, accepted_in, HasPromised, accepted_turn, accept_turn, IsLeading, with_heard_vote, accepted_goes, leading_more, LastTurn, last_turn, more_counted, are_ahead, are_taken, new_over}
-
--- ---- frames on their way
-
-sent_in : (from : ℕ) (frames : List Frame) (to : ℕ) (m : Wire) → In (record { to = to; message = m }) frames → In (record { from = from; to = to; message = m }) (sent_by from frames)
-sent_in from [] to m h = absurd h
-sent_in from (f ∷ fs) to m (inl e) = inl (ap (λ (x : Frame). let y : Sent = record { from = from; to = x.to; message = x.message } in y) e)
-sent_in from (f ∷ fs) to m (inr h) = inr (sent_in from fs to m h)
-
--- ---- steps
-
-ended : (places : ℕ → Place) (IsSo : (ℕ → Standing) → Type 0) (st : ℕ → Standing) (sent : List Sent) → IsSo st → GoOn places IsSo st sent []
-unfolding GoOn
-ended places IsSo st sent h = h
-
-step : (places : ℕ → Place) (IsSo : (ℕ → Standing) → Type 0) (st : ℕ → Standing) (sent : List Sent) (event : Event) (events : List Event) (t : Turn) → IsOnItsWay sent event
-    → ((outcome : Result Turn Refusal) → IsTurn (places (node_of event)) (st (node_of event)) (call_of event) outcome → outcome ≡ Ok t)
-    → (AreReadBack t.frames → GoOn places IsSo (put st (node_of event) t.after) (sent_by (node_of event) t.frames ++ sent) events)
-    → GoOn places IsSo st sent (event ∷ events)
-unfolding GoOn
-step places IsSo st sent event events t way only later = (way, λ outcome is. (t, only outcome is, later))
-
-turn_of : (place : Place) (s : Standing) (from : ℕ) (w : Wire) (t : Turn) (outcome : Result Turn Refusal) → s.up ≡ true → reading (bytes_of w) ≡ Ok w → on_message place from w s ≡ Ok t
-    → IsTurn place s (call.Frame from (bytes_of w)) outcome → outcome ≡ Ok t
-turn_of place s from w t outcome up read e is =
-    let by : outcome ≡ on_read place from (reading (bytes_of w)) s = subst (λ (b : Bool). IsTurnBy b place s (call.Frame from (bytes_of w)) outcome) up is in
-    by ∙ (ap (λ (x : Result Wire FrameFault). on_read place from x s) read ∙ e)
-
-deliver : (r : Round) (IsSo : (ℕ → Standing) → Type 0) (st : ℕ → Standing) (sent : List Sent) (from to : ℕ) (w : Wire) (events : List Event) (t : Turn) → (st to).up ≡ true → reading (bytes_of w) ≡ Ok w
-    → In (record { from = from; to = to; message = w }) sent → on_message (place_at r to) from w (st to) ≡ Ok t
-    → (AreReadBack t.frames → GoOn (place_in r.setting r.n r.deals) IsSo (put st to t.after) (sent_by to t.frames ++ sent) events)
-    → GoOn (place_in r.setting r.n r.deals) IsSo st sent (delivers from to w ∷ events)
-deliver r IsSo st sent from to w events t up read way e later =
-    step (place_in r.setting r.n r.deals) IsSo st sent (delivers from to w) events t (w, refl, way) (λ outcome is. turn_of (place_at r to) (st to) from w t outcome up read e is) later
+use Rattle.node_rules.proofs.CalmTurns.{Round, place_at, ballot_in, slot_in, told_in, stores_in, IsRest, no_vote, unvoted_slot, begun_counted, begun_turn, ticked_turn, prepare_in, promise_in, promised_turn, prepare_turn, IsPreparing, with_counted, preparing_more, promise_turn, made_in, none_marked, completed_turn, completed_run, completing_turn, accept_in, accepted_in, HasPromised, accepted_turn, accept_turn, IsLeading, with_heard_vote, accepted_goes, leading_more, LastTurn, last_turn, more_counted, are_ahead, are_taken, new_over}
+use Rattle.node_rules.proofs.CalmSteps.{sent_in, ended, deliver, prepare_framed, tick_first}
 
 -- ---- the other members
 
@@ -476,21 +440,13 @@ begun_state r rest = record {
   pending = refl;
 }
 
-abbrev ticked_turn : Round → Turn
-ticked_turn r = joined (begun_turn r) (still (begun_turn r).after)
-
-prepare_framed : (r : Round) (k : ℕ) → k < r.n → (k ≡ r.i → ⊥) → In (record { to = k; message = prepare_in r }) (ticked_turn r).frames
-prepare_framed r k low other = in_first (to_others (place_at r r.i) (prepare_in r)) [] (record { to = k; message = prepare_in r }) (has_to r.n r.i k (prepare_in r) low other)
-
 by_others : (r : Round) → IsRest r → (others : List ℕ) → Others r others
     → GoOn (place_in r.setting r.n r.deals) (HasMovedOn r.i (slot_in r) r.commands) r.standings []
     (Ticks r.i ∷ (map (λ j. delivers r.i j (prepare_in r)) others ++ (map (λ j. delivers j r.i (promise_in r j)) others
     ++ (map (λ j. delivers r.i j (accept_in r)) others ++ map (λ j. delivers j r.i (accepted_in r)) others))))
 by_others r rest [] o = absurd (let q = rest.quorum.most in let m = r.given.least_nodes r.n rest.few in let s = o.size in omega (arith, q, m, s))
 by_others r rest (j ∷ todo) o =
-    step (place_in r.setting r.n r.deals) Moved r.standings [] (Ticks r.i) _ (ticked_turn r) tt
-    (λ outcome is. (let by : outcome ≡ and_then (ticking (place_at r r.i) (r.standings r.i)) (closing (place_at r r.i)) =
-    subst (λ (b : Bool). IsTurnBy b (place_at r r.i) (r.standings r.i) Tick outcome) (rest.up r.i rest.member) is in by) ∙ tick_turn r rest)
+    tick_first r Moved _ (rest.up r.i rest.member) rest.few rest.not_over rest.not_spent
     (λ back. all_prepares r rest others o others 0 come Moved (put r.standings r.i (ticked_turn r).after) (sent_by r.i (ticked_turn r).frames ++ [])
     (record {
       preparing = subst (IsPreparing r (r.i ∷ [])) (sym (put_same r.standings r.i (ticked_turn r).after)) (begun_state r rest);

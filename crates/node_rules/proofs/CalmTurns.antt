@@ -52,6 +52,7 @@ use Rattle.node_rules.proofs.Electing.{covered}
 use Rattle.node_rules.proofs.Counting.{Counts, GrowsByEach, votes_grow, heard_run, answers_had}
 use Rattle.node_rules.proofs.RunHeard.{KnowsOnly, all_taken, all_heard}
 use Rattle.node_rules.proofs.CalmPromises.{IsCounted, new_counted, quorum_is, counts_more, Agree, IsTold, greatest_value, none_held, told_are}
+use Rattle.node_rules.proofs.KeptVotes.{own_same}
 use Rattle.node_rules.proofs.Members.{is_in, in_is, not_in, count_list, AreDistinct}
 use Rattle.protocol_model.proofs.Quorums.{count_within}
 use Rattle.protocol_model.proofs.Sets.{Within, all_same}
@@ -231,17 +232,21 @@ begun_counted r rest =
 abbrev pub begun_turn : Round → Turn
 begun_turn r = beginning (place_at r r.i) (ballot_in r) (r.standings r.i)
 
-pub tick_turn : (r : Round) → IsRest r
-    → and_then (ticking (place_at r r.i) (r.standings r.i)) (closing (place_at r r.i)) ≡ Ok (joined (begun_turn r) (still (begun_turn r).after))
-tick_turn r rest =
+-- its own promise alone is no quorum
+pub begun_unled : (r : Round) → HasNodes r.n → has_quorum r.n (prepared (place_at r r.i) (ballot_in r) (r.standings r.i)) ≡ false
+begun_unled r few = r.given.alone r.n r.i (ballot_in r) (ballot_in r) (slot_in r) (slot_in r) (told_in r r.i) (r.given.least_nodes r.n few)
+
+abbrev pub ticked_turn : Round → Turn
+ticked_turn r = joined (begun_turn r) (still (begun_turn r).after)
+
+pub tick_turn : (r : Round) → HasNodes r.n → is_over (place_at r r.i) (r.standings r.i) ≡ false → is_spent (r.standings r.i) ≡ false
+    → and_then (ticking (place_at r r.i) (r.standings r.i)) (closing (place_at r r.i)) ≡ Ok (ticked_turn r)
+tick_turn r few not_over not_spent =
     ap (λ (x : Result Turn Refusal). and_then x (closing (place_at r r.i))) begins_so
-    ∙ ap (behind (begun_turn r)) (unled_close (place_at r r.i) (begun_turn r).after unled)
+    ∙ ap (behind (begun_turn r)) (unled_close (place_at r r.i) (begun_turn r).after (begun_unled r few))
   where
     begins_so : ticking (place_at r r.i) (r.standings r.i) ≡ Ok (begun_turn r)
-    begins_so = λ j. if rest.not_over j then Ok (still (r.standings r.i)) else if rest.not_spent j then Err Spent else Ok (begun_turn r)
-
-    unled : has_quorum r.n (prepared (place_at r r.i) (ballot_in r) (r.standings r.i)) ≡ false
-    unled = r.given.alone r.n r.i (ballot_in r) (ballot_in r) (slot_in r) (slot_in r) (told_in r r.i) (r.given.least_nodes r.n rest.few)
+    begins_so = λ j. if not_over j then Ok (still (r.standings r.i)) else if not_spent j then Err Spent else Ok (begun_turn r)
 
 -- ---- a Prepare
 
@@ -377,10 +382,6 @@ proposes_it r rest counted k own distinct c inside all enough own_is =
     unmarked_slot : is_proposed k (slot_in r) ≡ false
     unmarked_slot = ap (λ (l : List Bool). get_or l (slot_in r - k.first) false) c.unproposed ∙ all_same false WINDOW (slot_in r - k.first)
 
--- the standing's own value is that at rest
-own_same : (r : Round) (place : Place) (s : Standing) → s.learned ≡ (r.standings r.i).learned → s.pending ≡ (r.standings r.i).pending → own_value place s ≡ own_value place (r.standings r.i)
-own_same r place s el ep = λ j. own_value place (record s { learned = el j; pending = ep j })
-
 room_left : (r : Round) → IsRest r → nat_le SLOTS (slot_in r) ≡ false
 room_left r rest = by_test (nat_le SLOTS (slot_in r)) refl
   where
@@ -428,7 +429,7 @@ pub completed_run : (r : Round) → IsRest r → (counted : List ℕ) (s : Stand
 completed_run r rest counted s p j distinct less inside all enough =
     ap (λ (l : Learned). run_by r.n k (front l.log) (own_value (place_at r r.i) u)) p.learned
     ∙ proposes_it r rest (j ∷ counted) k (own_value (place_at r r.i) u) distinct (more_counted r rest counted s p j distinct.2 less distinct.1 distinct.0) inside all enough
-    (own_same r (place_at r r.i) u p.learned p.pending)
+    (own_same (place_at r r.i) u (r.standings r.i) p.learned p.pending)
   where
     u : Standing
     u = with_counted r counted s p j

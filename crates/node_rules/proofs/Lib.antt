@@ -36,13 +36,18 @@ mod Agreeing
 pub mod Members
 mod HeldKnown
 mod RunHeard
+pub mod KeptVotes
 mod CalmPromises
 mod Electing
 mod Counting
 mod Outcomes
 mod CalmTurns
+mod CalmSteps
 mod CalmRound
 mod Calming
+mod OutbidTurns
+pub mod Ways
+pub mod WayMembers
 mod Fresh
 mod Resting
 mod Led
@@ -57,9 +62,12 @@ mod Orders
 mod Refused
 mod Counted
 mod Valued
+mod HeldRuns
+mod Cases
 mod Created
 pub mod Examples
 pub mod TurnExamples
 mod OrderExamples
 pub mod OutcomeExamples
 pub mod CalmExamples
+pub mod WayExamples

@@ -40,7 +40,7 @@ deals_by : (place : Place) (s : Standing) (command : Command) (b : Bool) → fit
 deals_by place s command true e h = refl
 deals_by place s command false e h = absurd (cc)
 
-own_deals : (place : Place) (s : Standing) (hand : ℕ) (deal : List ℕ) → place.deals hand ≡ Some deal → fits place.setting (applied s) (Deal hand deal) ≡ true
+pub own_deals : (place : Place) (s : Standing) (hand : ℕ) (deal : List ℕ) → place.deals hand ≡ Some deal → fits place.setting (applied s) (Deal hand deal) ≡ true
     → own_value place s ≡ Some (Deal hand deal)
 own_deals place s hand deal has fit =
     ap (λ (o : Option Command). fitting place s o s.pending) (own_deal_is place s hand deal has (next_hand place s hand deal fit))
@@ -51,7 +51,7 @@ waits_by : (place : Place) (s : Standing) (hand : ℕ) (deal : List ℕ) (b : Bo
 waits_by place s hand deal true e none = absurd (none e)
 waits_by place s hand deal false e none = refl
 
-waits_from : (place : Place) (s : Standing) (hand : ℕ) (deals : Option (List ℕ)) → place.deals hand ≡ deals
+pub waits_from : (place : Place) (s : Standing) (hand : ℕ) (deals : Option (List ℕ)) → place.deals hand ≡ deals
     → ((deal : List ℕ) → place.deals hand ≡ Some deal → fits place.setting (applied s) (Deal hand deal) ≡ true → ⊥)
     → fitting place s (option_map (Deal hand) deals) s.pending ≡ s.pending
 waits_from place s hand None e none = refl

@@ -70,6 +70,12 @@ pub record IsToldCommandRun (standings : ℕ → Standing) (members : List ℕ) 
 abbrev pub IsOwn : Place → Standing → (ℕ → Standing) → List ℕ → ℕ → Command → Type 0
 IsOwn place s standings members slot command = IsUnheld standings members slot × (own_value place s ≡ Some command)
 
+-- these commands are what node i has to propose at its front and behind it
+abbrev pub WouldPropose : Place → (ℕ → Standing) → ℕ → List ℕ → List Command → Type 0
+WouldPropose place standings i members commands =
+    IsToldCommandRun standings members (front_of (standings i)) commands
+    ⊎ ((command : Command) × (commands ≡ command ∷ []) × IsOwn place (standings i) standings members (front_of (standings i)) command)
+
 -- ---- rest
 
 -- node i could move the members on, to these commands at its front and behind it
@@ -82,8 +88,7 @@ pub record Calm (place : Place) (standings : ℕ → Standing) (i : ℕ) (member
   pub slot_left : front_of (standings i) < SLOTS
   pub unpromised : (node : ℕ) → In node members → Below (standings node).store.promise (ballot_after i (standings i))
   pub goes_on : is_over place (standings i) ≡ false
-  pub value : IsToldCommandRun standings members (front_of (standings i)) commands
-      ⊎ ((command : Command) × (commands ≡ command ∷ []) × IsOwn place (standings i) standings members (front_of (standings i)) command)
+  pub value : WouldPropose place standings i members commands
 
 -- ---- the round
 
@@ -94,13 +99,16 @@ pub data Event : Type 0 where
 abbrev pub delivers : ℕ → ℕ → Message → Event
 delivers from to message = Delivers from to (frame message)
 
--- a tick, and then four times, with each other member in order: it is asked to promise, promises, is asked to accept, and accepts
-abbrev pub round : (ℕ → Standing) → ℕ → List ℕ → List Command → List Event
-round standings i members commands =
-    let ballot = ballot_after i (standings i) in
+-- a tick that begins this ballot, and then four times, with each other member in order: it is asked to promise, promises, is asked to accept, and accepts
+abbrev pub round_by : Ballot → (ℕ → Standing) → ℕ → List ℕ → List Command → List Event
+round_by ballot standings i members commands =
     let slot = front_of (standings i) in
     let others = without i members in
     Ticks i ∷ (map (λ j. delivers i j (Prepare ballot slot)) others
     ++ (map (λ j. delivers j i (Promise ballot slot (told_by (standings j).store slot))) others
     ++ (map (λ j. delivers i j (Accept ballot slot commands)) others
     ++ map (λ j. delivers j i (Accepted ballot slot commands)) others)))
+
+-- that of the ballot that node i's next tick begins
+abbrev pub round : (ℕ → Standing) → ℕ → List ℕ → List Command → List Event
+round standings i members commands = round_by (ballot_after i (standings i)) standings i members commands

@@ -18,6 +18,8 @@ pub mod Sound
 pub mod Outcomes
 pub mod Calm
 pub mod CalmRound
+pub mod Ways
+pub mod Cases
 pub mod LawsTick
 pub mod LawsAnswers
 pub mod LawsBacking

@@ -1,6 +1,7 @@
 //! What holds of the rules: each law is the contract of a function that does nothing.
 
 ghost use Rattle.node_rules.specs.CalmRound.{CalmRoundMoves, FreshIsCalm};
+ghost use Rattle.node_rules.specs.Cases.{EachHasACase, OrdersHelp};
 ghost use Rattle.node_rules.specs.Given.{Given};
 ghost use Rattle.node_rules.specs.Outcomes.{PromisesMakeProposals, FrontIsUnknown, ToldIsKnown, VotesStayInTime, QuorumIsKnown};
 ghost use Rattle.node_rules.specs.Sound.{TurnsAreChains, AppendsAreBegun, CallsAreSound, LinesAreRefusedDown};
@@ -16,6 +17,7 @@ ghost use Rattle.node_rules.specs.LawsShown.{CallsShow, DownShowsNothing};
 ghost use Rattle.node_rules.specs.LawsTick.{TicksPrepare};
 ghost use Rattle.node_rules.specs.LawsValue.{DealsComeFirst};
 ghost use Rattle.node_rules.specs.LawsVotes.{OwnVotesAreInTime, RefusedBallotsEnd};
+ghost use Rattle.node_rules.specs.Ways.{NoDeadEnd, MostIsUnpromised, CalmIsMovable};
 
 use dealer_kind::laws::{answers_are_heard, nodes_are_few_and_odd, orders_play_for_the_next};
 use learner::laws::{
@@ -146,19 +148,49 @@ pub fn sent_is_backed()
     backing_lasts();
 }
 
+/// No reached state is a dead end: where a node of a least quorum of nodes that run has something to propose, and rounds
+/// and slots are left, it has a way on of at most four events for each member, whatever the members have promised.
+///
+/// Where they have all promised only ballots below the node's next one, the way is the round of that ballot: a tick of
+/// the node, and four times a frame with each other member in order. Else the member that promised most refuses that
+/// ballot, and the way is a tick, Prepare to that member and its Refuse, and then the round of the ballot above what the
+/// Refuse told. Each frame has been sent, to that node and with these bytes, by a turn of the way before, so no frame of
+/// it is forged; by the rules each of its calls comes to a turn, whatever the turns before it were: none is refused, with
+/// 90, 93, 94 or 95. At its end the node's front has passed the slots of the commands, each of which it knows.
+///
+/// The member that promised most is outbid by nobody, so for it the way is always the one round.
+pub fn no_dead_end()
+    ensures ways { NoDeadEnd }
+    ensures most { MostIsUnpromised }
+    ensures calm { CalmIsMovable }
+{
+    layers_below();
+}
+
+/// A node that has its deals, and a slot at its front, is in one of three cases: it has something to propose with the
+/// members, or it awaits a bot, or the match is over at it.
+///
+/// It awaits a bot where a hand runs at it, no act waits there, and no member has a vote at its front. Then an order that
+/// the player to act is played for isn't refused, its front stays, and it has something to propose.
+pub fn members_have_cases()
+    ensures each { EachHasACase }
+    ensures orders { OrdersHelp }
+{
+    layers_below();
+}
+
 /// A cluster at rest moves: where the members of a least quorum are calm for one of them, its round goes on to its end,
 /// whatever each call of it leaves, and then that node's front has passed the slots of the round's commands, each of which
 /// it knows: all that the members have votes for from its front on, as far as such votes follow one another, up to 64.
 ///
-/// The round is a tick of the node, and four times a frame with each other member in order. Each frame of it has been
-/// sent, to that node and with these bytes, by a turn of the round before, so no frame of it is forged; and by the rules
-/// each of its calls comes to a turn: none is refused, with 90, 93, 94 or 95. Nodes that have just been started on empty
-/// stores are calm, for each node and each least quorum to which it belongs.
+/// The round is a tick of the node, and four times a frame with each other member in order: the first of the two ways of
+/// `no_dead_end`. Nodes that have just been started on empty stores are calm, for each node and each least quorum to which
+/// it belongs.
 pub fn calm_rounds_move()
     ensures round { CalmRoundMoves }
     ensures fresh { FreshIsCalm }
 {
-    layers_below();
+    no_dead_end();
 }
 
 /// What each call shows: of each command that takes effect a line to each connected seat and then what the log gets, and nothing else but the current

@@ -43,7 +43,7 @@ returns-clause-addressed g c = addressed g.D.Disk (view_of c.loop-at.self) c.run
 
 pub returns-clause-moves_on : goal.returns-clause-moves_on
 returns-clause-moves_on g c =
-    moves_on g.D.Disk (view_of c.args.self.now) (view_of c.loop-at.self) c.args.events.now c.rounds_move_on.ensures c.seen_as_one.ensures.one c.seen_as_one.ensures.up c.args.self.now.at_places
+    moves_on g.D.Disk (view_of c.args.self.now) (view_of c.loop-at.self) c.args.events.now c.no_dead_end.ensures c.seen_as_one.ensures.one c.seen_as_one.ensures.up c.args.self.now.at_places
     c.args.self.now.count c.args.self.now.behind
     (subst (λ (l : List Event). Ran g.D.Disk (view_of c.args.self.now) l (view_of c.loop-at.self)) (take_all c.loop-at.at c.args.events.now c.loop-at-test.false) c.loop-at.invariant.ran)
 
