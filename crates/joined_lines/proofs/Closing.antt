@@ -7,7 +7,7 @@ use Rattle.slot_log.specs.declared.command.Command.{Command}
 use Rattle.line_cursor.specs.Laws.{NextCursorStays}
 use Rattle.line_cursor.specs.Past.{PastIsABeginning}
 use Rattle.line_cursor.specs.Telling.{CursorsTellTheLines}
-use Rattle.seat_relay.specs.Relaying.{Standing, Event, Begins, Ends, Tells, Closes, Says, Pushes, link_at, is_taken, is_news, echoes, is_even, with_link, with_news, with_old, with_answer, happens, after}
+use Rattle.seat_relay.specs.Relaying.{Standing, Event, Begins, Ends, Tells, Closes, Says, Pushes, link_at, is_taken, is_news, is_kept, is_even, with_link, with_news, with_old, with_answer, happens, after}
 use Rattle.seat_relay.specs.declared.link.Link.TheVariants.{Said}
 use Rattle.seat_relay.specs.Laws.{told_over, CloseAtTheEnd}
 use Rattle.dealer_kind.specs.Kind.{Setting}
@@ -31,10 +31,10 @@ unfolding happens
 stays_open s (Begins node) open_is = inl open_is
 stays_open s (Ends node) open_is = inl open_is
 stays_open s (Tells node line) open_is =
-    inl (if_open (is_taken s.newest s.last (link_at s.links node) line.place) (if is_news s.last line then with_news s node line else with_old s node line) s
+    inl (if_open (is_taken s.mode.newest s.last (link_at s.links node) line.place) (if is_news s.last line then with_news s node line else with_old s node line) s
     (if_open (is_news s.last line) (with_news s node line) (with_old s node line) refl open_is) open_is)
 stays_open s (Closes node) open_is = inr (node, refl)
-stays_open s (Says text) open_is = inl (if_open (echoes s.last text) (with_answer s text) s open_is open_is)
+stays_open s (Says text) open_is = inl (if_open (is_kept s text) (with_answer s text) s open_is open_is)
 stays_open s (Pushes node) open_is = inl (if_open (is_even (link_at s.links node)) (with_link s node Said) s open_is open_is)
 
 pub record IsClosed (events : List Event) : Type 0 where

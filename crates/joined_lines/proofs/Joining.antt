@@ -46,11 +46,11 @@ module _ (ends : HandsEnd) (make : CommandsMakeHands) (past : PastIsABeginning) 
       record {
         lines = record {
           given = lines_given relay.desk.relay;
-          are = give setting.game setting.title.hands relay.seat commands relay.desk.relay.newest relay.desk.relay.nodes events parts;
+          are = give setting.game setting.title.hands relay.seat commands relay.desk.relay.mode relay.desk.relay.nodes events parts;
           as_bytes = (explain relay.desk relay.passed course).said.bot;
         };
         all_lines = λ over. record {
-          over = match_over make past stays setting is relay.seat commands (fresh relay.desk.relay.newest relay.desk.relay.nodes) events refl over.over closes;
+          over = match_over make past stays setting is relay.seat commands (fresh relay.desk.relay.mode relay.desk.relay.nodes) events refl over.over closes;
           written = write relay.desk relay.passed (lines_by setting relay.seat commands) course over (ascend setting.game setting.title.hands relay.seat commands) parts
               (close_at_the_end make past stays cursors setting is relay.seat commands events closes placed);
         };
@@ -70,14 +70,14 @@ module _ (ends : HandsEnd) (make : CommandsMakeHands) (past : PastIsABeginning) 
 
 module _ {D : Type 0} (g : Ghosts D) where
   pub connections_tell_one_match : TablesAreOfOneMatch g → CommandsMakeHands → PastIsABeginning → CursorsTellTheLines → BotsAreGivenOneDealersLines → ConnectionsTellOneMatch g
-  connections_tell_one_match tables make past cursors relays setting sources histories all processes honest seat newest nodes events placed brings =
+  connections_tell_one_match tables make past cursors relays setting sources histories all processes honest seat mode nodes events placed brings =
       let such = WasTable g (plan_of setting sources) histories in
       let gathered = gathered_each setting such seat [] events (bring_each such seat [] events brings) in
       ∥∥₁_map (tables setting sources histories all processes honest gathered.tables gathered.are) (λ one. (
         one.0,
         (
           one.1.0,
-          relays setting.game setting.title.hands seat one.0 newest nodes events
+          relays setting.game setting.title.hands seat one.0 mode nodes events
               (tell_parts make past cursors setting processes.plan.within seat one.0 events (gathered.by one.0 one.1.1) placed),
         ),
       ))

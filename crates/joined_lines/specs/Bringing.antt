@@ -1,5 +1,5 @@
 -- What connections bring to a relay, line by line.
-use Rattle.std.specs.Prelude.{◌≡◌, ℕ, Bool, List, ◌++◌, length, map, IsTrue}
+use Rattle.std.specs.Prelude.{◌≡◌, ℕ, List, ◌++◌, length, map, IsTrue}
 use Rattle.std.specs.List.{AllByRecursion}
 use Rattle.promise_store.specs.declared.disk.Disk.{Ghosts}
 use Rattle.slot_log.specs.Hand.{Match}
@@ -12,6 +12,7 @@ use Rattle.stations.specs.Tables.{WasTable}
 use Rattle.line_cursor.specs.declared.cursor.Cursor.{Cursor}
 use Rattle.seat_relay.specs.Places.{IsPlaced}
 use Rattle.seat_relay.specs.Relaying.{Line, Event, Begins, Ends, Tells, Closes, Says, Pushes, all_given}
+use Rattle.seat_relay.specs.declared.mode.Mode.{Mode}
 use Rattle.seat_relay.specs.Laws.{fresh, told_over, IsGivenOf}
 use Rattle.node_seats.specs.Telling.{TellsFrom}
 use Rattle.joined_lines.specs.Chosen.{lines_by, IsByChosen}
@@ -44,5 +45,5 @@ module _ {D : Type 0} (g : Ghosts D) where
   -- begin anywhere
   abbrev pub ConnectionsTellOneMatch : Type 0
   ConnectionsTellOneMatch = (setting : Setting) (sources : List Source) (histories : ℕ → List Deed) (all : List Doing) → AreProcesses setting sources histories all → IsTrue g.is_honest
-      → (seat : ℕ) (newest : Bool) (nodes : ℕ) (events : List Event) → AllByRecursion IsOfPlaced events → BringToldLines (WasTable g (plan_of setting sources) histories) seat events
-      → IsByChosen (length sources) all (λ commands. IsGivenOf newest (all_given (fresh newest nodes) events) (lines_by setting seat commands))
+      → (seat : ℕ) (mode : Mode) (nodes : ℕ) (events : List Event) → AllByRecursion IsOfPlaced events → BringToldLines (WasTable g (plan_of setting sources) histories) seat events
+      → IsByChosen (length sources) all (λ commands. IsGivenOf mode.newest (all_given (fresh mode nodes) events) (lines_by setting seat commands))

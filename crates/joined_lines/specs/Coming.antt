@@ -79,11 +79,11 @@ bytes_for relay = wrote_over relay.passed (Seat 0) ++ relay.desk.to_bot.waiting
 -- the match is over by these commands, and the bot was written all lines that the dealer tells its seat by them, or all from one on where they may begin anywhere
 pub record HasAllLines (setting : Setting) (commands : List Command) (relay : SeatRelay) : Type 0 where
   pub over : is_match_over setting.game setting.title.hands (hands_after setting commands) ≡ true
-  pub written : IsWritten relay.desk.relay.newest (wrote_over relay.passed (Seat 0)) (lines_by setting relay.seat commands)
+  pub written : IsWritten relay.desk.relay.mode.newest (wrote_over relay.passed (Seat 0)) (lines_by setting relay.seat commands)
 
 -- the bot has a beginning of the lines that the dealer tells its seat by these commands, or a part of them without a gap; and once the relay ends since the match is over it has all of them
 pub record HasLines (setting : Setting) (commands : List Command) (relay : SeatRelay) : Type 0 where
-  pub lines : AreBytesOf relay.desk.relay.newest (lines_by setting relay.seat commands) (bytes_for relay)
+  pub lines : AreBytesOf relay.desk.relay.mode.newest (lines_by setting relay.seat commands) (bytes_for relay)
   pub all_lines : IsOver relay.desk → HasAllLines setting commands relay
 
 -- ---- bots without a relay

@@ -56,29 +56,29 @@ behind_piece v w (byte ∷ piece) same =
 -- ---- an event
 
 -- from where on a node is asked to tell over its connection, after one event more
-asked_now : (a b : Desk) (node : ℕ) (e : Event) → b.relay ≡ with_event a.relay e → a.relay.standing ≡ after (fresh a.relay.newest a.relay.nodes) a.relay.events
+asked_now : (a b : Desk) (node : ℕ) (e : Event) → b.relay ≡ with_event a.relay e → a.relay.standing ≡ after (fresh a.relay.mode a.relay.nodes) a.relay.events
     → asked_over node b.relay ≡ asked_by node a.relay.standing (asked_over node a.relay) e
 asked_now a b node e story follows =
     ap (asked_over node) story
-    ∙ (asked_more node (fresh a.relay.newest a.relay.nodes) None a.relay.events e ∙ ap (λ (n : Standing). asked_by node n (asked_over node a.relay) e) (sym follows))
+    ∙ (asked_more node (fresh a.relay.mode a.relay.nodes) None a.relay.events e ∙ ap (λ (n : Standing). asked_by node n (asked_over node a.relay) e) (sym follows))
 
 -- the first lines that are said over it
-pub first_then : (a b : Desk) (node : ℕ) (e : Event) → b.relay ≡ with_event a.relay e → a.relay.standing ≡ after (fresh a.relay.newest a.relay.nodes) a.relay.events → b.opening ≡ a.opening → begins_at node e ≡ false
+pub first_then : (a b : Desk) (node : ℕ) (e : Event) → b.relay ≡ with_event a.relay e → a.relay.standing ≡ after (fresh a.relay.mode a.relay.nodes) a.relay.events → b.opening ≡ a.opening → begins_at node e ≡ false
     → first_over node b ≡ first_over node a
 first_then a b node e story follows hello isnt =
     ap (λ (o : Opening). first_of o.token.items (asked_over node b.relay)) hello
     ∙ ap (first_of a.opening.token.items) (asked_now a b node e story follows ∙ asked_stays node a.relay.standing (asked_over node a.relay) e isnt)
 
-pub first_now : (a b : Desk) (node : ℕ) (e : Event) → b.relay ≡ with_event a.relay e → a.relay.standing ≡ after (fresh a.relay.newest a.relay.nodes) a.relay.events → begins_at node e ≡ true
+pub first_now : (a b : Desk) (node : ℕ) (e : Event) → b.relay ≡ with_event a.relay e → a.relay.standing ≡ after (fresh a.relay.mode a.relay.nodes) a.relay.events → begins_at node e ≡ true
     → first_over node b ≡ greeting b.opening.token.items (asks a.relay.standing)
 first_now a b node e story follows is =
     ap (first_of b.opening.token.items) (asked_now a b node e story follows ∙ asked_begins node a.relay.standing (asked_over node a.relay) e is)
 
-pub said_now : (a b : Desk) (node : ℕ) (e : Event) → b.relay ≡ with_event a.relay e → a.relay.standing ≡ after (fresh a.relay.newest a.relay.nodes) a.relay.events
+pub said_now : (a b : Desk) (node : ℕ) (e : Event) → b.relay ≡ with_event a.relay e → a.relay.standing ≡ after (fresh a.relay.mode a.relay.nodes) a.relay.events
     → said_over node b.relay ≡ over_by node a.relay.standing (said_over node a.relay) e
 said_now a b node e story follows =
     ap (said_over node) story
-    ∙ (over_more node (fresh a.relay.newest a.relay.nodes) [] a.relay.events e ∙ ap (λ (n : Standing). over_by node n (said_over node a.relay) e) (sym follows))
+    ∙ (over_more node (fresh a.relay.mode a.relay.nodes) [] a.relay.events e ∙ ap (λ (n : Standing). over_by node n (said_over node a.relay) e) (sym follows))
 
 -- nothing is said to the node, and what waits for it is what waited; or an answer is, and waits
 abbrev pub SaysFew : Desk → Desk → ℕ → Event → Type 0
@@ -86,7 +86,7 @@ SaysFew a b node e =
     ((more_over node a.relay.standing e ≡ []) × (waits_at b.to_nodes.items node ≡ waits_at a.to_nodes.items node))
     ⊎ ((answer : List ℕ) × (more_over node a.relay.standing e ≡ answer ∷ []) × (waits_at b.to_nodes.items node ≡ ended answer))
 
-pub few_event : (a b : Desk) (e : Event) → b.relay ≡ with_event a.relay e → a.relay.standing ≡ after (fresh a.relay.newest a.relay.nodes) a.relay.events → b.opening ≡ a.opening → length b.to_bot.waiting < 65536 + 4098
+pub few_event : (a b : Desk) (e : Event) → b.relay ≡ with_event a.relay e → a.relay.standing ≡ after (fresh a.relay.mode a.relay.nodes) a.relay.events → b.opening ≡ a.opening → length b.to_bot.waiting < 65536 + 4098
     → ((node : ℕ) → begins_at node e ≡ false → SaysFew a b node e) → ((node : ℕ) → begins_at node e ≡ true → waits_at b.to_nodes.items node ≡ greeting b.opening.token.items (asks a.relay.standing)) → IsFew a → IsFew b
 few_event a b e story follows hello bot others first f = record {
   bot = bot;

@@ -6,6 +6,7 @@ use Rattle.matchstate.specs.Free.{IsFreeOf}
 use Rattle.node_wires.specs.declared.line.Line.TheVariants.{Peer}
 use Rattle.node_wires.specs.Passages.{Passage, came_over}
 use Rattle.seat_relay.specs.Relaying.{Line, Standing, Event, Begins, Ends, Tells, Closes, Says, Pushes, after, given, all_given, is_given}
+use Rattle.seat_relay.specs.declared.mode.Mode.{Mode}
 use Rattle.seat_relay.specs.Laws.{fresh, Word, Shows, Over, words_over}
 use Rattle.relay_runs.specs.declared.desk.Desk.{Desk}
 use Rattle.relay_runs.specs.Since.{begun_over}
@@ -126,34 +127,34 @@ came_still x y more f line c = record {
 }
 
 -- the lines that were given, by one step
-given_next : (old new : Desk) (es : List Event) → new.relay.newest ≡ old.relay.newest → new.relay.nodes ≡ old.relay.nodes → new.relay.events ≡ old.relay.events ++ es
-    → lines_given new.relay ≡ all_given (fresh old.relay.newest old.relay.nodes) (old.relay.events ++ es)
+given_next : (old new : Desk) (es : List Event) → new.relay.mode ≡ old.relay.mode → new.relay.nodes ≡ old.relay.nodes → new.relay.events ≡ old.relay.events ++ es
+    → lines_given new.relay ≡ all_given (fresh old.relay.mode old.relay.nodes) (old.relay.events ++ es)
 given_next old new es mode nodes story =
-    ap (all_given (fresh new.relay.newest new.relay.nodes)) story
-    ∙ (ap (λ (b : Bool). all_given (fresh b new.relay.nodes) (old.relay.events ++ es)) mode ∙ ap (λ (n : ℕ). all_given (fresh old.relay.newest n) (old.relay.events ++ es)) nodes)
+    ap (all_given (fresh new.relay.mode new.relay.nodes)) story
+    ∙ (ap (λ (m : Mode). all_given (fresh m new.relay.nodes) (old.relay.events ++ es)) mode ∙ ap (λ (n : ℕ). all_given (fresh old.relay.mode n) (old.relay.events ++ es)) nodes)
 
 -- where it is no event, or one
-came_still_given : (old new : Desk) (y : List Passage) → new.relay.newest ≡ old.relay.newest → new.relay.nodes ≡ old.relay.nodes → new.relay.events ≡ old.relay.events ++ []
+came_still_given : (old new : Desk) (y : List Passage) → new.relay.mode ≡ old.relay.mode → new.relay.nodes ≡ old.relay.nodes → new.relay.events ≡ old.relay.events ++ []
     → AllByRecursion (CameFrom y) (lines_given old.relay) → AllByRecursion (CameFrom y) (lines_given new.relay)
 came_still_given old new y mode nodes story all =
-    subst (AllByRecursion (CameFrom y)) (sym (given_next old new [] mode nodes story ∙ ap (all_given (fresh old.relay.newest old.relay.nodes)) (append-nil old.relay.events))) all
+    subst (AllByRecursion (CameFrom y)) (sym (given_next old new [] mode nodes story ∙ ap (all_given (fresh old.relay.mode old.relay.nodes)) (append-nil old.relay.events))) all
 
-came_by : (old new : Desk) (y : List Passage) (e : Event) → new.relay.newest ≡ old.relay.newest → new.relay.nodes ≡ old.relay.nodes → new.relay.events ≡ old.relay.events ++ e ∷ []
+came_by : (old new : Desk) (y : List Passage) (e : Event) → new.relay.mode ≡ old.relay.mode → new.relay.nodes ≡ old.relay.nodes → new.relay.events ≡ old.relay.events ++ e ∷ []
     → AllByRecursion (CameFrom y) (lines_given old.relay)
-    → AllByRecursion (CameFrom y) (given (after (fresh old.relay.newest old.relay.nodes) old.relay.events) e) → AllByRecursion (CameFrom y) (lines_given new.relay)
+    → AllByRecursion (CameFrom y) (given (after (fresh old.relay.mode old.relay.nodes) old.relay.events) e) → AllByRecursion (CameFrom y) (lines_given new.relay)
 came_by old new y e mode nodes story all own =
-    let start : Standing = fresh old.relay.newest old.relay.nodes in
+    let start : Standing = fresh old.relay.mode old.relay.nodes in
     subst (AllByRecursion (CameFrom y)) (sym (given_next old new (e ∷ []) mode nodes story ∙ given_more start old.relay.events e))
     (all_joined (CameFrom y) (all_given start old.relay.events) (given (after start old.relay.events) e) all own)
 
-came_on : (old new : Desk) (y : List Passage) (event : Option Event) → new.relay.newest ≡ old.relay.newest → new.relay.nodes ≡ old.relay.nodes → new.relay.events ≡ old.relay.events ++ option_to_list event → Explains new y
+came_on : (old new : Desk) (y : List Passage) (event : Option Event) → new.relay.mode ≡ old.relay.mode → new.relay.nodes ≡ old.relay.nodes → new.relay.events ≡ old.relay.events ++ option_to_list event → Explains new y
     → AllByRecursion (CameFrom y) (lines_given old.relay) → AllByRecursion (CameFrom y) (lines_given new.relay)
 came_on old new y None mode nodes story explains all = came_still_given old new y mode nodes story all
 came_on old new y (Some (Begins node)) mode nodes story explains all = came_by old new y (Begins node) mode nodes story all tt
 came_on old new y (Some (Ends node)) mode nodes story explains all = came_by old new y (Ends node) mode nodes story all tt
 came_on old new y (Some (Tells node line)) mode nodes story explains all =
     came_by old new y (Tells node line) mode nodes story all
-    (elim (is_given (after (fresh old.relay.newest old.relay.nodes) old.relay.events) node line) as (λ (t : Bool). AllByRecursion (CameFrom y) (if t then line ∷ [] else [])) [
+    (elim (is_given (after (fresh old.relay.mode old.relay.nodes) old.relay.events) node line) as (λ (t : Bool). AllByRecursion (CameFrom y) (if t then line ∷ [] else [])) [
       | true ↦ (came_of new y old.relay.events node line story explains, tt)
       | false ↦ tt
     ])
@@ -167,7 +168,7 @@ none_came P s = tt
 
 pub lines_came : LinesCame
 lines_came desk passed (Course.begin at story explains) =
-    let start : Standing = fresh at.relay.newest at.relay.nodes in
+    let start : Standing = fresh at.relay.mode at.relay.nodes in
     subst (λ (es : List Event). AllByRecursion (CameFrom []) (all_given start es)) (sym story) (none_came (CameFrom []) start)
 lines_came desk passed (Course.step old new x y before next explains) =
     came_on old new y next.event next.mode next.nodes next.happened explains

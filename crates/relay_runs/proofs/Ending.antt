@@ -19,6 +19,6 @@ written_of false bytes got lines is all = is ∙ ap bytes_of_lines all
 
 pub whole_matches_are_written : OverIsTheEnd → WholeMatchesAreWritten
 whole_matches_are_written law desk passed lines course over up parts closes =
-    written_of desk.relay.newest (wrote_over passed (Seat 0)) (lines_given desk.relay) lines
+    written_of desk.relay.mode.newest (wrote_over passed (Seat 0)) (lines_given desk.relay) lines
     (nothing_waits (wrote_over passed (Seat 0)) desk.to_bot.waiting (bytes_of_lines (lines_given desk.relay)) over.written (courses_explain desk passed course).said.bot)
-    (law lines desk.relay.newest desk.relay.nodes desk.relay.events up parts closes over.over)
+    (law lines desk.relay.mode desk.relay.nodes desk.relay.events up parts closes over.over)

@@ -2,6 +2,7 @@
 use Rattle.std.proofs.Common.{◌≡◌, ℕ, ◌==◌, ◌||◌, Bool, true, false, ◌<◌, ◌≤◌, length, get_or, append-nil, List, [], ◌∷◌, ◌++◌, drop, codes, option_to_list, Option, None, Some, inl, inr, refl, ap, sym, subst, ◌∙◌, arith}
 use Rattle.std.proofs.lemmas.Bool.{cases_eq, eq-eqb, ne_eqb, false≢true}
 use Rattle.matchstate.specs.Free.{IsFreeOf}
+use Rattle.seat_relay.specs.declared.mode.Mode.{Mode}
 use Rattle.seat_relay.specs.Relaying.{Line, Story, Event, Begins, Ends, Tells, Says, Pushes, happens, answered, all_given}
 use Rattle.seat_relay.specs.Laws.{fresh, begun, Word, Shows, Over, words_over}
 use Rattle.node_wires.specs.declared.line.Line.TheVariants.{Peer, Seat, Guest}
@@ -89,9 +90,15 @@ no_lines_of_another = refl
 what_the_bot_says : sayings_in further ≡ answer ∷ []
 what_the_bot_says = refl
 
+abbrev from_the_first : Mode
+from_the_first = record { newest = false; first_stands = false }
+
+abbrev from_anywhere : Mode
+from_anywhere = record { newest = true; first_stands = false }
+
 -- a relay of two nodes to which this happened
 abbrev of_two : List Event → Story
-of_two what = record { nodes = 2; newest = false; standing = fresh false 2; events = what }
+of_two what = record { nodes = 2; mode = from_the_first; standing = fresh from_the_first 2; events = what }
 
 an_answer_is_said_once : said_over 0 (of_two events) ≡ answer ∷ []
 unfolding over_behind happens answered
@@ -114,7 +121,7 @@ nobody_else_is_asked : asked_over 1 (of_two further) ≡ None
 unfolding asked_behind happens
 nobody_else_is_asked = refl
 
-a_late_relay_asks_for_the_newest : asks (fresh true 2) ≡ codes "NEWEST"
+a_late_relay_asks_for_the_newest : asks (fresh from_anywhere 2) ≡ codes "NEWEST"
 a_late_relay_asks_for_the_newest = refl
 
 lines_end_so : bytes_of_lines (line 3 4 ∷ line 5 6 ∷ []) ≡ 3 ∷ 4 ∷ 13 ∷ 10 ∷ 5 ∷ 6 ∷ 13 ∷ 10 ∷ []
@@ -240,7 +247,7 @@ nothing_comes_behind_a_whole_line desk waits behind = (subst (IsFreeOf 10) waits
 
 -- ---- the newest line
 
-it_answers_the_newest_line : WasCurrent false 2 events 0 answer
+it_answers_the_newest_line : WasCurrent from_the_first 2 events 0 answer
 unfolding all_given happens
 it_answers_the_newest_line = record {
   front = Begins 0 ∷ Tells 0 (line 0 0) ∷ Says answer ∷ [];
@@ -253,7 +260,7 @@ it_answers_the_newest_line = record {
   whole = refl;
 }
 
-nothing_is_said_by_no_event : (text : List ℕ) → WasCurrent false 2 [] 0 text → ⊥
+nothing_is_said_by_no_event : (text : List ℕ) → WasCurrent from_the_first 2 [] 0 text → ⊥
 nothing_is_said_by_no_event text was = no_event was.front was.behind was.moment
 
 -- ---- what is heard

@@ -5,6 +5,7 @@ use Rattle.byte_queue.specs.Queued.{Queued}
 use Rattle.node_wires.specs.declared.line.Line.{Line as Wire}
 use Rattle.node_wires.specs.declared.line.Line.TheVariants.{Peer, Seat}
 use Rattle.node_wires.specs.Passages.{Passage, Began, Came, Wrote, wrote_over}
+use Rattle.seat_relay.specs.declared.mode.Mode.{Mode}
 use Rattle.seat_relay.specs.Relaying.{Line, Standing, Event, Begins, Ends, Tells, Closes, Says, Pushes, Story, after, answered, given, all_given, with_event, is_given, is_even, link_at}
 use Rattle.seat_relay.specs.Laws.{fresh, begun}
 use Rattle.relay_runs.specs.declared.desk.Desk.{Desk}
@@ -15,7 +16,7 @@ use Rattle.relay_runs.specs.Heard.{IsHeard}
 use Rattle.relay_runs.specs.Own.{was_dialled, IsNoneDialled, IsOwned}
 use Rattle.relay_runs.specs.Few.{IsTail, IsFew}
 use Rattle.relay_runs.specs.Course.{Explains, ComesBehind, IsNext, Course}
-use Rattle.relay_runs.specs.Kept.{GoesOn, BeginsAnew, IsMode, Keeps, Stays}
+use Rattle.relay_runs.specs.Kept.{GoesOn, BeginsAnew, IsMode, are_mended, FirstStands, Keeps, Stays}
 use Rattle.relay_runs.proofs.Writing.{write_behind, came_more, own_line, since_more, since_taken, bots_same, bots_more, bots_one, more_begun}
 use Rattle.relay_runs.proofs.Waiting.{waits_here, waits_elsewhere, set_back}
 use Rattle.relay_runs.proofs.Hearing.{heard_alike, heard_still, heard_read_node, heard_read_bot, heard_fresh}
@@ -40,23 +41,28 @@ kept_on a b c x y z one two = record {
   mended = two.mended ∙ one.mended;
   course = λ s. two.course (one.course s);
   mode = λ newest is. two.mode newest (one.mode newest is);
+  stands = λ is. two.stands (one.stands is);
   grows = grows_on a b c x y z two.course one.grows two.grows;
 }
 
 -- where the bots' lines begin, as long as none is taken in
-mode_same : (a b : Desk) (x y : List Passage) → b.opening ≡ a.opening → b.relay.newest ≡ a.relay.newest → bots_in y ≡ bots_in x → (newest : Bool) → IsMode newest a x → IsMode newest b y
+mode_same : (a b : Desk) (x y : List Passage) → b.opening ≡ a.opening → b.relay.mode ≡ a.relay.mode → bots_in y ≡ bots_in x → (newest : Bool) → IsMode newest a x → IsMode newest b y
 mode_same a b x y opening relay bots newest is = record {
   next = λ none. ap (λ (o : Opening). o.newest) opening ∙ is.next (sym bots ∙ none);
   later = λ some. ap (λ (o : Opening). o.newest) opening ∙ is.later (subst (λ (n : ℕ). 0 < n) bots some);
-  first = λ one. relay ∙ is.first (sym bots ∙ one);
-  further = λ more. relay ∙ is.further (subst (λ (n : ℕ). 1 < n) bots more);
+  first = λ one. ap (λ (m : Mode). m.newest) relay ∙ is.first (sym bots ∙ one);
+  further = λ more. ap (λ (m : Mode). m.newest) relay ∙ is.further (subst (λ (n : ℕ). 1 < n) bots more);
 }
+
+stands_same : (a b : Desk) → b.relay.mode ≡ a.relay.mode → b.mended ≡ a.mended → FirstStands a → FirstStands b
+stands_same a b mode mended is = ap (λ (m : Mode). m.first_stands) mode ∙ (is ∙ ap are_mended (sym mended))
 
 pub kept_same : (a b : Desk) (x y : List Passage) → b ≡ a → y ≡ x → Keeps a b x y
 kept_same a b x y e f = record {
   hello = ap (λ (d : Desk). d.opening.token.items) e;
   mended = ap (λ (d : Desk). d.mended) e;
-  mode = mode_same a b x y (ap (λ (d : Desk). d.opening) e) (ap (λ (d : Desk). d.relay.newest) e) (ap bots_in f);
+  mode = mode_same a b x y (ap (λ (d : Desk). d.opening) e) (ap (λ (d : Desk). d.relay.mode) e) (ap bots_in f);
+  stands = stands_same a b (ap (λ (d : Desk). d.relay.mode) e) (ap (λ (d : Desk). d.mended) e);
   course = λ s. subst (λ (d : Desk). Course d (since_bot y)) (sym e) (subst (λ (ps : List Passage). Course a (since_bot ps)) (sym f) s);
   grows = inl (record { bots = ap bots_in f; more = []; happened = ap (λ (d : Desk). d.relay.events) e ∙ sym (append-nil a.relay.events) });
 }
@@ -83,6 +89,7 @@ kept_quietly a b x s = record {
   hello = ap (λ (o : Opening). o.token.items) s.next.hello;
   mended = s.next.mended;
   mode = mode_same a b x x s.next.hello s.next.mode refl;
+  stands = stands_same a b s.next.mode s.next.mended;
   course = course_on a b (since_bot x) (since_bot x) s;
   grows = inl (record { bots = refl; more = option_to_list s.next.event; happened = s.next.happened });
 }
@@ -93,6 +100,7 @@ kept_passing a b x y p f isnt s = record {
   hello = ap (λ (o : Opening). o.token.items) s.next.hello;
   mended = s.next.mended;
   mode = mode_same a b x y s.next.hello s.next.mode (bots_same x y p f isnt);
+  stands = stands_same a b s.next.mode s.next.mended;
   course = λ c. subst (Course b) (sym (since_more x y p f isnt)) (course_on a b (since_bot x) (since_bot x ++ p ∷ []) s c);
   grows = inl (record { bots = bots_same x y p f isnt; more = option_to_list s.next.event; happened = s.next.happened });
 }
@@ -108,7 +116,7 @@ steps_by : (a b : Desk) (x y : List Passage) (p : Option Passage) → y ≡ x ++
     → ((node : ℕ) → wrote_over y (Peer node) ++ waits_at b.to_nodes.items node ≡ wrote_over x (Peer node) ++ waits_at a.to_nodes.items node) → (IsHeard a x → IsHeard b y)
     → (IsOwned a x → IsOwned b y) → IfSome p (ComesBehind a) → (IsFew a → IsFew b) → Steps a b x y
 steps_by a b x y p f counts hello mended relay bot others heard own behind few = record {
-  next = record { hello = hello; mode = ap (λ (r : Story). r.newest) relay; nodes = ap (λ (r : Story). r.nodes) relay; mended = mended; event = None; happened = ap (λ (r : Story). r.events) relay ∙ sym (append-nil a.relay.events); passage = p; passed = f; behind = behind };
+  next = record { hello = hello; mode = ap (λ (r : Story). r.mode) relay; nodes = ap (λ (r : Story). r.nodes) relay; mended = mended; event = None; happened = ap (λ (r : Story). r.events) relay ∙ sym (append-nil a.relay.events); passage = p; passed = f; behind = behind };
   begun = λ was node. ap (λ (r : Story). begun node r.events) relay ∙ (was node ∙ sym (counts node));
   heard = heard;
   own = own;
@@ -241,21 +249,21 @@ kept_read_node a b x y node queue is hello mended dialled relay bot queues from_
 -- ---- an event
 
 steps_event : (a b : Desk) (x y : List Passage) (e : Event) (p : Option Passage) → y ≡ x ++ option_to_list p → ((node : ℕ) → begun_over y (Peer node) ≡ begun_over x (Peer node) + (if begins_at node e then 1 else 0))
-    → b.relay ≡ with_event a.relay e → a.relay.standing ≡ after (fresh a.relay.newest a.relay.nodes) a.relay.events → b.opening ≡ a.opening → b.mended ≡ a.mended
+    → b.relay ≡ with_event a.relay e → a.relay.standing ≡ after (fresh a.relay.mode a.relay.nodes) a.relay.events → b.opening ≡ a.opening → b.mended ≡ a.mended
     → wrote_over y (Seat 0) ++ b.to_bot.waiting ≡ (wrote_over x (Seat 0) ++ a.to_bot.waiting) ++ bytes_of_lines (given a.relay.standing e)
     → ((node : ℕ) → begins_at node e ≡ false → wrote_over y (Peer node) ++ waits_at b.to_nodes.items node ≡ (wrote_over x (Peer node) ++ waits_at a.to_nodes.items node) ++ bytes_of_answers (more_over node a.relay.standing e))
     → ((node : ℕ) → begins_at node e ≡ true → wrote_over y (Peer node) ++ waits_at b.to_nodes.items node ≡ greeting b.opening.token.items (asks a.relay.standing)) → (IsHeard a x → IsHeard b y) → (IsOwned a x → IsOwned b y) → IfSome p (ComesBehind a) → (IsFew a → IsFew b) → Steps a b x y
 steps_event a b x y e p f counts story follows hello mended bot others first heard own behind few =
     let happened : b.relay.events ≡ a.relay.events ++ e ∷ [] = ap (λ (r : Story). r.events) story in
     record {
-      next = record { hello = hello; mode = ap (λ (r : Story). r.newest) story; nodes = ap (λ (r : Story). r.nodes) story; mended = mended; event = Some e; happened = happened; passage = p; passed = f; behind = behind };
+      next = record { hello = hello; mode = ap (λ (r : Story). r.mode) story; nodes = ap (λ (r : Story). r.nodes) story; mended = mended; event = Some e; happened = happened; passage = p; passed = f; behind = behind };
       begun = λ was node. ap (λ (es : List Event). begun node es) happened
           ∙ (begun_more node a.relay.events e ∙ (ap (λ (n : ℕ). n + (if begins_at node e then 1 else 0)) (was node) ∙ sym (counts node)));
       heard = heard;
       own = own;
       few = few;
       said = λ s.
-          let start : Standing = fresh a.relay.newest a.relay.nodes in
+          let start : Standing = fresh a.relay.mode a.relay.nodes in
           let now : Story = with_event a.relay e in
           record {
             bot =
@@ -287,7 +295,7 @@ steps_event a b x y e p f counts story follows hello mended bot others first hea
     }
 
 -- one by which nothing is said and nothing passes
-kept_silent : (a b : Desk) (x : List Passage) (e : Event) → b.relay ≡ with_event a.relay e → a.relay.standing ≡ after (fresh a.relay.newest a.relay.nodes) a.relay.events → b.opening ≡ a.opening → b.mended ≡ a.mended → b.dialled.items ≡ a.dialled.items
+kept_silent : (a b : Desk) (x : List Passage) (e : Event) → b.relay ≡ with_event a.relay e → a.relay.standing ≡ after (fresh a.relay.mode a.relay.nodes) a.relay.events → b.opening ≡ a.opening → b.mended ≡ a.mended → b.dialled.items ≡ a.dialled.items
     → b.to_bot.waiting ≡ a.to_bot.waiting → ((node : ℕ) → waits_at b.to_nodes.items node ≡ waits_at a.to_nodes.items node)
     → given a.relay.standing e ≡ [] → ((node : ℕ) → more_over node a.relay.standing e ≡ []) → ((node : ℕ) → begins_at node e ≡ false) → b.is_seated ≡ a.is_seated
     → (IsHeard a (since_bot x) → IsHeard b (since_bot x)) → Keeps a b x x
@@ -304,33 +312,33 @@ kept_silent a b x e story follows hello mended dialled bot queues none no_more i
     (λ f. few_event a b e story follows hello (subst (λ (l : List ℕ). length l < 65536 + 4098) (sym bot) f.bot) (λ node n. inl (no_more node, queues node))
     (λ node is_it. absurd (false≢true (sym (isnt node) ∙ is_it))) f))
 
-pub kept_ends : (a b : Desk) (x y : List Passage) (node : ℕ) → b.relay ≡ with_event a.relay (Ends node) → a.relay.standing ≡ after (fresh a.relay.newest a.relay.nodes) a.relay.events → b.opening ≡ a.opening → b.mended ≡ a.mended → b.dialled.items ≡ a.dialled.items
+pub kept_ends : (a b : Desk) (x y : List Passage) (node : ℕ) → b.relay ≡ with_event a.relay (Ends node) → a.relay.standing ≡ after (fresh a.relay.mode a.relay.nodes) a.relay.events → b.opening ≡ a.opening → b.mended ≡ a.mended → b.dialled.items ≡ a.dialled.items
     → b.to_bot.waiting ≡ a.to_bot.waiting → b.to_nodes.items ≡ a.to_nodes.items → y ≡ x → b.is_seated ≡ a.is_seated → (IsHeard a (since_bot x) → IsHeard b (since_bot x)) → Keeps a b x y
 kept_ends a b x y node story follows hello mended dialled bot queues f seat heard =
     subst (Keeps a b x) (sym f)
     (kept_silent a b x (Ends node) story follows hello mended dialled bot (λ n. ap (λ (qs : List Queued). waits_at qs n) queues) refl (λ n. refl) (λ n. refl) seat heard)
 
-pub kept_says : (a b : Desk) (x : List Passage) (text : List ℕ) → b.relay ≡ with_event a.relay (Says text) → a.relay.standing ≡ after (fresh a.relay.newest a.relay.nodes) a.relay.events → b.opening ≡ a.opening → b.mended ≡ a.mended → b.dialled.items ≡ a.dialled.items
+pub kept_says : (a b : Desk) (x : List Passage) (text : List ℕ) → b.relay ≡ with_event a.relay (Says text) → a.relay.standing ≡ after (fresh a.relay.mode a.relay.nodes) a.relay.events → b.opening ≡ a.opening → b.mended ≡ a.mended → b.dialled.items ≡ a.dialled.items
     → b.to_bot.waiting ≡ a.to_bot.waiting → b.to_nodes.items ≡ a.to_nodes.items → b.is_seated ≡ a.is_seated → (IsHeard a (since_bot x) → IsHeard b (since_bot x)) → Keeps a b x x
 kept_says a b x text story follows hello mended dialled bot queues seat heard =
     kept_silent a b x (Says text) story follows hello mended dialled bot (λ n. ap (λ (qs : List Queued). waits_at qs n) queues) refl (λ n. refl) (λ n. refl) seat heard
 
 -- a node says that the match is over
-pub kept_closes : (a b : Desk) (x : List Passage) (node : ℕ) → b.relay ≡ with_event a.relay (Closes node) → a.relay.standing ≡ after (fresh a.relay.newest a.relay.nodes) a.relay.events
+pub kept_closes : (a b : Desk) (x : List Passage) (node : ℕ) → b.relay ≡ with_event a.relay (Closes node) → a.relay.standing ≡ after (fresh a.relay.mode a.relay.nodes) a.relay.events
     → b.opening ≡ a.opening → b.mended ≡ a.mended → b.dialled.items ≡ a.dialled.items → b.to_bot.waiting ≡ a.to_bot.waiting → b.to_nodes.items ≡ a.to_nodes.items
     → b.is_seated ≡ a.is_seated → (IsHeard a (since_bot x) → IsHeard b (since_bot x)) → Keeps a b x x
 kept_closes a b x node story follows hello mended dialled bot queues seat heard =
     kept_silent a b x (Closes node) story follows hello mended dialled bot (λ n. ap (λ (qs : List Queued). waits_at qs n) queues) refl (λ n. refl) (λ n. refl) seat heard
 
 -- a line is told that the bot isn't given
-pub kept_old : (a b : Desk) (x : List Passage) (node : ℕ) (line : Line) → b.relay ≡ with_event a.relay (Tells node line) → a.relay.standing ≡ after (fresh a.relay.newest a.relay.nodes) a.relay.events
+pub kept_old : (a b : Desk) (x : List Passage) (node : ℕ) (line : Line) → b.relay ≡ with_event a.relay (Tells node line) → a.relay.standing ≡ after (fresh a.relay.mode a.relay.nodes) a.relay.events
     → b.opening ≡ a.opening → b.mended ≡ a.mended → b.dialled.items ≡ a.dialled.items → b.to_bot.waiting ≡ a.to_bot.waiting → b.to_nodes.items ≡ a.to_nodes.items → is_given a.relay.standing node line ≡ false
     → b.is_seated ≡ a.is_seated → (IsHeard a (since_bot x) → IsHeard b (since_bot x)) → Keeps a b x x
 kept_old a b x node line story follows hello mended dialled bot queues old seat heard =
     kept_silent a b x (Tells node line) story follows hello mended dialled bot (λ n. ap (λ (qs : List Queued). waits_at qs n) queues) (ap (λ (t : Bool). if t then line ∷ [] else []) old) (λ n. refl) (λ n. refl) seat heard
 
 -- and one that it is
-pub kept_given : (a b : Desk) (x : List Passage) (node : ℕ) (line : Line) → b.relay ≡ with_event a.relay (Tells node line) → a.relay.standing ≡ after (fresh a.relay.newest a.relay.nodes) a.relay.events
+pub kept_given : (a b : Desk) (x : List Passage) (node : ℕ) (line : Line) → b.relay ≡ with_event a.relay (Tells node line) → a.relay.standing ≡ after (fresh a.relay.mode a.relay.nodes) a.relay.events
     → b.opening ≡ a.opening → b.mended ≡ a.mended → b.dialled.items ≡ a.dialled.items → b.to_bot.waiting ≡ a.to_bot.waiting ++ ended line.text → b.to_nodes.items ≡ a.to_nodes.items → is_given a.relay.standing node line ≡ true
     → length a.to_bot.waiting < 65536 → length line.text ≤ 4096 → b.is_seated ≡ a.is_seated → (IsHeard a (since_bot x) → IsHeard b (since_bot x)) → Keeps a b x x
 kept_given a b x node line story follows hello mended dialled bot queues news few short seat heard =
@@ -345,7 +353,7 @@ kept_given a b x node line story follows hello mended dialled bot queues news fe
     heard (owned_alike a b z dialled (λ off. sym seat ∙ off)) tt
     (few_event a b (Tells node line) story follows hello (few_lines a.to_bot.waiting line.text b.to_bot.waiting bot few short) (λ n isnt. inl (refl, ap (λ (qs : List Queued). waits_at qs n) queues)) (λ n is_it. absurd cc)))
 
-pub kept_dial : (a b : Desk) (x y : List Passage) (node : ℕ) (queue : Queued) → b.relay ≡ with_event a.relay (Begins node) → a.relay.standing ≡ after (fresh a.relay.newest a.relay.nodes) a.relay.events
+pub kept_dial : (a b : Desk) (x y : List Passage) (node : ℕ) (queue : Queued) → b.relay ≡ with_event a.relay (Begins node) → a.relay.standing ≡ after (fresh a.relay.mode a.relay.nodes) a.relay.events
     → b.opening ≡ a.opening → b.mended ≡ a.mended → b.dialled.items ≡ set a.dialled.items node true → b.to_bot.waiting ≡ a.to_bot.waiting → b.to_nodes.items ≡ set a.to_nodes.items node queue → node < length a.to_nodes.items
     → queue.waiting ≡ greeting a.opening.token.items (asks a.relay.standing) → y ≡ x ++ Began (Peer node) ∷ [] → b.is_seated ≡ true → (IsHeard a (since_bot x) → IsHeard b (since_bot x ++ Began (Peer node) ∷ [])) → Keeps a b x y
 kept_dial a b x y node queue story follows hello mended dialled bot queues within q f seat heard =
@@ -390,7 +398,7 @@ nothing_said node s token = refl
 
 pub course_begins : (b : Desk) → b.relay.events ≡ [] → b.from_bot.waiting ≡ [] → b.passes_over ≡ false → b.is_seated ≡ false → b.to_bot.waiting ≡ [] → AreEmpty b.from_nodes.items → AreEmpty b.to_nodes.items → IsNoneDialled b.dialled.items → Course b []
 course_begins b story from_bot over seat to_bot from_nodes to_nodes none =
-    let start : Standing = fresh b.relay.newest b.relay.nodes in
+    let start : Standing = fresh b.relay.mode b.relay.nodes in
     Course.begin b story (record {
       begun = λ node. ap (λ (es : List Event). begun node es) story;
       said = record {
@@ -413,7 +421,7 @@ some_was : (n m : ℕ) → m ≡ n + 1 → 1 < m → 0 < n
 some_was n m is more = omega arith
 
 -- one bot more
-mode_taken : (a b : Desk) (x y : List Passage) → b.opening.newest ≡ true → b.relay.newest ≡ a.opening.newest → bots_in y ≡ bots_in x + 1 → (newest : Bool) → IsMode newest a x → IsMode newest b y
+mode_taken : (a b : Desk) (x y : List Passage) → b.opening.newest ≡ true → b.relay.mode.newest ≡ a.opening.newest → bots_in y ≡ bots_in x + 1 → (newest : Bool) → IsMode newest a x → IsMode newest b y
 mode_taken a b x y opening relay bots newest is = record {
   next = λ none. absurd (none_more (bots_in x) (bots_in y) bots none);
   later = λ some. opening;
@@ -421,15 +429,16 @@ mode_taken a b x y opening relay bots newest is = record {
   further = λ more. relay ∙ is.later (some_was (bots_in x) (bots_in y) bots more);
 }
 
-pub kept_taken : (a b : Desk) (x y : List Passage) → b.opening.token.items ≡ a.opening.token.items → b.opening.newest ≡ true → b.relay.newest ≡ a.opening.newest → b.mended ≡ a.mended → b.relay.events ≡ [] → b.from_bot.waiting ≡ []
+pub kept_taken : (a b : Desk) (x y : List Passage) → b.opening.token.items ≡ a.opening.token.items → b.opening.newest ≡ true → b.relay.mode ≡ record { newest = a.opening.newest; first_stands = are_mended a.mended } → b.mended ≡ a.mended → b.relay.events ≡ [] → b.from_bot.waiting ≡ []
     → b.passes_over ≡ false → b.is_seated ≡ false → b.to_bot.waiting ≡ [] → AreEmpty b.from_nodes.items → AreEmpty b.to_nodes.items → IsNoneDialled b.dialled.items → y ≡ x ++ Began (Seat 0) ∷ [] → Keeps a b x y
-kept_taken a b x y token opening newest mended story from_bot over seat to_bot from_nodes to_nodes none f =
+kept_taken a b x y token opening relay mended story from_bot over seat to_bot from_nodes to_nodes none f =
     let course : Course b (since_bot y) = subst (Course b) (sym (since_taken x y (Began (Seat 0)) f refl)) (course_begins b story from_bot over seat to_bot from_nodes to_nodes none) in
     record {
       hello = token;
       mended = mended;
       course = λ was. course;
-      mode = mode_taken a b x y opening newest (bots_one x y (Began (Seat 0)) f refl);
+      mode = mode_taken a b x y opening (ap (λ (m : Mode). m.newest) relay) (bots_one x y (Began (Seat 0)) f refl);
+      stands = λ was. ap (λ (m : Mode). m.first_stands) relay ∙ ap are_mended (sym mended);
       grows = inr (record { bots = bots_more x y (Began (Seat 0)) f refl; course = course });
     }
 
@@ -443,7 +452,7 @@ no_answer : (s : Standing) (node : ℕ) → is_even (link_at s.links node) ≡ f
 unfolding answered
 no_answer s node may = ap (λ (t : Bool). if t then option_to_list s.kept else []) may
 
-pub kept_said : (a b : Desk) (x : List Passage) (node : ℕ) (queue : Queued) (answer : List ℕ) → b.relay ≡ with_event a.relay (Pushes node) → a.relay.standing ≡ after (fresh a.relay.newest a.relay.nodes) a.relay.events
+pub kept_said : (a b : Desk) (x : List Passage) (node : ℕ) (queue : Queued) (answer : List ℕ) → b.relay ≡ with_event a.relay (Pushes node) → a.relay.standing ≡ after (fresh a.relay.mode a.relay.nodes) a.relay.events
     → b.opening ≡ a.opening → b.mended ≡ a.mended → b.dialled.items ≡ a.dialled.items → b.to_bot.waiting ≡ a.to_bot.waiting → b.to_nodes.items ≡ set a.to_nodes.items node queue → node < length a.to_nodes.items
     → queue.waiting ≡ waits_at a.to_nodes.items node ++ ended answer → a.relay.standing.kept ≡ Some answer → is_even (link_at a.relay.standing.links node) ≡ true
     → waits_at a.to_nodes.items node ≡ [] → b.is_seated ≡ a.is_seated → (IsHeard a (since_bot x) → IsHeard b (since_bot x)) → Keeps a b x x
@@ -476,7 +485,7 @@ kept_said a b x node queue answer story follows hello mended dialled bot queues 
     ])
     (λ other is_it. absurd cc) few))
 
-pub kept_unsaid : (a b : Desk) (x : List Passage) (node : ℕ) (queue : Queued) → b.relay ≡ with_event a.relay (Pushes node) → a.relay.standing ≡ after (fresh a.relay.newest a.relay.nodes) a.relay.events
+pub kept_unsaid : (a b : Desk) (x : List Passage) (node : ℕ) (queue : Queued) → b.relay ≡ with_event a.relay (Pushes node) → a.relay.standing ≡ after (fresh a.relay.mode a.relay.nodes) a.relay.events
     → b.opening ≡ a.opening → b.mended ≡ a.mended → b.dialled.items ≡ a.dialled.items → b.to_bot.waiting ≡ a.to_bot.waiting → b.to_nodes.items ≡ set a.to_nodes.items node queue → node < length a.to_nodes.items
     → queue.waiting ≡ waits_at a.to_nodes.items node → is_even (link_at a.relay.standing.links node) ≡ false → b.is_seated ≡ a.is_seated → (IsHeard a (since_bot x) → IsHeard b (since_bot x)) → Keeps a b x x
 kept_unsaid a b x node queue story follows hello mended dialled bot queues within q may seat heard =

@@ -2,7 +2,8 @@
 use Rattle.std.proofs.Common.{◌≡◌, ◌⊎◌, ℕ, ◌==◌, ◌&&◌, Bool, true, false, if◌then◌else◌, List, [], ◌∷◌, ◌++◌, append_assoc, append-nil, inl, inr, Option, Some, None, refl, ap, sym, subst, ◌∙◌}
 use Rattle.std.proofs.lemmas.Bool.{cases_eq, ne_eqb, eq-eqb}
 use Rattle.std.specs.List.{AllByRecursion}
-use Rattle.seat_relay.specs.Relaying.{Line, Standing, Event, Begins, Ends, Tells, Closes, Says, Pushes, happens, answered, after, given, all_given, is_news, is_taken, is_even, has_told, echoes, link_at, with_news, with_old, with_over, with_answer, with_link}
+use Rattle.seat_relay.specs.declared.mode.Mode.{Mode}
+use Rattle.seat_relay.specs.Relaying.{Line, Standing, Event, Begins, Ends, Tells, Closes, Says, Pushes, happens, answered, after, given, all_given, is_news, is_taken, is_even, has_told, is_kept, link_at, with_news, with_old, with_over, with_answer, with_link}
 use Rattle.seat_relay.specs.declared.link.Link.TheVariants.{Said as WasSaid}
 use Rattle.seat_relay.specs.Laws.{fresh, Said, said_with, all_said, IsCurrent, AnswersAreCurrent}
 use Rattle.relay_runs.specs.Said.{over_by, over_behind}
@@ -37,7 +38,7 @@ last_by s x more line (inl is) = inl (given s x ++ is.0, ap (λ (ls : List Line)
 last_by s (Begins node) more line (inr is) = inr is
 last_by s (Ends node) more line (inr is) = inr is
 last_by s (Tells node l) more line (inr is) =
-    (elim (is_taken s.newest s.last (link_at s.links node) l.place) as (λ (t : Bool). (if t then (if is_news s.last l then with_news s node l else with_old s node l) else s).last ≡ Some line
+    (elim (is_taken s.mode.newest s.last (link_at s.links node) l.place) as (λ (t : Bool). (if t then (if is_news s.last l then with_news s node l else with_old s node l) else s).last ≡ Some line
     → all_given (if t then (if is_news s.last l then with_news s node l else with_old s node l) else s) more ≡ []
     → ((lines : List Line) × ((if t && is_news s.last l then l ∷ [] else []) ++ all_given (if t then (if is_news s.last l then with_news s node l else with_old s node l) else s) more ≡ lines ++ line ∷ []))
     ⊎ ((s.last ≡ Some line) × ((if t && is_news s.last l then l ∷ [] else []) ++ all_given (if t then (if is_news s.last l then with_news s node l else with_old s node l) else s) more ≡ []))) [
@@ -56,7 +57,7 @@ last_by s (Closes node) more line (inr is) =
       | false ↦ λ same none. inr (same, none)
     ]) is.0 is.1
 last_by s (Says text) more line (inr is) =
-    (elim (echoes s.last text) as (λ (b : Bool). (if b then with_answer s text else s).last ≡ Some line → all_given (if b then with_answer s text else s) more ≡ []
+    (elim (is_kept s text) as (λ (b : Bool). (if b then with_answer s text else s).last ≡ Some line → all_given (if b then with_answer s text else s) more ≡ []
     → ((lines : List Line) × (all_given (if b then with_answer s text else s) more ≡ lines ++ line ∷ [])) ⊎ ((s.last ≡ Some line) × (all_given (if b then with_answer s text else s) more ≡ []))) [
       | true ↦ λ same none. inr (same, none)
       | false ↦ λ same none. inr (same, none)
@@ -76,10 +77,10 @@ is_last s (x ∷ more) line same = last_by s x more line (is_last (happens s x) 
 no_line : (line : Line) → None ≡ Some line → ⊥
 no_line line same = cc
 
-given_last : (newest : Bool) (nodes : ℕ) (front : List Event) (line : Line) → (after (fresh newest nodes) front).last ≡ Some line
-    → (lines : List Line) × (all_given (fresh newest nodes) front ≡ lines ++ line ∷ [])
-given_last newest nodes front line same =
-    elim (is_last (fresh newest nodes) front line same) [
+given_last : (mode : Mode) (nodes : ℕ) (front : List Event) (line : Line) → (after (fresh mode nodes) front).last ≡ Some line
+    → (lines : List Line) × (all_given (fresh mode nodes) front ≡ lines ++ line ∷ [])
+given_last mode nodes front line same =
+    elim (is_last (fresh mode nodes) front line same) [
       | inl is ↦ is
       | inr none ↦ absurd (no_line line none.0)
     ]
@@ -102,52 +103,52 @@ each_said : (last : Option Line) (texts : List (List ℕ)) (Q : List ℕ → Typ
 each_said last [] Q so all = tt
 each_said last (text ∷ texts) Q so all = (so text all.0, each_said last texts Q so all.1)
 
-own_current : AnswersAreCurrent → (newest : Bool) (nodes node : ℕ) (front more : List Event) → AllByRecursion (WasCurrent newest nodes (front ++ Pushes node ∷ more) node) (answered (after (fresh newest nodes) front) (Pushes node))
-own_current law newest nodes node front more =
-    let s : Standing = after (fresh newest nodes) front in
+own_current : AnswersAreCurrent → (mode : Mode) (nodes node : ℕ) (front more : List Event) → AllByRecursion (WasCurrent mode nodes (front ++ Pushes node ∷ more) node) (answered (after (fresh mode nodes) front) (Pushes node))
+own_current law mode nodes node front more =
+    let s : Standing = after (fresh mode nodes) front in
     let texts : List (List ℕ) = answered s (Pushes node) in
     let all : AllByRecursion IsCurrent (said_with s.last texts) =
-    all_behind IsCurrent (all_said (fresh newest nodes) front) (said_with s.last texts) (subst (AllByRecursion IsCurrent) (said_more (fresh newest nodes) front (Pushes node)) (law newest nodes (front ++ Pushes node ∷ []))) in
-    each_said s.last texts (WasCurrent newest nodes (front ++ Pushes node ∷ more) node) (λ text is.
-    let found : (lines : List Line) × (all_given (fresh newest nodes) front ≡ lines ++ is.line ∷ []) = given_last newest nodes front is.line is.given_last in
+    all_behind IsCurrent (all_said (fresh mode nodes) front) (said_with s.last texts) (subst (AllByRecursion IsCurrent) (said_more (fresh mode nodes) front (Pushes node)) (law mode nodes (front ++ Pushes node ∷ []))) in
+    each_said s.last texts (WasCurrent mode nodes (front ++ Pushes node ∷ more) node) (λ text is.
+    let found : (lines : List Line) × (all_given (fresh mode nodes) front ≡ lines ++ is.line ∷ []) = given_last mode nodes front is.line is.given_last in
     record { front = front; behind = more; moment = refl; lines = found.0; line = is.line; given_last = found.1; field = is.field; whole = is.whole }) all
 
 -- ---- over the connection of a node
 
-by_one : AnswersAreCurrent → (newest : Bool) (nodes node : ℕ) (front : List Event) (e : Event) (more : List Event) (before : List (List ℕ)) → AllByRecursion (WasCurrent newest nodes (front ++ e ∷ more) node) before
-    → AllByRecursion (WasCurrent newest nodes (front ++ e ∷ more) node) (over_by node (after (fresh newest nodes) front) before e)
-by_one law newest nodes node front (Begins other) more before all =
-    elim (other == node) as (λ (b : Bool). AllByRecursion (WasCurrent newest nodes (front ++ Begins other ∷ more) node) (if b then [] else before)) [ true ↦ tt | false ↦ all ]
-by_one law newest nodes node front (Ends other) more before all = all
-by_one law newest nodes node front (Tells other line) more before all = all
-by_one law newest nodes node front (Closes other) more before all = all
-by_one law newest nodes node front (Says text) more before all = all
-by_one law newest nodes node front (Pushes other) more before all =
-    let s : Standing = after (fresh newest nodes) front in
-    let P : ℕ → Type 0 = λ n. AllByRecursion (WasCurrent newest nodes (front ++ Pushes n ∷ more) node) before
-    → AllByRecursion (WasCurrent newest nodes (front ++ Pushes n ∷ more) node) (if n == node then before ++ answered s (Pushes n) else before) in
+by_one : AnswersAreCurrent → (mode : Mode) (nodes node : ℕ) (front : List Event) (e : Event) (more : List Event) (before : List (List ℕ)) → AllByRecursion (WasCurrent mode nodes (front ++ e ∷ more) node) before
+    → AllByRecursion (WasCurrent mode nodes (front ++ e ∷ more) node) (over_by node (after (fresh mode nodes) front) before e)
+by_one law mode nodes node front (Begins other) more before all =
+    elim (other == node) as (λ (b : Bool). AllByRecursion (WasCurrent mode nodes (front ++ Begins other ∷ more) node) (if b then [] else before)) [ true ↦ tt | false ↦ all ]
+by_one law mode nodes node front (Ends other) more before all = all
+by_one law mode nodes node front (Tells other line) more before all = all
+by_one law mode nodes node front (Closes other) more before all = all
+by_one law mode nodes node front (Says text) more before all = all
+by_one law mode nodes node front (Pushes other) more before all =
+    let s : Standing = after (fresh mode nodes) front in
+    let P : ℕ → Type 0 = λ n. AllByRecursion (WasCurrent mode nodes (front ++ Pushes n ∷ more) node) before
+    → AllByRecursion (WasCurrent mode nodes (front ++ Pushes n ∷ more) node) (if n == node then before ++ answered s (Pushes n) else before) in
     let here : P node = λ before_all.
-    subst (λ (b : Bool). AllByRecursion (WasCurrent newest nodes (front ++ Pushes node ∷ more) node) (if b then before ++ answered s (Pushes node) else before)) (sym (eq-eqb node node refl))
-    (all_joined (WasCurrent newest nodes (front ++ Pushes node ∷ more) node) before (answered s (Pushes node)) before_all (own_current law newest nodes node front more)) in
+    subst (λ (b : Bool). AllByRecursion (WasCurrent mode nodes (front ++ Pushes node ∷ more) node) (if b then before ++ answered s (Pushes node) else before)) (sym (eq-eqb node node refl))
+    (all_joined (WasCurrent mode nodes (front ++ Pushes node ∷ more) node) before (answered s (Pushes node)) before_all (own_current law mode nodes node front more)) in
     elim (cases_eq other node) [
       | inl same ↦ subst P (sym same) here all
-      | inr differs ↦ subst (λ (b : Bool). AllByRecursion (WasCurrent newest nodes (front ++ Pushes other ∷ more) node) (if b then before ++ answered s (Pushes other) else before)) (sym (ne_eqb other node differs)) all
+      | inr differs ↦ subst (λ (b : Bool). AllByRecursion (WasCurrent mode nodes (front ++ Pushes other ∷ more) node) (if b then before ++ answered s (Pushes other) else before)) (sym (ne_eqb other node differs)) all
     ]
 
-over_from : AnswersAreCurrent → (newest : Bool) (nodes node : ℕ) (front events : List Event) (before : List (List ℕ)) → AllByRecursion (WasCurrent newest nodes (front ++ events) node) before
-    → AllByRecursion (WasCurrent newest nodes (front ++ events) node) (over_behind node (after (fresh newest nodes) front) before events)
+over_from : AnswersAreCurrent → (mode : Mode) (nodes node : ℕ) (front events : List Event) (before : List (List ℕ)) → AllByRecursion (WasCurrent mode nodes (front ++ events) node) before
+    → AllByRecursion (WasCurrent mode nodes (front ++ events) node) (over_behind node (after (fresh mode nodes) front) before events)
 unfolding over_behind
-over_from law newest nodes node front [] before all = all
-over_from law newest nodes node front (e ∷ more) before all =
-    let s : Standing = after (fresh newest nodes) front in
+over_from law mode nodes node front [] before all = all
+over_from law mode nodes node front (e ∷ more) before all =
+    let s : Standing = after (fresh mode nodes) front in
     let next : List (List ℕ) = over_by node s before e in
     let joined : (front ++ e ∷ []) ++ more ≡ front ++ e ∷ more = append_assoc front (e ∷ []) more in
-    let one : AllByRecursion (WasCurrent newest nodes (front ++ e ∷ more) node) next = by_one law newest nodes node front e more before all in
-    let rest : AllByRecursion (WasCurrent newest nodes ((front ++ e ∷ []) ++ more) node) (over_behind node (after (fresh newest nodes) (front ++ e ∷ [])) next more) =
-    over_from law newest nodes node (front ++ e ∷ []) more next (subst (λ (es : List Event). AllByRecursion (WasCurrent newest nodes es node) next) (sym joined) one) in
-    subst (λ (n : Standing). AllByRecursion (WasCurrent newest nodes (front ++ e ∷ more) node) (over_behind node n next more)) (after_more (fresh newest nodes) front e)
-    (subst (λ (es : List Event). AllByRecursion (WasCurrent newest nodes es node) (over_behind node (after (fresh newest nodes) (front ++ e ∷ [])) next more)) joined rest)
+    let one : AllByRecursion (WasCurrent mode nodes (front ++ e ∷ more) node) next = by_one law mode nodes node front e more before all in
+    let rest : AllByRecursion (WasCurrent mode nodes ((front ++ e ∷ []) ++ more) node) (over_behind node (after (fresh mode nodes) (front ++ e ∷ [])) next more) =
+    over_from law mode nodes node (front ++ e ∷ []) more next (subst (λ (es : List Event). AllByRecursion (WasCurrent mode nodes es node) next) (sym joined) one) in
+    subst (λ (n : Standing). AllByRecursion (WasCurrent mode nodes (front ++ e ∷ more) node) (over_behind node n next more)) (after_more (fresh mode nodes) front e)
+    (subst (λ (es : List Event). AllByRecursion (WasCurrent mode nodes es node) (over_behind node (after (fresh mode nodes) (front ++ e ∷ [])) next more)) joined rest)
 
-pub over_current : AnswersAreCurrent → (newest : Bool) (nodes node : ℕ) (events : List Event) → AllByRecursion (WasCurrent newest nodes events node) (over_behind node (fresh newest nodes) [] events)
+pub over_current : AnswersAreCurrent → (mode : Mode) (nodes node : ℕ) (events : List Event) → AllByRecursion (WasCurrent mode nodes events node) (over_behind node (fresh mode nodes) [] events)
 unfolding after
-over_current law newest nodes node events = over_from law newest nodes node [] events [] tt
+over_current law mode nodes node events = over_from law mode nodes node [] events [] tt

@@ -3,7 +3,7 @@ use Rattle.std.proofs.Common.{◌≡◌, ℕ, ◌==◌, Bool, true, false, if◌
 use Rattle.std.specs.List.{AllByRecursion}
 use Rattle.game_def.specs.Game.{Game}
 use Rattle.matchstate.specs.Free.{IsFreeOf}
-use Rattle.seat_relay.specs.Relaying.{Standing, Event, Begins, Ends, Tells, Closes, Says, Pushes, happens, answered, is_news, is_taken, has_told, echoes, is_even, link_at, with_news, with_old, with_over, with_answer, with_link}
+use Rattle.seat_relay.specs.Relaying.{Standing, Event, Begins, Ends, Tells, Closes, Says, Pushes, happens, answered, is_news, is_taken, has_told, is_kept, is_even, link_at, with_news, with_old, with_over, with_answer, with_link}
 use Rattle.seat_relay.specs.declared.link.Link.TheVariants.{Said as WasSaid}
 use Rattle.seat_relay.specs.Laws.{fresh, AnswersAreCurrent}
 use Rattle.node_wires.specs.Passages.{Passage}
@@ -32,12 +32,12 @@ unfolding happens
 kept_so P s (Begins node) kept said = kept
 kept_so P s (Ends node) kept said = kept
 kept_so P s (Tells node line) kept said =
-    elim (is_taken s.newest s.last (link_at s.links node) line.place) as (λ (b : Bool). IfSome (if b then (if is_news s.last line then with_news s node line else with_old s node line) else s).kept P) [
+    elim (is_taken s.mode.newest s.last (link_at s.links node) line.place) as (λ (b : Bool). IfSome (if b then (if is_news s.last line then with_news s node line else with_old s node line) else s).kept P) [
       | true ↦ elim (is_news s.last line) as (λ (b : Bool). IfSome (if b then with_news s node line else with_old s node line).kept P) [ true ↦ tt | false ↦ kept ]
       | false ↦ kept
     ]
 kept_so P s (Closes node) kept said = elim (has_told (link_at s.links node)) as (λ (b : Bool). IfSome (if b then with_over s else s).kept P) [ true ↦ kept | false ↦ kept ]
-kept_so P s (Says text) kept said = elim (echoes s.last text) as (λ (b : Bool). IfSome (if b then with_answer s text else s).kept P) [ true ↦ said.0 | false ↦ kept ]
+kept_so P s (Says text) kept said = elim (is_kept s text) as (λ (b : Bool). IfSome (if b then with_answer s text else s).kept P) [ true ↦ said.0 | false ↦ kept ]
 kept_so P s (Pushes node) kept said = elim (is_even (link_at s.links node)) as (λ (b : Bool). IfSome (if b then with_link s node WasSaid else s).kept P) [ true ↦ kept | false ↦ kept ]
 
 all_kept : (P : List ℕ → Type 0) (kept : Option (List ℕ)) → IfSome kept P → AllByRecursion P (option_to_list kept)
@@ -112,7 +112,7 @@ came_from_bot desk passed course node =
       free = is.free;
       said_for = is.said_for;
     } in
-    answers_so (CameFromBot desk.mended passed) node (fresh desk.relay.newest desk.relay.nodes) [] desk.relay.events tt tt
+    answers_so (CameFromBot desk.mended passed) node (fresh desk.relay.mode desk.relay.nodes) [] desk.relay.events tt tt
     (all_so (IsOf desk.mended h.raws) (CameFromBot desk.mended passed) so (sayings_in desk.relay.events) (all_said desk.mended false h.raws desk.is_seated (sayings_in desk.relay.events) h.texts))
 
 -- ---- together
@@ -123,5 +123,5 @@ all_both P Q R both (text ∷ texts) one two = (both text one.0 two.0, all_both 
 
 pub answers_came : AnswersAreCurrent → AnswersCame
 answers_came law desk passed course node =
-    all_both (CameFromBot desk.mended passed) (WasCurrent desk.relay.newest desk.relay.nodes desk.relay.events node) (IsAnswer desk passed node) (λ text came current. record { came = came; current = current })
-    (said_over node desk.relay) (came_from_bot desk passed course node) (over_current law desk.relay.newest desk.relay.nodes node desk.relay.events)
+    all_both (CameFromBot desk.mended passed) (WasCurrent desk.relay.mode desk.relay.nodes desk.relay.events node) (IsAnswer desk passed node) (λ text came current. record { came = came; current = current })
+    (said_over node desk.relay) (came_from_bot desk passed course node) (over_current law desk.relay.mode desk.relay.nodes node desk.relay.events)

@@ -33,10 +33,10 @@ ComesBehind desk (Wrote line bytes) = Unit {0}
 ComesBehind desk (Gave place seat) = Unit {0}
 ComesBehind desk (Logged text) = Unit {0}
 
--- one event more at most, and one passage more at most, each behind what came before; how connections begin, where the bot's lines may begin, and the game by which answers are mended, stay
+-- one event more at most, and one passage more at most, each behind what came before; how connections begin, how the relay serves its bot, and the game by which answers are mended, stay
 pub record IsNext (old new : Desk) (passed_old passed_new : List Passage) : Type 0 where
   pub hello : new.opening ≡ old.opening
-  pub mode : new.relay.newest ≡ old.relay.newest
+  pub mode : new.relay.mode ≡ old.relay.mode
   pub nodes : new.relay.nodes ≡ old.relay.nodes
   pub mended : new.mended ≡ old.mended
   pub event : Option Event

@@ -12,7 +12,7 @@ use Rattle.relay_runs.specs.Course.{Course}
 
 -- a node said that the match is over that had told the line that the bot was given last; and nothing waits for the bot
 pub record IsOver (desk : Desk) : Type 0 where
-  pub over : (after (fresh desk.relay.newest desk.relay.nodes) desk.relay.events).over ≡ true
+  pub over : (after (fresh desk.relay.mode desk.relay.nodes) desk.relay.events).over ≡ true
   pub written : desk.to_bot.waiting ≡ []
 
 -- the exit status: 0 where the match is over
@@ -32,4 +32,4 @@ IsWritten false bytes lines = bytes ≡ bytes_of_lines lines
 -- so a bot whose relay ends since the match is over has all lines of it up to the last, where over each connection come lines of it without a gap, and nodes say that it is over only behind the last
 abbrev pub WholeMatchesAreWritten : Type 0
 WholeMatchesAreWritten = (desk : Desk) (passed : List Passage) (lines : List Line) → Course desk passed → IsOver desk
-    → AscendFrom None lines → TellParts lines desk.relay.events → CloseAtTheEnd lines desk.relay.events → IsWritten desk.relay.newest (wrote_over passed (Seat 0)) lines
+    → AscendFrom None lines → TellParts lines desk.relay.events → CloseAtTheEnd lines desk.relay.events → IsWritten desk.relay.mode.newest (wrote_over passed (Seat 0)) lines

@@ -1,5 +1,6 @@
 -- What each call of a relay keeps.
-use Rattle.std.specs.Prelude.{◌≡◌, ◌⊎◌, ◌<◌, Bool, true, List, ◌++◌}
+use Rattle.std.specs.Prelude.{◌≡◌, ◌⊎◌, ◌<◌, Bool, true, false, List, ◌++◌, Option, Some, None}
+use Rattle.game_def.specs.Game.{Game}
 use Rattle.node_wires.specs.Passages.{Passage}
 use Rattle.seat_relay.specs.Relaying.{Event}
 use Rattle.relay_runs.specs.declared.desk.Desk.{Desk}
@@ -21,16 +22,25 @@ pub record BeginsAnew (new : Desk) (passed_old passed_new : List Passage) : Type
 pub record IsMode (newest : Bool) (desk : Desk) (passed : List Passage) : Type 0 where
   pub next : bots_in passed ≡ 0 → desk.opening.newest ≡ newest
   pub later : 0 < bots_in passed → desk.opening.newest ≡ true
-  pub first : bots_in passed ≡ 1 → desk.relay.newest ≡ newest
-  pub further : 1 < bots_in passed → desk.relay.newest ≡ true
+  pub first : bots_in passed ≡ 1 → desk.relay.mode.newest ≡ newest
+  pub further : 1 < bots_in passed → desk.relay.mode.newest ≡ true
 
--- the token's line, the game by which answers are mended, and where the bots' lines may begin, stay; where what happened since the bot was taken in was what passed since, it is so still; and what happened
+abbrev pub are_mended : Option Game → Bool
+are_mended None = false
+are_mended (Some game) = true
+
+-- the bot's first answer to a line stands exactly if answers are mended: then each is legal, and no node refuses it
+abbrev pub FirstStands : Desk → Type 0
+FirstStands desk = desk.relay.mode.first_stands ≡ are_mended desk.mended
+
+-- the token's line, the game by which answers are mended, where the bots' lines may begin, and whether first answers stand, stay; where what happened since the bot was taken in was what passed since, it is so still; and what happened
 -- isn't changed, unless a bot is taken in
 pub record Keeps (old new : Desk) (passed_old passed_new : List Passage) : Type 0 where
   pub hello : new.opening.token.items ≡ old.opening.token.items
   pub mended : new.mended ≡ old.mended
   pub course : Course old (since_bot passed_old) → Course new (since_bot passed_new)
   pub mode : (newest : Bool) → IsMode newest old passed_old → IsMode newest new passed_new
+  pub stands : FirstStands old → FirstStands new
   pub grows : GoesOn old new passed_old passed_new ⊎ BeginsAnew new passed_old passed_new
 
 -- the same where nothing passes

@@ -42,7 +42,7 @@ greeting token asked = ((token ++ codes "#RESUME ") ++ ended asked) ++ codes "VE
 
 -- from where on it is asked by a relay that knows so much
 abbrev pub asks : Standing → List ℕ
-asks s = asked_for s.newest (option_map (λ line. line.text) s.last)
+asks s = asked_for s.mode.newest (option_map (λ line. line.text) s.last)
 
 -- over the connection that a node has, after one event more
 abbrev pub asked_by : ℕ → Standing → Option (List ℕ) → Event → Option (List ℕ)
@@ -59,7 +59,7 @@ asked_behind node s before (e ∷ more) = asked_behind node (happens s e) (asked
 
 -- since its connection began; nothing where it had none
 abbrev pub asked_over : ℕ → Story → Option (List ℕ)
-asked_over node story = asked_behind node (fresh story.newest story.nodes) None story.events
+asked_over node story = asked_behind node (fresh story.mode story.nodes) None story.events
 
 -- ---- the answers that are said over the connection that a node has
 
@@ -78,7 +78,7 @@ over_behind node s before (e ∷ more) = over_behind node (happens s e) (over_by
 
 -- since its connection began
 abbrev pub said_over : ℕ → Story → List (List ℕ)
-said_over node story = over_behind node (fresh story.newest story.nodes) [] story.events
+said_over node story = over_behind node (fresh story.mode story.nodes) [] story.events
 
 -- whether a connection to a node begins
 abbrev pub begins_at : ℕ → Event → Bool
@@ -112,7 +112,7 @@ first_over node desk = first_of desk.opening.token.items (asked_over node desk.r
 
 -- the lines that the bot was given
 abbrev pub lines_given : Story → List Line
-lines_given story = all_given (fresh story.newest story.nodes) story.events
+lines_given story = all_given (fresh story.mode story.nodes) story.events
 
 -- what was written to a node over its connection, with what waits for it, is the first lines, and then the answers that were said to it
 abbrev pub IsSaidTo : ℕ → Desk → List Passage → Type 0

@@ -6,6 +6,7 @@ use Rattle.matchstate.specs.Free.{IsFreeOf}
 use Rattle.node_wires.specs.declared.line.Line.TheVariants.{Seat}
 use Rattle.node_wires.specs.Passages.{Passage, came_over}
 use Rattle.seat_relay.specs.Relaying.{Line, Event, Pushes, all_given}
+use Rattle.seat_relay.specs.declared.mode.Mode.{Mode}
 use Rattle.seat_relay.specs.Laws.{fresh}
 use Rattle.relay_runs.specs.declared.desk.Desk.{Desk}
 use Rattle.relay_runs.specs.Said.{said_over}
@@ -22,20 +23,20 @@ pub record CameFromBot (mended : Option Game) (passed : List Passage) (text : Li
   pub said_for : IsSaidFor mended raw text
 
 -- it is a line, a colon and anything; and when it was said to a node, that line was the last one that the bot had been given
-pub record WasCurrent (newest : Bool) (nodes : ℕ) (events : List Event) (node : ℕ) (text : List ℕ) : Type 0 where
+pub record WasCurrent (mode : Mode) (nodes : ℕ) (events : List Event) (node : ℕ) (text : List ℕ) : Type 0 where
   pub front : List Event
   pub behind : List Event
   pub moment : events ≡ front ++ Pushes node ∷ behind
   pub lines : List Line
   pub line : Line
-  pub given_last : all_given (fresh newest nodes) front ≡ lines ++ line ∷ []
+  pub given_last : all_given (fresh mode nodes) front ≡ lines ++ line ∷ []
   pub field : List ℕ
   pub whole : text ≡ line.text ++ 58 ∷ field
 
 -- an answer that was said over a node's connection
 pub record IsAnswer (desk : Desk) (passed : List Passage) (node : ℕ) (text : List ℕ) : Type 0 where
   pub came : CameFromBot desk.mended passed text
-  pub current : WasCurrent desk.relay.newest desk.relay.nodes desk.relay.events node text
+  pub current : WasCurrent desk.relay.mode desk.relay.nodes desk.relay.events node text
 
 -- each answer that was said over the connection of a node is what the bot said, or where answers are mended what that is mended to; and it answers the line that was the newest then
 abbrev pub AnswersCame : Type 0

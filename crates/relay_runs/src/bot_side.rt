@@ -143,11 +143,11 @@ impl RelayServer {
     fn note_said(&mut self, text: Vec<u8>, instead: Option<Vec<u8>>, kept: bool, now: u64)
         ensures { self.new.desk ≡ self.old.desk }
     {
-        if kept {
-            self.answering.restart(now);
-        } else {
+        if !kept {
             self.count_unfit();
+            return;
         }
+        self.answering.restart(now);
         if let Some(instead) = instead {
             self.note(RelayNotice::Mended {
                 said: text,

@@ -7,7 +7,7 @@ ghost use Rattle.relay_runs.specs.Said.{ended, token_line, AreEmpty, Reads, Writ
 ghost use Rattle.relay_runs.specs.Course.{Course};
 ghost use Rattle.relay_runs.specs.Own.{was_dialled, IsNoneDialled};
 ghost use Rattle.relay_runs.specs.SaidAs.{IsSaidAs};
-ghost use Rattle.relay_runs.specs.Kept.{Keeps, Stays};
+ghost use Rattle.relay_runs.specs.Kept.{are_mended, FirstStands, Keeps, Stays};
 ghost use Rattle.relay_runs.specs.Ending.{IsOver};
 
 use crate::limits::{BACKLOG, LONGEST_LINE};
@@ -22,7 +22,7 @@ use byte_queue::ByteQueue;
 use game_def::GameDef;
 use matchstate::cut;
 use node_wires::{Line, Wire, WireFault};
-use seat_relay::{Relay, place_of};
+use seat_relay::{Mode, Relay, place_of};
 use std::alloc::{AllocError, Global};
 
 /// The bot's line.
@@ -79,6 +79,16 @@ pub(crate) struct Desk {
     is_seated: bool,
 }
 
+/// How the relay serves its bot: its first answer to a line stands exactly if answers are mended.
+fn mode_of(newest: bool, mended: &Option<GameDef>) -> Mode
+    ensures { result ≡ record { newest = newest; first_stands = are_mended mended.now } }
+{
+    Mode {
+        newest,
+        first_stands: mended.is_some(),
+    }
+}
+
 /// What a beginning without a line feed is.
 fn unended(came: &[u8]) -> Taken {
     if begins_too_long(came) {
@@ -101,12 +111,13 @@ impl Desk {
         ensures hello { IfOk result (λ desk. desk.opening.token.items ≡ token_line (option_map (λ t. t.now) token.entry)) }
         ensures newest { IfOk result (λ desk. desk.opening.newest ≡ newest) }
         ensures mended { IfOk result (λ desk. desk.mended ≡ mended) }
+        ensures stands { IfOk result (λ desk. FirstStands desk) }
         ensures course { IfOk result (λ desk. Course desk []) }
     {
         let nodes = nodes as usize;
         Ok(Desk {
             alloc,
-            relay: Relay::new(alloc, nodes, newest)?,
+            relay: Relay::new(alloc, nodes, mode_of(newest, &mended))?,
             from_bot: ByteQueue::new(alloc),
             passes_over: false,
             from_nodes: empty_queues(alloc, nodes)?,
@@ -127,7 +138,8 @@ impl Desk {
         ensures { Keeps self.old self.new (W.passed wire.old) (W.passed wire.new) }
     {
         let nodes = self.to_nodes.len();
-        let relay = Relay::new(self.alloc, nodes, self.opening.newest)?;
+        let mode = mode_of(self.opening.newest, &self.mended);
+        let relay = Relay::new(self.alloc, nodes, mode)?;
         let from_nodes = empty_queues(self.alloc, nodes)?;
         let to_nodes = empty_queues(self.alloc, nodes)?;
         let dialled = none_dialled(self.alloc, nodes)?;

@@ -5,7 +5,8 @@ use std::net::IpAddr;
 pub enum RelayNotice {
     /// A bot came to the local port, from this address where it is known.
     BotCame { address: Option<IpAddr> },
-    /// The bot's connection ended; so many of its lines were no answers to the line that it was given last, and so many were
+    /// The bot's connection ended; so many of its lines were passed over as no answers to the line that it was given
+    /// last, or further ones, and so many were
     /// longer than a line may be.
     BotGone { unfit: u64, too_long: u64 },
     /// The first line of a node came over its connection.
@@ -22,7 +23,8 @@ pub enum RelayNotice {
     NotLine { node: u8 },
     /// A node said a line that is too long: its connection was ended.
     TooLong { node: u8 },
-    /// The bot's first line that is no answer to the line that it was given last: it was passed over, as all further ones.
+    /// The bot's first line that is no answer to the line that it was given last, or a further one where the first stands: it was
+    /// passed over, as all further ones.
     Unfit,
     /// Another action was said for the bot than it said.
     Mended { said: Vec<u8>, instead: Vec<u8> },

@@ -23,7 +23,8 @@ pub(crate) enum Saying {
     Version(Vec<u8>),
     /// What it says instead of its version. It stays in front.
     WrongVersion(Vec<u8>),
-    /// What was said to the relay's machine: this text, or another instead. It was kept, if it is an answer to the newest line.
+    /// What was said to the relay's machine: this text, or another instead. It was kept, if it is an answer to the newest line,
+    /// and none to it stands.
     Said {
         text: Vec<u8>,
         instead: Option<Vec<u8>>,

@@ -3,7 +3,7 @@
 ghost use Rattle.std.specs.Prelude.{◌≡◌, [], Some, option_map, IfOk};
 ghost use Rattle.relay_runs.specs.Said.{token_line};
 ghost use Rattle.relay_runs.specs.Course.{Course};
-ghost use Rattle.relay_runs.specs.Kept.{Keeps};
+ghost use Rattle.relay_runs.specs.Kept.{Keeps, FirstStands};
 ghost use Rattle.relay_runs.specs.Ending.{IsOver};
 
 use crate::answering::Answering;
@@ -71,6 +71,7 @@ impl RelayServer {
         ensures hello { IfOk result (λ server. server.desk.opening.token.items ≡ token_line (option_map (λ token. token.items) terms.token)) }
         ensures newest { IfOk result (λ server. server.desk.opening.newest ≡ terms.newest) }
         ensures mended { IfOk result (λ server. server.desk.mended ≡ terms.mended) }
+        ensures stands { IfOk result (λ server. FirstStands server.desk) }
         ensures course { IfOk result (λ server. Course server.desk []) }
     {
         let nodes = no_connections(alloc, terms.nodes)?;

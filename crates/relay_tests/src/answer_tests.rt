@@ -1,8 +1,12 @@
 //! When the bot's answer is said to whom.
 
-use crate::table::{ANSWER, BEFORE, LINE, Table, assert_bytes, assert_number, assert_that, at};
+use crate::table::{
+    ANSWER, BEFORE, LINE, Table, assert_bytes, assert_number, assert_that, at, terms,
+};
+use game_def::read;
 use node_wires::Line;
 use relay_runs::RelayEnd;
+use sample_games::N2;
 use std::alloc::AllocError;
 use std::process::Abort;
 use std::test::Fail;
@@ -102,5 +106,33 @@ fn the_last_answer_is_said(rt: HostRuntime) -> Result<(), Fail> {
     let end = table.turn(at(0));
     assert_that(&rt, end == Some(RelayEnd::BotLeft));
     assert_that(&rt, table.has_got(2, ANSWER));
+    Ok(())
+}
+
+/// Another legal answer to the same line.
+const SECOND: &[u8] = b"MATCHSTATE:0:0:c:5d5c|:r300\r\n";
+
+/// Of two answers to one line, in one piece and 20 ms behind one another, a relay that mends says the first alone; one that
+/// doesn't says the second in its place.
+#[test]
+fn the_first_answer_stands_where_answers_are_mended(rt: HostRuntime) -> Result<(), Fail> {
+    for (mends, said) in [(true, ANSWER), (false, SECOND)] {
+        let mut terms = terms(3);
+        if mends {
+            terms.mended = Some(read(N2).expect(&rt, "a game"));
+        }
+        let mut table = Table::by(rt.alloc(), terms, 0)?;
+        table.bot_comes()?;
+        table.all_tell(3, BEFORE)?;
+        table.all_tell(3, LINE)?;
+        let _ = table.turn(at(0));
+        table.says(ANSWER)?;
+        table.says(SECOND)?;
+        let _ = table.turn(at(0));
+        assert_number(&rt, table.count_got(3, said), 1);
+        table.says(SECOND)?;
+        let _ = table.turn(at(20_000));
+        assert_number(&rt, table.count_got(3, ANSWER), if mends { 1 } else { 0 });
+    }
     Ok(())
 }

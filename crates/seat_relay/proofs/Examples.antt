@@ -2,9 +2,10 @@
 use Rattle.std.proofs.Common.{◌≡◌, ℕ, true, false, List, [], ◌∷◌, ◌++◌, codes, None, Some, refl, ap, arith}
 use Rattle.game_def.specs.Game.{Game}
 use Rattle.seat_relay.specs.declared.place.Place.{Place}
+use Rattle.seat_relay.specs.declared.mode.Mode.{Mode}
 use Rattle.seat_relay.specs.Places.{is_later}
-use Rattle.seat_relay.specs.Relaying.{Line, Event, Begins, Ends, Tells, Closes, is_echo, happens, all_given, after}
-use Rattle.seat_relay.specs.Laws.{fresh, AscendFrom, told_over, IsPart}
+use Rattle.seat_relay.specs.Relaying.{Line, Event, Begins, Ends, Tells, Closes, Says, Pushes, is_echo, happens, answered, all_given, after}
+use Rattle.seat_relay.specs.Laws.{fresh, AscendFrom, told_over, IsPart, all_said}
 use Rattle.betting.specs.declared.action.Action.TheVariants.{Fold, Call}
 use Rattle.betting.specs.Turns.{count_below, max_spent, spent, folded, live, live_count, unfolded_count, has_answered, owes, owing_count}
 use Rattle.betting.specs.Rounds.{is_alone, can_bet_on, ends_round, over, current_round, first_from, first_cyclic, search_start, to_act}
@@ -51,6 +52,15 @@ an_earlier_hand_is_not_later = refl
 
 -- ---- lines of two nodes
 
+abbrev from_the_first : Mode
+from_the_first = record { newest = false; first_stands = false }
+
+abbrev from_anywhere : Mode
+from_anywhere = record { newest = true; first_stands = false }
+
+abbrev first_answers : Mode
+first_answers = record { newest = false; first_stands = true }
+
 abbrev line : ℕ → ℕ → Line
 line hand len = record { text = hand ∷ len ∷ []; place = at hand len }
 
@@ -58,7 +68,7 @@ abbrev two_nodes : List Event
 two_nodes = Begins 0 ∷ Begins 1 ∷ Tells 0 (line 0 0) ∷ Tells 0 (line 0 1) ∷ Tells 1 (line 0 0) ∷ Tells 1 (line 0 1) ∷ Tells 1 (line 1 0) ∷ Tells 0 (line 1 0) ∷ []
 
 -- the bot is given each once
-each_line_once : all_given (fresh false 2) two_nodes ≡ line 0 0 ∷ line 0 1 ∷ line 1 0 ∷ []
+each_line_once : all_given (fresh from_the_first 2) two_nodes ≡ line 0 0 ∷ line 0 1 ∷ line 1 0 ∷ []
 unfolding all_given happens
 each_line_once = refl
 
@@ -84,11 +94,11 @@ gap_in (a ∷ b ∷ []) behind same = let next : line 1 0 ≡ line 0 0 = cc in n
 gap_in (a ∷ b ∷ c ∷ before) behind same = no_tail before behind (ap tail_of same)
 
 -- with another line than the first deal's none may begin, unless the bot's lines may begin anywhere
-no_first_line : all_given (fresh false 1) (Begins 0 ∷ Tells 0 (line 0 1) ∷ Tells 0 (line 1 0) ∷ []) ≡ []
+no_first_line : all_given (fresh from_the_first 1) (Begins 0 ∷ Tells 0 (line 0 1) ∷ Tells 0 (line 1 0) ∷ []) ≡ []
 unfolding all_given happens
 no_first_line = refl
 
-the_newest_line : all_given (fresh true 1) (Begins 0 ∷ Tells 0 (line 0 1) ∷ Tells 0 (line 1 0) ∷ []) ≡ line 0 1 ∷ line 1 0 ∷ []
+the_newest_line : all_given (fresh from_anywhere 1) (Begins 0 ∷ Tells 0 (line 0 1) ∷ Tells 0 (line 1 0) ∷ []) ≡ line 0 1 ∷ line 1 0 ∷ []
 unfolding all_given happens
 the_newest_line = refl
 
@@ -96,29 +106,52 @@ the_newest_line = refl
 abbrev a_gap : List Event
 a_gap = Begins 0 ∷ Tells 0 (line 0 0) ∷ Ends 0 ∷ Begins 0 ∷ Tells 0 (line 1 0) ∷ Tells 0 (line 1 1) ∷ []
 
-no_gap : all_given (fresh false 1) a_gap ≡ line 0 0 ∷ []
+no_gap : all_given (fresh from_the_first 1) a_gap ≡ line 0 0 ∷ []
 unfolding all_given happens
 no_gap = refl
 
-nothing_without_a_connection : all_given (fresh true 1) (Tells 0 (line 0 0) ∷ []) ≡ []
+nothing_without_a_connection : all_given (fresh from_anywhere 1) (Tells 0 (line 0 0) ∷ []) ≡ []
 unfolding all_given happens
 nothing_without_a_connection = refl
 
 what_came_over_the_last_connection : told_over 0 a_gap ≡ line 1 0 ∷ line 1 1 ∷ []
 what_came_over_the_last_connection = refl
 
+-- ---- two answers to one line
+
+abbrev two_answers : List Event
+two_answers = Begins 0 ∷ Tells 0 (line 0 0) ∷ Says (0 ∷ 0 ∷ codes ":c") ∷ Pushes 0 ∷ Says (0 ∷ 0 ∷ codes ":f") ∷ Pushes 0 ∷ []
+
+-- the first one stands where it is to: the other one is said to nobody
+the_first_stands : (all_said (fresh first_answers 1) two_answers) ≡ record { last = Some (line 0 0); text = 0 ∷ 0 ∷ codes ":c" } ∷ []
+unfolding all_said happens answered
+the_first_stands = refl
+
+-- else each is said
+the_second_takes_its_place : (all_said (fresh from_the_first 1) two_answers) ≡ record { last = Some (line 0 0); text = 0 ∷ 0 ∷ codes ":c" } ∷ record { last = Some (line 0 0); text = 0 ∷ 0 ∷ codes ":f" } ∷ []
+unfolding all_said happens answered
+the_second_takes_its_place = refl
+
+-- a further line may be answered again
+abbrev a_line_later : List Event
+a_line_later = two_answers ++ Tells 0 (line 0 1) ∷ Says (0 ∷ 1 ∷ codes ":f") ∷ []
+
+the_next_is_answered : (after (fresh first_answers 1) a_line_later).kept ≡ Some (0 ∷ 1 ∷ codes ":f")
+unfolding after happens
+the_next_is_answered = refl
+
 -- ---- the end
 
-it_is_over_behind_the_newest_line : (after (fresh false 2) (two_nodes ++ Closes 0 ∷ [])).over ≡ true
+it_is_over_behind_the_newest_line : (after (fresh from_the_first 2) (two_nodes ++ Closes 0 ∷ [])).over ≡ true
 unfolding after happens
 it_is_over_behind_the_newest_line = refl
 
 -- not behind an earlier one, nor once a further line came
-it_is_not_behind_an_earlier_one : (after (fresh false 2) (Begins 0 ∷ Begins 1 ∷ Tells 0 (line 0 0) ∷ Tells 1 (line 0 0) ∷ Tells 1 (line 0 1) ∷ Closes 0 ∷ [])).over ≡ false
+it_is_not_behind_an_earlier_one : (after (fresh from_the_first 2) (Begins 0 ∷ Begins 1 ∷ Tells 0 (line 0 0) ∷ Tells 1 (line 0 0) ∷ Tells 1 (line 0 1) ∷ Closes 0 ∷ [])).over ≡ false
 unfolding after happens
 it_is_not_behind_an_earlier_one = refl
 
-a_further_line_goes_on : (after (fresh false 2) (two_nodes ++ Closes 0 ∷ Tells 1 (line 1 1) ∷ [])).over ≡ false
+a_further_line_goes_on : (after (fresh from_the_first 2) (two_nodes ++ Closes 0 ∷ Tells 1 (line 1 1) ∷ [])).over ≡ false
 unfolding after happens
 a_further_line_goes_on = refl
 

@@ -2,6 +2,7 @@ pub mod Orders
 pub mod Ascending
 pub mod Parts
 pub mod Saying
+pub mod Standing
 pub mod Links
 pub mod Dealing
 pub mod Nearest

@@ -9,7 +9,7 @@ line_of line = record { text = line.text.items; place = line.place }
 
 abbrev pub standing_of : Inside → Standing
 standing_of r = record {
-  newest = r.newest;
+  mode = r.mode;
   last = option_map line_of r.last;
   kept = option_map (λ answer. answer.items) r.kept;
   links = r.links.items;

@@ -5,8 +5,8 @@ use Rattle.seat_relay.specs.Relaying.{Story, after}
 use Rattle.seat_relay.specs.Laws.{fresh}
 
 abbrev pub story_of : Inside → Story
-story_of r = record { nodes = r.nodes; newest = r.newest; standing = r.machine; events = r.events.items }
+story_of r = record { nodes = r.nodes; mode = r.mode; standing = r.machine; events = r.events.items }
 
 -- what it knows is what follows from what happened
 abbrev pub IsStory : Inside → Type 0
-IsStory r = r.machine ≡ after (fresh r.newest r.nodes) r.events.items
+IsStory r = r.machine ≡ after (fresh r.mode r.nodes) r.events.items

@@ -3,6 +3,7 @@ use Rattle.std.specs.Prelude.{ℕ, ◌==◌, Bool, true, false, ◌&&◌, ◌||�
 use Rattle.std.specs.Str.{bytes_eq}
 use Rattle.seat_relay.specs.declared.place.Place.{Place}
 use Rattle.seat_relay.specs.declared.link.Link.{Link}
+use Rattle.seat_relay.specs.declared.mode.Mode.{Mode}
 use Rattle.seat_relay.specs.declared.link.Link.TheVariants.{Apart, Begun, Behind, Even, Said}
 use Rattle.seat_relay.specs.Places.{is_later, is_first, is_same}
 
@@ -14,10 +15,10 @@ pub record Line : Type 0 where
 abbrev pub with_place : List ℕ → Place → Line
 with_place text place = record { text = text; place = place }
 
--- what a relay knows: whether its bot's lines may begin anywhere in the match, and not with the first deal alone; the line that the bot was given last; the bot's answer to that line;
+-- what a relay knows: how it is to serve its bot; the line that the bot was given last; the bot's answer to that line;
 -- how the connection to each node stands; and whether a node that had told that line said that the match is over
 pub record Standing : Type 0 where
-  pub newest : Bool
+  pub mode : Mode
   pub last : Option Line
   pub kept : Option (List ℕ)
   pub links : List Link
@@ -64,7 +65,7 @@ is_taken newest last Said place = true
 
 -- the bot is given a line that is taken and news
 abbrev pub is_given : Standing → ℕ → Line → Bool
-is_given s node line = is_taken s.newest s.last (link_at s.links node) line.place && is_news s.last line
+is_given s node line = is_taken s.mode.newest s.last (link_at s.links node) line.place && is_news s.last line
 
 -- ---- answers
 
@@ -127,15 +128,24 @@ has_told Said = true
 
 -- the bot was given this line of a node
 abbrev pub with_news : Standing → ℕ → Line → Standing
-with_news s node line = record { newest = s.newest; last = Some line; kept = None; links = slice_set (map fallen s.links) node Even; over = false }
+with_news s node line = record { mode = s.mode; last = Some line; kept = None; links = slice_set (map fallen s.links) node Even; over = false }
 
 -- the bot answered to the line that it was given last
 abbrev pub with_answer : Standing → List ℕ → Standing
-with_answer s text = record { newest = s.newest; last = s.last; kept = Some text; links = map unsaid s.links; over = s.over }
+with_answer s text = record { mode = s.mode; last = s.last; kept = Some text; links = map unsaid s.links; over = s.over }
+
+-- an answer stands if it is the first one to its line, and the first one is to stand
+abbrev pub stands : Bool → Option (List ℕ) → Bool
+stands first_stands None = false
+stands first_stands (Some answer) = first_stands
+
+-- a text is kept that answers the line that the bot was given last, unless an answer to it stands
+abbrev pub is_kept : Standing → List ℕ → Bool
+is_kept s text = echoes s.last text && not (stands s.mode.first_stands s.kept)
 
 -- a connection to a node stands so
 abbrev pub with_link : Standing → ℕ → Link → Standing
-with_link s node link = record { newest = s.newest; last = s.last; kept = s.kept; links = slice_set s.links node link; over = s.over }
+with_link s node link = record { mode = s.mode; last = s.last; kept = s.kept; links = slice_set s.links node link; over = s.over }
 
 -- the node told a line that was given before: it has come to where the bot is, or not yet
 abbrev pub with_old : Standing → ℕ → Line → Standing
@@ -143,15 +153,15 @@ with_old s node line = with_link s node (if is_again s.last line then risen (lin
 
 -- the match is over
 abbrev pub with_over : Standing → Standing
-with_over s = record { newest = s.newest; last = s.last; kept = s.kept; links = s.links; over = true }
+with_over s = record { mode = s.mode; last = s.last; kept = s.kept; links = s.links; over = true }
 
 unfoldable pub happens : Standing → Event → Standing
 happens s (Begins node) = with_link s node Begun
 happens s (Ends node) = with_link s node Apart
 happens s (Tells node line) =
-    if is_taken s.newest s.last (link_at s.links node) line.place then (if is_news s.last line then with_news s node line else with_old s node line) else s
+    if is_taken s.mode.newest s.last (link_at s.links node) line.place then (if is_news s.last line then with_news s node line else with_old s node line) else s
 happens s (Closes node) = if has_told (link_at s.links node) then with_over s else s
-happens s (Says text) = if echoes s.last text then with_answer s text else s
+happens s (Says text) = if is_kept s text then with_answer s text else s
 happens s (Pushes node) = if is_even (link_at s.links node) then with_link s node Said else s
 
 -- the answer that is said to the node: only where its connection has told the last line, and wasn't told the answer
@@ -186,10 +196,10 @@ after s (e ∷ more) = after (happens s e) more
 -- what a relay knows, and what happened to it since it had this many nodes and knew nothing
 pub record Story : Type 0 where
   pub nodes : ℕ
-  pub newest : Bool
+  pub mode : Mode
   pub standing : Standing
   pub events : List Event
 
 -- one event more
 abbrev pub with_event : Story → Event → Story
-with_event s e = record { nodes = s.nodes; newest = s.newest; standing = happens s.standing e; events = s.events ++ e ∷ [] }
+with_event s e = record { nodes = s.nodes; mode = s.mode; standing = happens s.standing e; events = s.events ++ e ∷ [] }

@@ -2,7 +2,7 @@
 
 ghost use Rattle.seat_relay.specs.Dealing.{DealersLinesAscend, BotsAreGivenOneDealersLines, BotsAreGivenAllLines};
 ghost use Rattle.seat_relay.specs.Places.{LinesOfViewsArePlaced};
-ghost use Rattle.seat_relay.specs.Laws.{LinesAscend, LinesAreABeginning, OverIsTheEnd, AnswersAreCurrent, AnswersAreFew};
+ghost use Rattle.seat_relay.specs.Laws.{LinesAscend, LinesAreABeginning, OverIsTheEnd, AnswersAreCurrent, AnswersAreFew, FirstAnswersStand};
 
 use matchstate::laws::a_view_has_one_line;
 
@@ -25,6 +25,12 @@ pub fn over_is_the_end()
 /// Each answer that is said to a node is to the line that the bot was given last.
 pub fn answers_are_current()
     ensures { AnswersAreCurrent }
+{}
+
+/// Where first answers are to stand, an answer that is kept stays until the bot is given a further line, and each answer that is
+/// said to a node meanwhile is this one.
+pub fn first_answers_stand()
+    ensures { FirstAnswersStand }
 {}
 
 /// To each node no more answers are said than texts of the bot and connections to it, together.

@@ -12,9 +12,11 @@ mod line;
 mod link;
 mod machine;
 mod mending;
+mod mode;
 mod place;
 mod relay;
 
 pub use mending::{mended, mended_answer};
+pub use mode::Mode;
 pub use place::{Place, place_of};
 pub use relay::Relay;

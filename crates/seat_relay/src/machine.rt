@@ -1,10 +1,11 @@
 ghost use Rattle.std.specs.Prelude.{◌≡◌, ℕ, List, map, slice_set, Some, None, option_map, IfOk, OnOk, OnErr};
 ghost use Rattle.seat_relay.specs.MachineInside.{line_of};
-ghost use Rattle.seat_relay.specs.Relaying.{with_place, fallen, risen, heard, unsaid, link_at, is_even, has_told, is_echo, echoes, is_news, is_again, may_begin, is_taken, is_given, happens, Begins, Ends, Tells, Closes, Says, Pushes};
+ghost use Rattle.seat_relay.specs.Relaying.{with_place, fallen, risen, heard, unsaid, link_at, is_even, has_told, is_echo, echoes, stands, is_kept, is_news, is_again, may_begin, is_taken, is_given, happens, Begins, Ends, Tells, Closes, Says, Pushes};
 ghost use Rattle.seat_relay.specs.Laws.{fresh};
 
 use crate::line::Line;
 use crate::link::Link;
+use crate::mode::Mode;
 use crate::place::Place;
 use std::alloc::{AllocError, Global};
 use std::marker::Model;
@@ -14,8 +15,7 @@ use std::marker::Model;
 #[derive(Drop)]
 pub(crate) struct Machine {
     alloc: Global,
-    /// Whether the bot's lines may begin anywhere in the match, and not with the first deal alone.
-    newest: bool,
+    mode: Mode,
     last: Option<Line>,
     kept: Option<Vec<u8>>,
     links: Vec<Link>,
@@ -34,14 +34,13 @@ impl Model for Machine {
 
 #[tactic(auto, unfolding(crate::specs::Relaying::happens))]
 impl Machine {
-    /// That of a relay for so many nodes, whose bot was given nothing yet. The bot's lines may begin anywhere where `newest`
-    /// says so, and else with the first deal.
-    pub(crate) fn new(alloc: Global, nodes: usize, newest: bool) -> Result<Machine, AllocError>
-        ensures { IfOk result (λ machine. machine ≡ fresh newest nodes) }
+    /// That of a relay for so many nodes, whose bot was given nothing yet.
+    pub(crate) fn new(alloc: Global, nodes: usize, mode: Mode) -> Result<Machine, AllocError>
+        ensures { IfOk result (λ machine. machine ≡ fresh mode nodes) }
     {
         Ok(Machine {
             alloc,
-            newest,
+            mode,
             last: None,
             kept: None,
             links: vec![in alloc; Link::Apart; nodes]?,
@@ -51,9 +50,9 @@ impl Machine {
 
     /// Whether the bot's lines may begin anywhere.
     pub(crate) fn is_newest(&self) -> bool
-        ensures { result ≡ self.now.newest }
+        ensures { result ≡ self.now.mode.newest }
     {
-        self.newest
+        self.mode.newest
     }
 
     /// Whether a node that had told the last line said that the match is over.
@@ -100,11 +99,11 @@ impl Machine {
     /// Whether a line at this place is taken over the connection of a node: any behind the first, and the first where the bot was
     /// given one there or behind, or its lines may begin there.
     pub(crate) fn is_taken(&self, node: usize, place: &Place) -> bool
-        ensures { result ≡ is_taken self.now.newest self.now.last (link_at self.now.links node) place.now }
+        ensures { result ≡ is_taken self.now.mode.newest self.now.last (link_at self.now.links node) place.now }
     {
         match link_at(&self.links, node) {
             Link::Apart => false,
-            Link::Begun => may_begin(self.newest, &self.last, place),
+            Link::Begun => may_begin(self.mode.newest, &self.last, place),
             Link::Behind | Link::Even | Link::Said => true,
         }
     }
@@ -153,19 +152,19 @@ impl Machine {
         }
     }
 
-    /// The bot says something. It says whether that is an answer to the line that it was given last, which is kept; anything
-    /// else is passed over.
+    /// The bot says something. It says whether that is kept: an answer to the line that it was given last, unless one to it
+    /// stands. Anything else is passed over.
     pub(crate) fn says(&mut self, text: &[u8]) -> Result<bool, AllocError>
         ensures ok { OnOk result (self.new ≡ happens self.old (Says text.now)) }
-        ensures echoes { IfOk result (λ kept. kept ≡ echoes self.old.last text.now) }
+        ensures kept { IfOk result (λ kept. kept ≡ is_kept self.old text.now) }
         ensures err { OnErr result (self.new ≡ self.old) }
     {
-        let echoes = echoes(&self.last, text);
-        if echoes {
+        let is_kept = echoes(&self.last, text) && !stands(self.mode.first_stands, &self.kept);
+        if is_kept {
             self.kept = Some(Vec::from_slice(self.alloc, text)?);
             unsay(&mut self.links);
         }
-        Ok(echoes)
+        Ok(is_kept)
     }
 
     /// The bot's answer, if there is one, is to be said to a node. It says whether it may be: where the node has told the last
@@ -300,6 +299,13 @@ fn is_again(last: &Option<Line>, text: &[u8], place: &Place) -> bool
         None => false,
         Some(last) => last.text.as_slice() == text && last.place.is_same(place),
     }
+}
+
+/// Whether an answer stands: it is the first one to its line, and the first one is to stand.
+fn stands(first_stands: bool, kept: &Option<Vec<u8>>) -> bool
+    ensures { result ≡ stands first_stands (option_map (λ answer. answer.items) kept.now) }
+{
+    first_stands && kept.is_some()
 }
 
 /// Whether a text is an answer to the line that the bot was given last.

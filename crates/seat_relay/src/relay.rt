@@ -1,11 +1,12 @@
 //! The relay, with all that happened to it.
 
 ghost use Rattle.std.specs.Prelude.{◌≡◌, [], option_map, IfOk, OnOk, OnErr};
-ghost use Rattle.seat_relay.specs.Relaying.{with_place, link_at, is_even, echoes, is_taken, is_given, with_event, after, Begins, Ends, Tells, Closes, Says, Pushes};
+ghost use Rattle.seat_relay.specs.Relaying.{with_place, link_at, is_even, is_kept, is_taken, is_given, with_event, after, Begins, Ends, Tells, Closes, Says, Pushes};
 ghost use Rattle.seat_relay.specs.Laws.{fresh};
 
 use crate::events::{Events, Happening};
 use crate::machine::Machine;
+use crate::mode::Mode;
 use crate::place::Place;
 use std::alloc::{AllocError, Global};
 use std::marker::Model;
@@ -16,7 +17,7 @@ use std::marker::Model;
 #[derive(Drop)]
 pub struct Relay {
     nodes: usize,
-    newest: bool,
+    mode: Mode,
     machine: Machine,
     /// What happened, for clauses alone.
     events: Events,
@@ -34,29 +35,28 @@ impl Model for Relay {
 }
 
 impl Relay {
-    /// A relay for so many nodes, whose bot was given nothing yet. The bot's lines may begin anywhere in the match where `newest`
-    /// says so, and else with the first deal.
-    pub fn new(alloc: Global, nodes: usize, newest: bool) -> Result<Relay, AllocError>
-        ensures { IfOk result (λ relay. relay ≡ record { nodes = nodes; newest = newest; standing = fresh newest nodes; events = [] }) }
+    /// A relay for so many nodes, whose bot was given nothing yet.
+    pub fn new(alloc: Global, nodes: usize, mode: Mode) -> Result<Relay, AllocError>
+        ensures { IfOk result (λ relay. relay ≡ record { nodes = nodes; mode = mode; standing = fresh mode nodes; events = [] }) }
     {
         Ok(Relay {
             nodes,
-            newest,
-            machine: Machine::new(alloc, nodes, newest)?,
+            mode,
+            machine: Machine::new(alloc, nodes, mode)?,
             events: Events::new(),
         })
     }
 
     /// What it knows is what follows from what happened to it: so the laws of `laws` hold of it.
     pub fn follows_events(&self)
-        ensures { self.now.standing ≡ after (fresh self.now.newest self.now.nodes) self.now.events }
+        ensures { self.now.standing ≡ after (fresh self.now.mode self.now.nodes) self.now.events }
     {
         let _ = &self.nodes;
     }
 
     /// Whether the bot's lines may begin anywhere in the match.
     pub fn is_newest(&self) -> bool
-        ensures { result ≡ self.now.standing.newest }
+        ensures { result ≡ self.now.standing.mode.newest }
     {
         self.machine.is_newest()
     }
@@ -101,7 +101,7 @@ impl Relay {
     /// Whether a line at this place is taken over the connection of a node: any behind the first, and the first where the bot was
     /// given one there or behind, or its lines may begin there. What isn't taken the bot isn't given: there may be a gap before it.
     pub fn is_taken(&self, node: usize, place: &Place) -> bool
-        ensures { result ≡ is_taken self.now.standing.newest self.now.standing.last (link_at self.now.standing.links node) place.now }
+        ensures { result ≡ is_taken self.now.standing.mode.newest self.now.standing.last (link_at self.now.standing.links node) place.now }
     {
         self.machine.is_taken(node, place)
     }
@@ -126,11 +126,11 @@ impl Relay {
         self.events = self.events.and(&Happening::Closes { node });
     }
 
-    /// The bot says something. It says whether that is an answer to the line that it was given last, which is kept; anything
-    /// else is passed over.
+    /// The bot says something. It says whether that is kept: an answer to the line that it was given last, unless one to it
+    /// stands, as a first one does where the mode says so. Anything else is passed over.
     pub fn says(&mut self, text: &[u8]) -> Result<bool, AllocError>
         ensures ok { OnOk result (self.new ≡ with_event self.old (Says text.now)) }
-        ensures echoes { IfOk result (λ kept. kept ≡ echoes self.old.standing.last text.now) }
+        ensures kept { IfOk result (λ kept. kept ≡ is_kept self.old.standing text.now) }
         ensures err { OnErr result (self.new ≡ self.old) }
     {
         let kept = self.machine.says(text)?;

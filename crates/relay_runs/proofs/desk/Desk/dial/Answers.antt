@@ -14,7 +14,7 @@ returns g c =
     let there : c.args.node < length c.args.self.now.from_nodes.items = grind (arith, common_steps) in
     let token : c.deref.result.now ≡ c.args.self.now.opening.token.items = c.deref.ensures.value in
     let asked : c.asked_of-asked.result.now ≡ asks c.args.self.now.relay.standing =
-    c.asked_of-asked.ensures ∙ (ap (λ (n : Bool). asked_for n (option_map (λ line. line.now) c.last.result)) c.is_newest.ensures ∙ ap (asked_for c.args.self.now.relay.standing.newest) c.last.ensures) in
+    c.asked_of-asked.ensures ∙ (ap (λ (n : Bool). asked_for n (option_map (λ line. line.now) c.last.result)) c.is_newest.ensures ∙ ap (asked_for c.args.self.now.relay.standing.mode.newest) c.last.ensures) in
     let lines : c.deref-2.result.now ≡ greeting c.args.self.now.opening.token.items (asks c.args.self.now.relay.standing) =
     c.deref-2.ensures.value ∙ (c.in-Ok.ensures ∙ (ap (λ (t : List ℕ). greeting t c.asked_of-asked.result.now) token ∙ ap (greeting c.args.self.now.opening.token.items) asked)) in
     kept_dial _ _ _ _ c.args.node c.push_reserved.new.self c.begins.ensures c.follows_events.ensures refl refl refl refl refl within

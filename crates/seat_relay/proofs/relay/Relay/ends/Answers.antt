@@ -2,4 +2,4 @@ use Rattle.seat_relay.proofs.Stories.{after_one_more}
 use Rattle.seat_relay.proofs.relay.Relay.ends.Goals as goal
 
 pub invariant_of-self : goal.invariant_of-self
-invariant_of-self c = after_one_more c.self.inside.newest c.self.inside.nodes c.self.inside.machine c.ends.new.self c.self.inside.events.items c.and-self-inside.result.items _ c.self.invariant c.ends.ensures c.and-self-inside.ensures
+invariant_of-self c = after_one_more c.self.inside.mode c.self.inside.nodes c.self.inside.machine c.ends.new.self c.self.inside.events.items c.and-self-inside.result.items _ c.self.invariant c.ends.ensures c.and-self-inside.ensures
