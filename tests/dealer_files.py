@@ -10,7 +10,7 @@ import time
 sys.dont_write_bytecode = True
 
 from dealer_runs import (
-    IS_LONG, OPTIONS, WAIT, Bot, Run, are_ended, are_killed, at_turn, calls, children, compiled, goes, hangs, here, memory_of, rows,
+    IS_LONG, OPTIONS, PROGRAM, WAIT, Bot, Run, are_ended, are_killed, at_turn, calls, children, compiled, goes, hangs, here, memory_of, rows,
     rows_with_nodes, slow, test, waits,
 )
 from serving import size_of, want, waited
@@ -224,7 +224,7 @@ class League(Watcher):
 def league_match(run, watcher, hands=5, **more):
     limits = Limits(LATE, 60000, 12000, 30000)
     settings = Settings(
-        "m", str(run.folder / run.word), hands, ["alice", "bob"], seed=7, limits=limits, log=run.folder / "e.log",
+        "m", str(run.folder / run.word), hands, ["alice", "bob"], PROGRAM, seed=7, limits=limits, log=run.folder / "e.log",
         transactions=run.folder / "e.tlog", may_return=True, **more,
     )
     watcher.match = Match(settings, watcher)

@@ -3,6 +3,7 @@ import random
 import re
 import sys
 from fractions import Fraction
+from math import gamma, pi, sqrt
 from types import SimpleNamespace
 
 sys.dont_write_bytecode = True
@@ -46,14 +47,32 @@ def three(meetings, **chips):
     return league
 
 
+def by_area(freedom):
+    """Student's t at 97.5 %, also for a broken number: to where the area below its density, by Simpson's rule, is 0.475 from 0 on."""
+    scale = gamma((freedom + 1) / 2) / sqrt(pi * freedom) / gamma(freedom / 2)
+
+    def area(value, steps=400):
+        heights = [scale * (1 + (value * at / steps) ** 2 / freedom) ** (-(freedom + 1) / 2) for at in range(steps + 1)]
+        return value / steps / 3 * (heights[0] + heights[-1] + 4 * sum(heights[1::2]) + 2 * sum(heights[2:-1:2]))
+
+    least, most = 1.9, 13.0
+    for _ in range(40):
+        middle = (least + most) / 2
+        least, most = (middle, most) if area(middle) < 0.475 else (least, middle)
+    return middle
+
+
 @test
 def students_t_is_that_of_printed_tables():
-    """Table values of 1, 2, 5, 9, 10, 29, 30; behind 30 those of 40, 60, 120 and 1000 within five thousandths."""
-    for freedom, value in ((1, 12.7062), (2, 4.3027), (5, 2.5706), (9, 2.2622), (10, 2.2281), (29, 2.0452), (30, 2.0423)):
-        want(t(freedom) == value, f"t({freedom}) is {t(freedom)}")
-    for freedom, value in ((40, 2.0211), (60, 2.0003), (120, 1.9799), (1000, 1.9623)):
-        near(t(freedom), value, f"t({freedom})", 0.005)
-    want((t(2.4545), t(29.99999999999), t(0.7)) == (4.3027, 2.0423, 12.7062), "a broken number isn't rounded down, or rounding counts")
+    """And of broken numbers that of the area below its density."""
+    for freedom, value in (
+        (1, 12.7062), (2, 4.3027), (5, 2.5706), (9, 2.2622), (10, 2.2281), (29, 2.0452), (30, 2.0423), (40, 2.0211), (60, 2.0003), (120, 1.9799),
+        (1000, 1.9623), (10**9, 1.9600),
+    ):
+        near(t(freedom), value, f"t({freedom})", 0.00006)
+    for freedom in (1.1245, 1.4706, 2.4545, 7.5, 33.3):
+        near(t(freedom), by_area(freedom), f"t({freedom})", 0.0001)
+    want(t(0.7) == t(1), "fewer degrees of freedom than one")
 
 
 @test
@@ -62,7 +81,7 @@ def the_worked_example_of_the_page():
     meeting 2 -400 +100 -60 and +300 -100 +40. By groups x is 1000 x 300 / 6 / 100 = 500 and 1000 x -120 / 6 / 100 = -200:
     m = 150, v = (350^2 + 350^2) / 1 / 2 = 122500, t(1) x 350 = 4447.17. By hands x is 500 500 500 -500 0 -100: m = 150,
     v = 875000 / 5 / 6 = 29166.667, t(5) x 170.7825 = 439.0135. Plain v = (70520000 - 12 x 150^2) / 11 / 12 = 532196.97,
-    t(11) x 729.5183 = 1605.6698."""
+    t(11) x 729.5183 = 1605.66."""
     league = League({"bob": CALLS, "alice": CALLS}, hands=3, meetings=2)
     league.invent({
         "alice.bob.1.0": [300, -100, 400], "alice.bob.1.1": [200, -200, 300],
@@ -74,14 +93,14 @@ def the_worked_example_of_the_page():
         for name, sign in (("alice", 1), ("bob", -1)):
             for found in (standing(figures, name), cell(figures, name, "bob" if name == "alice" else "alice")):
                 near(found["mean"], sign * 150, "the mean")
-                near(found["half"], half, "the interval")
+                near(found["half"], half, "the interval", 0.01)
                 near(found["freedom"], freedom, "nu")
-                near(found["plain_half"], 1605.6698, "the plain interval")
+                near(found["plain_half"], 1605.66, "the plain interval", 0.02)
         near(figures["neighbours"][0]["mean"], 300, "the difference")
-        near(figures["neighbours"][0]["half"], 2 * half, "its interval")
+        near(figures["neighbours"][0]["half"], 2 * half, "its interval", 0.02)
     want(by_hand["neighbours"][0]["told_apart"] is False, "150 - -150 of 878 is told apart")
     text = league.table()
-    row = r"1 +alice +\+150\.0 ± 439\.0 +± 1605\.7 +1 +0 +0 +0  by hands: too small where bots learn\n"
+    row = r"1 +alice +\+150\.0 ± 439\.0 +± 1605\.7 +1 +0 +0 +0 +0  by hands: too small where bots learn\n"
     want(re.search(row, text), f"the table is {text}")
     want("alice - bob: +300.0 ± 878.0, not told apart" in text, f"the table is {text}")
     want("by hands" not in league.table("--unit", "group"), "groups are marked as hands")
@@ -90,18 +109,17 @@ def the_worked_example_of_the_page():
 @test
 def a_standing_adds_up_opponents():
     """x of a against b: 10 30, m 20, v 100; against c: 30 70, m 50, v 400; of b against c: -10 10, m 0, v 100. M of a is 35,
-    V = 500 / 4 = 125, nu = 125^2 / (25^2 + 100^2) = 1.4706, t 12.7062: 142.0596. D of a and b is 35 - -10 = 45,
-    V = (400 + 100 + 4 x 100) / 4 = 225, nu = 225^2 / (100^2 + 25^2 + 100^2) = 2.4545, t 4.3027: 64.5405. D of b and c is
-    -10 - -25 = 15, V = (100 + 400 + 4 x 100) / 4 = 225, nu the same."""
+    V = 500 / 4 = 125, nu = 125^2 / (25^2 + 100^2) = 1.4706. D of a and b is 35 - -10 = 45, V = (400 + 100 + 4 x 100) / 4 = 225,
+    nu = 225^2 / (100^2 + 25^2 + 100^2) = 2.4545. D of b and c is -10 - -25 = 15, V = (100 + 400 + 4 x 100) / 4 = 225, nu the same."""
     figures = three(2, ab=[1, 3], ac=[3, 7], bc=[-1, 1]).figures("--unit", "group")
     want([it["player"] for it in figures["standings"]] == ["a", "b", "c"], "another order")
     near(standing(figures, "a")["mean"], 35, "M of a")
-    near(standing(figures, "a")["half"], 142.0596, "its interval")
+    near(standing(figures, "a")["half"], by_area(1.470588) * sqrt(125), "its interval", 0.01)
     near(standing(figures, "a")["freedom"], 1.4706, "its nu")
     near(standing(figures, "c")["mean"], -25, "M of c")
     for it, mean in zip(figures["neighbours"], (45, 15)):
         near(it["mean"], mean, "D")
-        near(it["half"], 64.5405, "its interval")
+        near(it["half"], by_area(2.454545) * 15, "its interval", 0.01)
         near(it["freedom"], 2.4545, "its nu")
         want(not it["told_apart"], "neighbours are told apart")
 
@@ -137,20 +155,20 @@ def neighbours_are_told_apart_by_units_that_vary():
 def opponents_who_were_not_met():
     """a met b (x 10 30, m 20, v 100) and c (30 70, m 50, v 400), who haven't met each other: k of a is 2, of b and c 1. M are
     35, -20, -50. D of a and b is 55, V = 400 / 2^2 + (1/2 + 1/1)^2 x 100 = 100 + 225 = 325, nu = 325^2 / (100^2 + 225^2) =
-    1.7423, 12.7062 x 18.0278 = 229.0643. D of b and c is 30, V = 100 + 400, nu = 500^2 / (100^2 + 400^2) = 1.4706,
-    12.7062 x 22.3607 = 284.1193."""
+    1.7423. D of b and c is 30, V = 100 + 400, nu = 500^2 / (100^2 + 400^2) = 1.4706, t 6.1880: 138.3691."""
     league = three(2, ab=[1, 3], ac=[3, 7])
     figures, text = league.figures("--unit", "group", status=1), league.table("--unit", "group", status=1)
     want([(it["player"], it["met"], it["planned"]) for it in figures["standings"]] == [("a", 2, 2), ("b", 1, 2), ("c", 1, 2)], "met others")
-    for it, (mean, half, freedom) in zip(figures["neighbours"], ((55, 229.0643, 1.7423), (30, 284.1193, 1.4706))):
+    wanted = (55, by_area(1.742268) * sqrt(325), 1.7423), (30, by_area(1.470588) * sqrt(500), 1.4706)
+    for it, (mean, half, freedom) in zip(figures["neighbours"], wanted):
         near(it["mean"], mean, "D")
-        near(it["half"], half, "its interval")
+        near(it["half"], half, "its interval", 0.01)
         near(it["freedom"], freedom, "its nu")
     marked = [line.split()[1] for line in text.splitlines() if line.endswith("  met 1 of 2")]
     want(marked == ["b", "c"], f"the table is {text}")
     by_hands = league.table(status=1)
     want("met 1 of 2; by hands: too small where bots learn" in by_hands, f"the table is {by_hands}")
-    want("b - c: +30.0 ± 284.1, not told apart, by hands: too small where bots learn" in by_hands, f"the table is {by_hands}")
+    want("b - c: +30.0 ± 138.4, not told apart, by hands: too small where bots learn" in by_hands, f"the table is {by_hands}")
 
 
 @test
@@ -185,17 +203,18 @@ def one_of_each_is_told_in_the_singular():
 def neighbours_who_met_different_opponents():
     """a met b (x 10 30) and c (3000 3070, m 3035, v 1225), b and c met a alone: apart from each other a met c and b nobody, b
     and c the same. D of a and b is 1527.5 - -20, V = 1225 / 4 + (1/2 + 1/1)^2 x 100 = 531.25, nu = 531.25^2 / (306.25^2 +
-    225^2) = 1.9543, 12.7062 x 23.0489 = 292.8641: 0 is left out, which is no difference of strength. D of b and c is -20 +
-    3035, V = 100 + 1225, 12.7062 x 36.4005 = 462.5127. In the finished league all met the same."""
+    225^2) = 1.9543, t 4.4005: 101.4281: 0 is left out, which is no difference of strength. D of b and c is -20 + 3035,
+    V = 100 + 1225, nu = 1325^2 / (100^2 + 1225^2) = 1.1622. In the finished league all met the same."""
     league = three(2, ab=[1, 3], ac=[300, 307])
     found, text = league.figures("--unit", "group", status=1)["neighbours"], league.table("--unit", "group", status=1)
-    for it, (mean, half, same) in zip(found, ((1547.5, 292.8641, False), (3015, 462.5127, True))):
+    for it, (mean, half, same) in zip(found, ((1547.5, by_area(1.954327) * sqrt(531.25), False), (3015, by_area(1.162186) * sqrt(1325), True))):
         near(it["mean"], mean, "D")
-        near(it["half"], half, "its interval")
+        near(it["half"], half, "its interval", 0.02)
         want((it["same_opponents"], it["told_apart"]) == (same, same), f"the neighbours are {it}")
-    want("a - b: +1547.5 ± 292.9, not told apart, met different opponents\nb - c: +3015.0 ± 462.5\n" in text, f"the table is {text}")
+    lines = "a - b: +1547.5 ± 101.4, not told apart, met different opponents", f"b - c: +3015.0 ± {by_area(1.162186) * sqrt(1325):.1f}"
+    want("\n".join(lines) + "\n" in text, f"the table is {text}")
     page = (league.does("page"), (league.kept / "page.html").read_text())[1]
-    want("<td>+1547.5 ± 292.9</td>" in page and page.count("met different opponents") == 2, "the page colours or doesn't mark them")
+    want("<td>+1547.5 ± 101.4</td>" in page and page.count("met different opponents") == 2, "the page colours or doesn't mark them")
     whole = three(2, ab=[1, 3], ac=[300, 307], bc=[1, 1])
     want(all(it["same_opponents"] for it in whole.figures()["neighbours"]), "a finished league has different opponents")
     whole.does("page")
@@ -269,8 +288,8 @@ def sets_of_three_in_an_unfinished_league():
     """a b c met twice: a +6 +2, b 0 +4, c -6 -6 chips of a blind of 100; a b d twice: a +2 +6, b -4 -12, d +2 +6; the other two
     sets never. So k of a and b is 2, of c and d 1. M are 40, -30, -60, 40. D of a and d: x is a / 2 - d with d, -10 -30, v 100,
     and a / 2 without, 30 10, v 100: D = 0, V = 200, nu = 2, 4.3027 x 14.1421 = 60.8494. D of d and b: d - b / 2 is 40 120, v
-    1600, -b / 2 is 0 -20, v 100: D = 70, nu = 1700^2 / (1600^2 + 100^2) = 1.1245, 12.7062 x 41.2311 = 523.8901. D of b and c:
-    b / 2 - c is 60 80, v 100, b / 2 is -20 -60, v 400: D = 30, nu 1.4706, 12.7062 x 22.3607 = 284.1193."""
+    1600, -b / 2 is 0 -20, v 100: D = 70, nu = 1700^2 / (1600^2 + 100^2) = 1.1245. D of b and c: b / 2 - c is 60 80, v 100,
+    b / 2 is -20 -60, v 400: D = 30, nu 1.4706."""
     league = League(dict.fromkeys("abcd", CALLS), game=NOLIMIT_3P, hands=1, meetings=2)
     league.does("plan")
     chips = {("a", "b", "c"): ((6, 0, -6), (2, 4, -6)), ("a", "b", "d"): ((2, -4, 2), (6, -12, 6))}
@@ -281,9 +300,9 @@ def sets_of_three_in_an_unfinished_league():
     figures, text = league.figures("--unit", "group", status=1), league.table("--unit", "group", status=1)
     found = [(it["player"], it["mean"], it["met"], it["planned"]) for it in figures["standings"]]
     want(found == [("a", 40, 2, 3), ("d", 40, 1, 3), ("b", -30, 2, 3), ("c", -60, 1, 3)], f"the standings are {found}")
-    for it, (mean, half) in zip(figures["neighbours"], ((0, 60.8494), (70, 523.8901), (30, 284.1193))):
+    for it, (mean, half) in zip(figures["neighbours"], ((0, 60.8494), (70, by_area(1.124514) * sqrt(1700)), (30, by_area(1.470588) * sqrt(500)))):
         near(it["mean"], mean, "D")
-        near(it["half"], half, "its interval")
+        near(it["half"], half, "its interval", 0.02)
         want(not it["same_opponents"], f"the same opponents: {it}")
     want("24 of 48 matches and 4 of 8 groups are finished; 4 groups with an unfinished match don't count" in text, f"the table is {text}")
 

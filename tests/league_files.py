@@ -31,7 +31,8 @@ def seatings_of_two_three_and_six_players():
     want({"".join(seats) for _, seats in three} == {"abc", "acb", "bac", "bca", "cab", "cba"} and len(three) == 6, f"three: {three}")
     want([name for name, _ in three] == [f"a.b.c.1.{number}" for number in range(6)], f"three: {three}")
     six = planned(League(dict.fromkeys("abcdef", CALLS), game=NOLIMIT_6P))
-    want(["".join(seats) for _, seats in six] == ["abcdef", "bcdefa", "cdefab", "defabc", "efabcd", "fabcde"], f"six: {six}")
+    first = "".join(six[0][1])
+    want(sorted(first) == list("abcdef") and ["".join(seats) for _, seats in six] == [first[at:] + first[:at] for at in range(6)], f"six: {six}")
     want(len(planned(League(dict.fromkeys("abcdefg", CALLS), game=NOLIMIT_6P, meetings=3))) == 7 * 6 * 3, "seven players, six seats")
     single = planned(League(dict.fromkeys("ab", CALLS), duplicate=False, meetings=3))
     want(single == [("a.b.1.0", ["a", "b"]), ("a.b.2.1", ["b", "a"]), ("a.b.3.0", ["a", "b"])], f"without duplicates: {single}")
@@ -57,7 +58,8 @@ def the_plan_only_grows():
     del league.players["Aaron"]
     league.write()
     said = league.does("plan", status=2)[1]
-    want("the plan has matches of Aaron, whom the file doesn't name" in said, f"it says {said}")
+    text = "the plan has matches of Aaron, whom the file doesn't name; who leaves the league stays in it, with withdrawn = true"
+    want(text in said, f"it says {said}")
 
 
 @test
@@ -85,8 +87,8 @@ def what_is_fixed_can_not_change():
 @test
 def wrong_files_are_refused_in_plain_sentences():
     for key, value, text in (
-        ("nodes", 3, "nodes is 0 in a league for now: each match is dealt by one process"),
-        ("nodes", "0", "nodes is a number from 0 to 7, not '0'"),
+        ("nodes", 7, "nodes is 0, 3 or 5, not 7"),
+        ("nodes", "0", "nodes is 0, 3 or 5, not '0'"),
         ("hands", 0, "hands is a number from 1 to 10000, not 0"),
         ("hands", True, "hands is a number from 1 to 10000, not True"),
         ("duplicate", 1, "duplicate is true or false, not 1"),
@@ -111,7 +113,7 @@ def wrong_files_are_refused_in_plain_sentences():
         ({"folder": "none"}, "the folder of c, "),
         ({"folder": 7}, "folder is a path, not 7"),
         ({"at_once": 0}, "at_once of c is a number from 1 on, not 0"),
-        ({"port": 1}, "no key is called 'port' in the table of c; there are at_once, command, folder, name"),
+        ({"port": 1}, "no key is called 'port' in the table of c; there are against, at, at_once, command, folder, keep, name, withdrawn"),
     ):
         league = League(dict.fromkeys("abc", CALLS))
         league.players["c"].update(player)
@@ -190,7 +192,7 @@ def the_page_leads_to_what_is_there():
     for number in (1, 2, 3, 4, 5):
         league.does("match", str(number))
     path = league.does("page", "--reveal")[0].strip()
-    want(path == str(league.kept / "page.html"), f"it printed {path}")
+    want(path.splitlines()[0] == str(league.kept / "page.html") and "don't upload it" in path, f"it printed {path}")
     text = (league.kept / "page.html").read_text()
     links = Links(text)
     want(not links.loaded and "://" not in text and "url(" not in text, f"the page loads {links.loaded}")
@@ -200,37 +202,43 @@ def the_page_leads_to_what_is_there():
     want({it for it in links.to if it.endswith(".log")} == {f"matches/{it}/{it}.log" for it in league.logs()}, "not each log is there")
     if (TOP / "tools/replay").exists():
         hands = [it for it in links.to if it.startswith("revealed/")]
-        want(hands == [f"revealed/{pair}.1.html#{place}/0" for pair in ("a.b", "a.c") for place in (1, 2)], f"hands are at {hands}")
+        want(hands == [f"revealed/{pair}.html#{place}/0" for pair in ("a.b", "a.c") for place in (1, 2)], f"hands are at {hands}")
     want(text.count("not yet") == 1 and "1 group with an unfinished match does" in text, "the unfinished meeting is revealed, or isn't told")
     want(text.count(">notes</a>") == 3 and "A log has all cards" in text, "notes without a word are linked, or nobody is warned of logs")
-    found = re.findall(r'notes">([\w.]+)</a></th><td class="left">(\w)</td><td>0</td><td>0</td><td>(\d)</td>', text)
+    found = re.findall(r'notes">([\w.]+)</a></th><td class="left">(\w)</td><td>0</td><td>0</td><td>(\d)</td><td>0</td>', text)
     want(sorted(found) == [("a.b.1.0", "b", "1"), ("a.b.1.1", "b", "1"), ("b.c.1.0", "b", "1")], f"incidents are {found}")
 
 
 @test
 def the_making_of_pages_is_told():
-    """Three pages of hands of half a second each: with something told each tenth of a second, the first line comes before any
-    page is made, and the later ones say how long the rest takes. A page that can't be made is named, and has no link. Nothing
-    is told where all pages are there."""
+    """Three pages of hands of half a second each, one at a time: with something told each tenth of a second, the first line comes
+    before any page is made, and the later ones say how long the rest takes. A page that can't be made is named, and has no link.
+    Nothing is told where all pages are there. A page with fewer matches than there are now is made anew."""
     sys.path.insert(0, str(TOP / "tools"))
     from league_parts import groups, league_file, plan, progress, replays
     from league_parts.standings import Standings
 
-    league = League(dict.fromkeys("ab", CALLS), hands=1, meetings=3, duplicate=False)
-    league.invent({"a.b.1.0": [1], "a.b.2.1": [1], "a.b.3.0": [1]})
-    maker = league.folder / "maker"
-    maker.write_text("import sys, time\ntime.sleep(0.5)\nif '.2.' in sys.argv[-1]: sys.exit('no room')\nopen(sys.argv[-1], 'w')\n")
+    league = League(dict.fromkeys("abc", CALLS), hands=1, meetings=2, duplicate=False)
+    league.invent({"a.b.1.0": [1], "a.c.1.0": [1], "b.c.1.0": [1], "b.c.2.1": [1]})
+    maker, refusal = league.folder / "maker", "if 'a.c' in sys.argv[-1]: sys.exit('no room')\n"
+    maker.write_text(f"import sys, time\ntime.sleep(0.5)\n{refusal}open(sys.argv[-1], 'w')\n")
     read = league_file.read(league.file)
     planned = plan.planned(read)
-    standings = Standings(read, planned, groups.played(read, planned))
-    with replaced(replays, REPLAY=maker), replaced(progress, ON_TERMINAL=0.1, ELSEWHERE=0.1):
-        addresses, said = told(lambda: replays.make_replays(standings, False))
-        want(set(addresses) == {"a.b.1.0", "a.b.3.0"}, f"the addresses are {addresses}")
-        want(said[0] == "league: made 0 of 3 pages of hands" and "league: no page of hands a.b.2.html: no room" in said, f"it says {said}")
+
+    def made(most=None):
+        standings = Standings(read, planned, groups.played(read, planned))
+        return told(lambda: replays.make_replays(standings, read.folder / "replays", False, most))
+
+    with replaced(replays, REPLAY=maker, lanes=lambda: 1), replaced(progress, ON_TERMINAL=0.1, ELSEWHERE=0.1):
+        addresses, said = made()
+        want(addresses == {"a.b.1.0": "replays/a.b.html", "b.c.1.0": "replays/b.c.html#1/0", "b.c.2.1": "replays/b.c.html#2/0"}, f"{addresses}")
+        want(said[0] == "league: made 0 of 3 pages of hands" and "league: no page of hands a.c.html: no room" in said, f"it says {said}")
         want(re.fullmatch(r"league: made 2 of 3 pages of hands, about \d+ s left", said[-1]), f"it says {said}")
-        (read.folder / "replays/a.b.2.html").write_text("")
-        addresses, said = told(lambda: replays.make_replays(standings, False))
-        want(len(addresses) == 3 and not said, f"the addresses are {addresses}; it says {said}")
+        maker.write_text(maker.read_text().replace(refusal, ""))
+        want(len(made()[0]) == 4 and not made()[1], "a page that is there is made again, or one isn't made")
+        want("made 0 of 1" in made(1)[1][0] and "b.c.1.0" not in made(1)[0], "of two meetings more than the newest one is shown")
+        league.invent({"a.b.2.1": [1]})
+        want(set(made()[0]) >= {"a.b.1.0", "a.b.2.1"} and not made()[1], "a page isn't made anew for a new match")
 
 
 @contextlib.contextmanager

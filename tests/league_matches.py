@@ -6,6 +6,7 @@ import shutil
 import sys
 import tempfile
 from pathlib import Path
+from types import SimpleNamespace
 
 sys.dont_write_bytecode = True
 
@@ -60,7 +61,7 @@ def a_bot_that_crashes_whenever_it_loses():
         want([notes.count(f"started again ({count} of 3)") for count in (1, 2, 3)] == [1, 1, 1], f"the notes are {notes}")
         want(notes.count("folds or calls from now on") == 1, f"the notes are {notes}")
     text = league.table()
-    want(re.search(r"2  quits +-750\.0 ± .* 6  +12  +0 ", text), f"the table is {text}")
+    want(re.search(r"2  quits +-750\.0 ± .* 6  +12  +0  +0", text), f"the table is {text}")
 
 
 @test
@@ -196,8 +197,8 @@ def a_result_has_the_hands_of_its_log():
     league = League({"a": "true {port}", "b": "true {port}"}, hands=3)
     (league.folder / "a.b.1.0.log").write_text("# head\nSTATE:0:f:x:7|-7:a|b\nSTATE:1:f:x:2|-2:b|a\nSCORE:5|-5:a|b\n")
     result, nothing = Result("SCORE:5|-5:a|b", *([0, 0] for _ in range(5))), {}
-    planned = Planned(1, "a.b.1.0", ("a", "b"), 1, ("a", "b"))
-    text = one_match.result_text(league_file.read(league.file), planned, result, nothing, 0.0, league.folder)
+    planned, table = Planned(1, "a.b.1.0", ("a", "b"), 1, ("a", "b")), SimpleNamespace(passed=[0, 0], at=[None, None])
+    text = one_match.result_text(league_file.read(league.file), planned, result, nothing, 0.0, league.folder, table, SimpleNamespace(nodes=0, hosts=()))
     found = json.loads(text)
     want((found["hands"], found["chips"], found["squares"]) == (2, [5, -5], [53, 53]), f"it is {text}")
 

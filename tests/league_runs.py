@@ -20,7 +20,7 @@ WAIT = 300
 BOT = [sys.executable, str(TOP / "tests/league_bot.py")]
 # All tests by their titles, and what the command line asks for.
 TESTS = []
-OPTIONS = {"--kills": 6, "--hands": 20, "--meetings": 2, "--title": ""}
+OPTIONS = {"--kills": 6, "--hands": 20, "--meetings": 2, "--matches": 6, "--lanes": 4, "--title": ""}
 
 
 def test(function):
@@ -75,10 +75,12 @@ class League:
             lines += ["[[player]]", *[f"{key} = {json.dumps(value)}" for key, value in player.items()]]
         self.file.write_text("\n".join(lines) + "\n" if text is None else text)
 
-    def start(self, *words):
+    def start(self, *words, path=None):
+        """Gives a command; programs of a folder `path` come before others of their names."""
+        environment = os.environ if path is None else {**os.environ, "PATH": f"{path}:{os.environ['PATH']}"}
         return subprocess.Popen(
             [TOOL, self.file, *words], stdin=subprocess.DEVNULL, stdout=subprocess.PIPE, stderr=subprocess.PIPE, text=True,
-            cwd=self.folder, start_new_session=True,
+            cwd=self.folder, start_new_session=True, env=environment,
         )
 
     def does(self, *words, status=0, most=WAIT):

@@ -8,6 +8,8 @@ import threading
 import time
 from pathlib import Path
 
+from match_engine import hosts
+
 # How long a group may take to end by itself after it was asked to, in seconds, and how often that is looked at.
 GRACE, LOOK = 2.0, 0.02
 # The most bytes of a player's output that are kept; what comes behind them is read and dropped.
@@ -107,17 +109,23 @@ def set_apart(parent, blocked):
 class Bot:
     """A player's program while it runs. It can't be started: OSError."""
 
-    def __init__(self, player, host, port, output, keeper):
-        """`output` is the file that gets what it writes to its standard output and error."""
+    def __init__(self, player, host, port, output, keeper, at=None):
+        """`output` is the file that gets what it writes to its standard output and error; `at` the host at which it runs, none where
+        that is this one. There a process of ssh stands for it."""
         parent, self.keeper, self.output, self.is_over = os.getpid(), keeper, output, False
         # (an interrupt between the start and the keeper's knowledge of it would leave the program behind; it comes to the main thread
         # alone, since each reader begins with the interrupts blocked)
         blocked = signal.pthread_sigmask(signal.SIG_BLOCK, INTERRUPTS)
         try:
-            self.process = subprocess.Popen(
-                player.words(host, port), cwd=player.folder, stdin=subprocess.DEVNULL, stdout=subprocess.PIPE, stderr=subprocess.STDOUT,
-                preexec_fn=lambda: set_apart(parent, blocked),
-            )
+            streams = {"stdout": subprocess.PIPE, "stderr": subprocess.STDOUT}
+            words, self.is_elsewhere = player.words(host, port), at is not None
+            if at is None:
+                self.process = subprocess.Popen(
+                    words, cwd=player.folder, stdin=subprocess.DEVNULL, preexec_fn=lambda: set_apart(parent, blocked), **streams
+                )
+            else:
+                asked = {"words": words, "folder": str(player.folder)}
+                self.process = hosts.run_at(at, "bot", asked, lambda: set_apart(parent, blocked), **streams)
             self.keeper.begun(self.process.pid)
             self.reader = threading.Thread(target=self.read, daemon=True)
             self.reader.start()
@@ -147,6 +155,11 @@ class Bot:
 
 def end_all(bots):
     """Ends players' programs, all at once. One that belongs to another user, and can't be ended, is left behind."""
+    elsewhere = [bot for bot in bots if bot.is_elsewhere]
+    for bot in elsewhere:
+        hosts.let_go(bot.process)
+    for bot in elsewhere:
+        hosts.end(bot.process)
     running = [bot for bot in bots if bot.is_running()]
     end([bot.process.pid for bot in running], lambda: [bot.process.poll() for bot in running])
     for bot in running:

@@ -1,9 +1,13 @@
 """Means of samples, and how far they may be off. Nothing here knows of matches."""
 from fractions import Fraction
-from math import sqrt
+from math import ceil, fsum, sqrt
 from typing import NamedTuple, Optional
 
 from .students_t import t
+
+
+# What rounding may leave of a number, for each of its size.
+ROUNDED = 1e-12
 
 
 class Estimate(NamedTuple):
@@ -48,6 +52,16 @@ def estimate_of_sums(total, squares, count):
     return Estimate(mean, float(squares - mean * total) / (count - 1) / count if count > 1 else None, count)
 
 
+def estimate_of_floats(units):
+    """The same from a sample of broken numbers, of which rounding leaves a little where all are equal."""
+    count, mean = len(units), fsum(units) / len(units)
+    if count == 1:
+        return Estimate(Fraction(mean), None, 1)
+    squares = fsum((it - mean) ** 2 for it in units)
+    is_noise = squares <= count * (ROUNDED * max(map(abs, units))) ** 2
+    return Estimate(Fraction(mean), 0.0 if is_noise else squares / (count - 1) / count, count)
+
+
 def combined(terms):
     """The interval for a sum of weighted means of samples that have nothing to do with each other. A term is a weight and
     an estimate."""
@@ -65,3 +79,11 @@ def combined(terms):
 def mean_of(estimates):
     """The interval for the mean of several samples' means, each of which weighs as much."""
     return combined([(Fraction(1, len(estimates)), it) for it in estimates])
+
+
+def meetings_to_tell(interval, groups):
+    """How many groups more would have an interval leave 0 out, if its value and its spread stay as they are; none where it does so
+    already, or nothing says it. Four times the groups halve an interval."""
+    if not interval.half or not interval.value or interval.leaves_out(0):
+        return None
+    return max(1, ceil(groups * (interval.half / abs(float(interval.value))) ** 2) - groups)

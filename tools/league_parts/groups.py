@@ -15,8 +15,9 @@ class Played(NamedTuple):
     result: dict
 
     def of(self, key, name):
-        """A figure of a player."""
-        return self.result[key][self.planned.seats.index(name)]
+        """A figure of a player; 0 where the result is older than the figure."""
+        figures = self.result.get(key)
+        return figures[self.planned.seats.index(name)] if figures is not None else 0
 
     def log(self, league):
         return league.result_of(self.planned.name) / f"{self.planned.name}.log"
@@ -74,7 +75,7 @@ def grouped(plan, finished):
         done[it.planned.group].append(it)
     groups = defaultdict(list)
     for (players, meeting), matches in sorted(done.items()):
-        if len(matches) == whole[players, meeting]:
+        if len(matches) == whole.get((players, meeting)):
             chips, squares = ({name: sum(it.of(key, name) for it in matches) for name in players} for key in ("chips", "squares"))
             groups[players].append(Group(players, meeting, matches, chips, squares))
     return groups, len(whole)

@@ -16,10 +16,21 @@ NAME = re.compile(r"[A-Za-z0-9_-]{1,32}")
 LONGEST_MATCH = 200
 HANDS, MEETINGS, COUNT = (1, 10000), (1, 100000), (0, 1000000)
 MILLISECONDS = (0, 2**53)
+# One dealer process, or so many nodes, each in a process of its own.
+NODES = (0, 3, 5)
 TIMES = {"t_response": "response", "t_hand": "hand", "t_per_hand": "per_hand", "start_timeout": "start"}
-DEFAULTS = {"duplicate": True, "nodes": 0, "t_response": 600000, "t_hand": 600000, "t_per_hand": 7000, "start_timeout": 60000, "restarts": 3}
+DEFAULTS = {
+    "duplicate": True, "nodes": 0, "t_response": 600000, "t_hand": 600000, "t_per_hand": 7000, "start_timeout": 60000, "restarts": 3, "hosts": [],
+    "ports": 21000, "tables": 0, "swiss": 0,
+}
 KEYS = {"name", "folder", "game", "hands", "meetings", "player", *DEFAULTS}
-PLAYER_KEYS = {"name", "command", "folder", "at_once"}
+PLAYER_KEYS = {"name", "command", "folder", "at_once", "at", "withdrawn", "keep", "against"}
+# Which finished groups of a player count who has withdrawn.
+KEEPS = ("all", "complete", "none")
+# A host as ssh takes it: USER@ADDRESS, or an address or name alone.
+HOST = re.compile(r"([A-Za-z0-9_][A-Za-z0-9_.-]*@)?[A-Za-z0-9][A-Za-z0-9.-]*")
+PORTS = (1024, 65000)
+TABLES, ROUNDS = (0, 100000), (0, 1000)
 
 
 class Player(NamedTuple):
@@ -29,6 +40,13 @@ class Player(NamedTuple):
     folder: Path
     # At most so many of it run at once; none where there is no bound.
     at_once: Optional[int]
+    # The hosts at which it runs, the first one as long as that is there; none where it runs with the league.
+    at: List[str] = []
+    # Whether it has left the league, and which of its finished groups count then.
+    withdrawn: bool = False
+    keep: str = "all"
+    # The only players whom it plays; none where it plays all.
+    against: List[str] = []
 
     def words(self, host, port):
         """The words of the command for a port."""
@@ -48,12 +66,25 @@ class League(NamedTuple):
     duplicate: bool
     limits: Limits
     restarts: int
+    # How many nodes keep a match that hasn't begun; 0 is one dealer process.
+    nodes: int
+    # The hosts of the nodes, none where they run with the league, and the first port there.
+    hosts: List[str]
+    ports: int
+    # How many tables a meeting has, 0 being all that there can be; and how many rounds are paired by results, 0 being none.
+    tables: int
+    swiss: int
     players: Dict[str, Player]
 
     @property
     def seats(self):
         """How many players sit in a match."""
         return self.game.players
+
+    @property
+    def withdrawn(self):
+        """The names of the players who have withdrawn."""
+        return {name for name, player in self.players.items() if player.withdrawn}
 
     @property
     def blind(self):
@@ -93,14 +124,15 @@ class Reader:
     def league(self):
         self.refuse_others(self.entries, KEYS, "")
         limits = Limits(**{field: self.number(key, *MILLISECONDS) for key, field in TIMES.items()})
-        if self.number("nodes", 0, 7) != 0:
-            raise self.wrong("nodes is 0 in a league for now: each match is dealt by one process")
         path, game = self.game()
         league = League(
             self.path, self.named("name", self.entries, "the league"), self.folder(), self.entries["game"], path, game,
             self.number("hands", *HANDS), self.number("meetings", *MEETINGS), self.truth("duplicate"), limits,
-            self.number("restarts", *COUNT), self.players(),
+            self.number("restarts", *COUNT), self.nodes(), self.hosts("hosts", self.entries), self.number("ports", *PORTS),
+            self.number("tables", *TABLES), self.number("swiss", *ROUNDS), self.players(),
         )
+        self.refuse_hosts(league)
+        self.refuse_pairings(league)
         if len(league.players) < league.seats:
             raise self.wrong(f"a match of this game has {league.seats} players, and the file names {len(league.players)}")
         longest = sorted(map(len, league.players), reverse=True)[: league.seats]
@@ -126,6 +158,48 @@ class Reader:
         if not least <= found <= most:
             raise self.wrong(f"{key} is a number from {least} to {most}, not {found}")
         return found
+
+    def nodes(self):
+        found = self.value("nodes", int, "0, 3 or 5")
+        if found not in NODES:
+            raise self.wrong(f"nodes is 0, 3 or 5, not {found}")
+        return found
+
+    def refuse_pairings(self, league):
+        """Refuses ways to pair players that don't go together, and opponents whom nobody knows."""
+        if league.swiss and (league.seats != 2 or league.tables):
+            raise self.wrong("swiss pairs two players by their results: it goes with a game for two, and without tables")
+        for player in league.players.values():
+            unknown = [name for name in player.against if name not in league.players or name == player.name]
+            if unknown:
+                raise self.wrong(f"against of {player.name} names {unknown[0]}, who is no other player of the file")
+            if player.against and (league.swiss or league.tables):
+                raise self.wrong(f"against of {player.name} goes with all tables that there can be: without tables and swiss")
+
+    def names(self, key, entries):
+        found = self.value(key, list, "a list of players' names", entries) if key in entries else []
+        if not all(type(name) is str for name in found):
+            raise self.wrong(f"{key} is a list of players' names, not {found!r}")
+        return found
+
+    def hosts(self, key, entries):
+        found = self.value(key, list, "a list of hosts, each ADDRESS or USER@ADDRESS", entries) if key in entries else []
+        for host in found:
+            if type(host) is not str or not HOST.fullmatch(host):
+                raise self.wrong(f"{key} is a list of hosts, each ADDRESS or USER@ADDRESS, not {host!r}")
+        if len(set(found)) < len(found):
+            raise self.wrong(f"{key} names a host twice")
+        return found
+
+    def refuse_hosts(self, league):
+        """Refuses hosts of which one would have half of a match's nodes, or that have no nodes."""
+        if league.hosts and not league.nodes:
+            raise self.wrong("hosts are those of nodes: they go with nodes = 3 or nodes = 5")
+        if league.hosts and 2 * -(-league.nodes // len(league.hosts)) >= league.nodes:
+            raise self.wrong(f"{len(league.hosts)} hosts are too few for {league.nodes} nodes: one that is lost would take half of a match's nodes")
+        for player in league.players.values():
+            if player.at and not league.hosts:
+                raise self.wrong(f"at of {player.name} goes with hosts: nodes of this machine alone can't be reached from there")
 
     def truth(self, key):
         return self.value(key, bool, "true or false")
@@ -188,4 +262,9 @@ class Reader:
         at_once = entries.get("at_once")
         if at_once is not None and (type(at_once) is not int or at_once < 1):
             raise self.wrong(f"at_once of {name} is a number from 1 on, not {at_once!r}")
-        return Player(name, words, folder, at_once)
+        withdrawn, keep = entries.get("withdrawn", False), entries.get("keep", KEEPS[0])
+        if type(withdrawn) is not bool:
+            raise self.wrong(f"withdrawn of {name} is true or false, not {withdrawn!r}")
+        if keep not in KEEPS or ("keep" in entries and not withdrawn):
+            raise self.wrong(f"keep of {name} goes with withdrawn = true and is {', '.join(KEEPS[:-1])} or {KEEPS[-1]}, not {keep!r}")
+        return Player(name, words, folder, at_once, self.hosts("at", entries), withdrawn, keep, self.names("against", entries))

@@ -9,15 +9,19 @@ import shutil
 import signal
 import socket
 import time
+from collections import Counter
 
-from match_engine import AGAIN, DEFAULT, PROGRAM, InUse, Match, MatchFault, Settings, Watcher
+import which_program
+from match_engine import AGAIN, DEFAULT, PASSED_OVER, InUse, Match, MatchFault, NodeMatch, Settings, Watcher
+from match_engine.hosts import HostLost
 
-from . import deals
+from . import deals, nodes
 from .bots import INTERRUPTS, Bot, Keeper, digest, end_all
 from .faults import Busy, Interrupted, Unfinished
 from .files import write_whole
 from .logs import hand_chips
 from .plan import is_finished
+from .words import counted
 
 HOST = "127.0.0.1"
 # The most bytes of a match's notes.
@@ -69,6 +73,10 @@ class Table(Watcher):
         self.bots, self.ports = [None] * len(players), []
         self.notes = open(folder / "notes", "a", encoding="utf-8", buffering=1)
         self.begun = self.all_there = None
+        # By seat the host at which the player runs, none where that is here.
+        self.at = [None] * len(players)
+        # By seat how many lines were passed over, also before the match was resumed.
+        self.passed = noted_as_passed(folder / "notes", players)
 
     def note(self, text):
         if self.notes.tell() < MOST_NOTES:
@@ -83,7 +91,7 @@ class Table(Watcher):
         """Starts a seat's player. Where his program can't be started the notes say why, and nobody comes."""
         player = self.players[seat]
         try:
-            self.bots[seat] = Bot(player, HOST, self.ports[seat], self.folder / f"{player.name}.out", self.keeper)
+            self.bots[seat] = Bot(player, HOST, self.ports[seat], self.folder / f"{player.name}.out", self.keeper, self.at[seat])
         except OSError as why:
             if why.errno in OF_MACHINE:
                 raise
@@ -100,7 +108,11 @@ class Table(Watcher):
         return self.bots[seat] is not None and self.bots[seat].is_running()
 
     def warned(self, seat, text):
+        self.passed[seat] += text.startswith(PASSED_OVER)
         self.note(f"{self.players[seat].name}: {text}")
+
+    def troubled(self, text):
+        self.note(text)
 
     def dropped(self, seat):
         self.end([seat])
@@ -119,34 +131,57 @@ class Table(Watcher):
         for seat in seats:
             self.bots[seat] = None
 
-    def close(self):
+    def finished(self, at):
+        for player, count in zip(self.players, self.passed):
+            if count:
+                self.note(f"{player.name}: {counted(count, 'line')} passed over in all")
+
+    def end_all(self):
         self.end(range(len(self.players)))
-        self.notes.close()
+
+
+def noted_as_passed(notes, players):
+    """How many lines of each player a file of notes says were passed over."""
+    found = Counter()
+    with open(notes, encoding="utf-8", errors="replace") as file:
+        for line in file:
+            _, _, text = line.partition(" ")[2].partition(" ")
+            name, is_named, said = text.partition(": ")
+            found[name] += bool(is_named) and said.startswith(PASSED_OVER)
+    return [found[player.name] for player in players]
 
 
 def play(settings, table):
     """Plays a match with the players of a table; its Result. Their programs are ended before its ports are closed, since
     one that dials again could come to a port that is another match's by then."""
     try:
-        with Match(settings, table) as match:
+        with (NodeMatch if settings.nodes else Match)(settings, table) as match:
             try:
                 table.start_all(match.ports)
                 result = match.play()
                 match.take_leave()
             finally:
-                table.close()
+                table.end_all()
     except InUse as why:
         raise Busy(str(why)) from why
+    except HostLost:
+        raise
     except (MatchFault, OSError) as why:
         raise Unfinished(str(why)) from why
+    finally:
+        table.notes.close()
     return result
 
 
 def settings_of(league, name, names, hands, seed, folder):
+    """What a match is played by. Its path, and not its name alone, says where stores of nodes are: two leagues may have one of this name."""
     return Settings(
-        name=name, game=league.game_word, hands=hands, names=names, seed=seed, limits=league.limits, listen=HOST,
+        name=str(folder / name), game=league.game_word, hands=hands, names=names, program=which_program.chosen(), seed=seed, limits=league.limits,
+        listen=HOST,
         log=folder / f"{name}.log", transactions=folder / f"{name}.tlog", is_resumed=True, may_return=True,
     )
+
+
 
 
 def play_planned(league, planned, local, is_again):
@@ -162,7 +197,7 @@ def play_planned(league, planned, local, is_again):
     try:
         folder.mkdir(mode=0o700, parents=True, exist_ok=True)
         if not (folder / "result.json").exists():
-            to_the_end(league, planned, folder)
+            to_some_end(league, planned, local)
         score = json.loads((folder / "result.json").read_text())["score"]
         put_in_place(folder, league.result_of(planned.name))
     except OSError as why:
@@ -170,34 +205,68 @@ def play_planned(league, planned, local, is_again):
     return f"finished, {score}"
 
 
-def to_the_end(league, planned, folder):
-    """Plays a match and writes down how it ended."""
+def to_some_end(league, planned, local):
+    """Plays a match and writes down how it ended. Where a host is lost at which a player runs, the match begins again with the same
+    cards and that player at his next host; what there was of it is kept among what was replaced."""
+    folder, places = local / "running" / planned.name, {name: 0 for name in planned.seats}
+    tries = sum(len(league.players[name].at) for name in planned.seats)
+    while True:
+        try:
+            to_the_end(league, planned, folder, places)
+            return
+        except HostLost as why:
+            tries -= 1
+            if tries <= 0:
+                raise Unfinished(f"{planned.name}: {why}") from why
+            places[planned.seats[why.seat]] += 1
+            with open(folder / "notes", "a", encoding="utf-8") as notes:
+                notes.write(f"{time.strftime('%Y-%m-%d %H:%M:%S')} {why}: the match begins again\n")
+            replace(league, planned, folder)
+            folder.mkdir(mode=0o700)
+
+
+def to_the_end(league, planned, folder, places):
+    """Plays a match and writes down how it ended. `places` says by a player which of his hosts he runs at."""
     keeper = Keeper()
     try:
         players = [league.players[name] for name in planned.seats]
         files = {player.name: digest(player.folder) for player in players}
         seed = deals.seed(deals.secret(league), planned.players, planned.meeting)
         table = Table(players, league.restarts, folder, keeper)
+        table.at = [it.at[places[it.name] % len(it.at)] if it.at else None for it in players]
         begun = time.time()
-        result = play(settings_of(league, planned.name, list(planned.seats), league.hands, seed, folder), table)
+        settings = settings_of(league, planned.name, list(planned.seats), league.hands, seed, folder)
+        settings = nodes.added(league, planned, settings, folder, table)
+        result = play(settings, table)
+    except HostLost:
+        nodes.remove(settings)
+        raise
     finally:
         keeper.close()
-    write_whole(folder / "result.json", result_text(league, planned, result, files, begun, folder))
+    write_whole(folder / "result.json", result_text(league, planned, result, files, begun, folder, table, settings))
+    nodes.forget(folder)
 
 
-def result_text(league, planned, result, files, begun, folder):
+def result_text(league, planned, result, files, begun, folder, table, settings):
     """What a result says; lists are by seat, times in microseconds. Hands and chips are the log's."""
     chips = hand_chips(folder / f"{planned.name}.log", planned.seats)
     return json.dumps({
         "match": planned.name, "number": planned.number, "seats": planned.seats, "hands": len(chips[0]),
         "score": result.score, "chips": [sum(hands) for hands in chips], "squares": [sum(it * it for it in hands) for hands in chips],
         "used": result.used, "worst": result.worst, "restarts": result.restarts, "defaults": result.defaults, "mended": result.mended,
+        "passed": table.passed, "nodes": settings.nodes, "hosts": list(settings.hosts), "at": dict(zip(planned.seats, table.at)),
         "limits": league.limits._asdict(), "restarts_allowed": league.restarts,
         "host": socket.gethostname(), "processors": os.cpu_count(), "load": [round(it, 2) for it in os.getloadavg()],
         "began": round(begun, 3), "ended": round(time.time(), 3),
-        "versions": {"program": sha256(PROGRAM), "python": platform.python_version(), "system": platform.platform()},
+        "versions": versions(which_program.chosen()),
         "commands": {name: league.players[name].command for name in planned.seats}, "files": files,
     }, indent=1) + "\n"
+
+
+def versions(program):
+    """What a match was played by. Of a program that says so of itself, nothing is proved."""
+    unproved = {"unproved": True} if which_program.is_unproved(program) else {}
+    return {"program": sha256(program), **unproved, "python": platform.python_version(), "system": platform.platform()}
 
 
 def sha256(path):
@@ -229,9 +298,13 @@ def put_in_place(folder, place):
 def put_away(league, planned, local):
     """Moves what there is of a match to the league's folder `replaced`, and forgets what isn't finished of it."""
     shutil.rmtree(local / "running" / planned.name, ignore_errors=True)
-    place, away = league.result_of(planned.name), league.folder / "replaced"
-    if not place.exists():
-        return
+    if league.result_of(planned.name).exists():
+        replace(league, planned, league.result_of(planned.name))
+
+
+def replace(league, planned, place):
+    """Moves what there is of a match at a place to the league's folder `replaced`."""
+    away = league.folder / "replaced"
     away.mkdir(mode=0o700, exist_ok=True)
     numbers = [int(number) for name, _, number in (path.name.rpartition(".") for path in away.iterdir()) if name == planned.name]
-    os.rename(place, away / f"{planned.name}.{max(numbers, default=0) + 1}")
+    shutil.move(place, away / f"{planned.name}.{max(numbers, default=0) + 1}")

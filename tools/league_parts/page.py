@@ -6,10 +6,10 @@ from html import escape
 from pathlib import Path
 
 from . import deals
-from .files import write_whole
-from .replays import make_replays
+from .elements import graph, link, noted, paragraph, row, scale_of, section, shade, table, valued
+from .estimates import meetings_to_tell
 from .standings import FEWEST_GROUPS, INCIDENTS
-from .table import BY_HANDS, half, head, marks, neighbour_marks, place, shown, trust
+from .table import BY_HANDS, contradiction, half, head, marks, neighbour_marks, place, rating_rows, shown, trust
 from .words import counted
 
 HERE = Path(__file__).resolve().parent
@@ -57,6 +57,15 @@ COUNTS = (
     "“restarts” counts how often a player’s program was started again, “defaults” the actions that were taken for it, and "
     "“mended” its actions that weren’t allowed and were replaced: in all finished matches, also of meetings that aren’t finished."
 )
+RATED = (
+    "Ratings by least squares compare players also where they met others: two ratings differ by what one is expected to win against the "
+    "other. Ratings of different parts say nothing of each other: no chain of matches joins their players. Where ratings explain the "
+    "results, the weighted squares are about as large as their degrees of freedom."
+)
+CROSS = (
+    "Green is won, red is lost, the darker the more. Point at a cell for its number of groups, and for how many more meetings would "
+    "tell the two apart if their difference stays as it is."
+)
 NEIGHBOURS = "The difference has an interval of its own: hands that two neighbours played against each other count for both."
 DIFFERENT = (
     "Means over different opponents say nothing of who is better: no neighbours who met different opponents are told apart."
@@ -65,97 +74,64 @@ HOSTILE = (
     "Bots run without a sandbox. A log has all cards, also one of a meeting that isn’t finished. docs/LEAGUE.md says what isn’t "
     "kept from a hostile bot."
 )
+PUBLIC = (
+    "A log here lacks the hole cards that the table wasn’t shown, unless all cards are revealed. Matches of a meeting that isn’t "
+    "finished aren’t here."
+)
 REMEMBERED = " A bot that remembers one seating of a meeting knows its opponent’s cards in the next."
 # With no more matches than this all lists of matches are open.
 FEW_MATCHES = 40
-# The graph of an interval: its width and height.
-WIDTH, HEIGHT, MARGIN = 220, 18, 6
 MICROSECONDS = 1000
 
 
-def write(standings, is_revealed):
-    """Writes the page and the pages of hands; the page's path."""
+class Links:
+    """Where a page leads: to the league's own folder, or in one that is published to what is beside it there."""
+
+    def __init__(self, league, hands, is_public=False):
+        """`hands` has by match the address of its hands."""
+        self.league, self.hands, self.is_public = league, hands, is_public
+
+    def log(self, planned):
+        return f"logs/{planned.name}.log" if self.is_public else f"matches/{planned.name}/{planned.name}.log"
+
+    def notes(self, planned):
+        """The address of a match's notes; none where they aren't published, or tell nothing."""
+        has_notes = not self.is_public and (self.league.result_of(planned.name) / "notes").stat().st_size > 0
+        return f"matches/{planned.name}/notes" if has_notes else None
+
+
+def text_of(standings, links, is_revealed):
+    """The page's text."""
     league = standings.league
-    replays = make_replays(standings, is_revealed)
     style = (HERE / "page.css").read_text()
     sections = [
-        heading(standings), standing_table(standings), neighbours(standings),
-        cross_table(standings) if league.seats == 2 else sets_table(standings), incidents(standings), matches(standings, replays, is_revealed),
+        heading(standings), standing_table(standings), *([ratings(standings)] if len(league.players) > 2 else []), neighbours(standings),
+        cross_table(standings) if league.seats == 2 else sets_table(standings), incidents(standings, links),
+        matches(standings, links, is_revealed),
     ]
     found = base64.b64encode(hashlib.sha256(style.encode()).digest()).decode()
-    path = league.folder / "page.html"
-    write_whole(path, PAGE.format(hash=found, title=escape(league.name), style=style, body="\n".join(sections)))
-    return path
-
-
-def row(cells, tag="td"):
-    """A line of a table; cells are HTML, or pairs of classes and HTML. The first one names the line."""
-    made = []
-    for at, cell in enumerate(cells):
-        kind, text = cell if isinstance(cell, tuple) else ("", cell)
-        name = "th" if at == 0 else tag
-        made.append(f'<{name} class="{kind}">{text}</{name}>' if kind else f"<{name}>{text}</{name}>")
-    return f"<tr>{''.join(made)}</tr>"
-
-
-def link(address, text):
-    return f'<a href="{escape(address)}">{escape(text)}</a>'
-
-
-def table(header, rows):
-    lines = "\n".join(rows)
-    return f'<div class="scroll"><table><thead>{row(header, "th")}</thead>\n<tbody>\n{lines}\n</tbody></table></div>'
-
-
-def section(title, *parts):
-    return "<section>\n<h2>" + title + "</h2>\n" + "\n".join(parts) + "\n</section>"
-
-
-def paragraph(text, kind=""):
-    return f'<p class="{kind}">{escape(text)}</p>' if kind else f"<p>{escape(text)}</p>"
-
-
-def valued(interval):
-    """An interval as a table's cell, green or red where it leaves 0 out."""
-    if interval is None:
-        return "quiet", "–"
-    kind = ("won" if interval.value > 0 else "lost") if interval.leaves_out(0) else ""
-    return kind, shown(interval)
-
-
-def noted(cell, notes):
-    """A cell with notes in small letters below it."""
-    kind, text = cell
-    return kind, text + "".join(f"<small>{escape(note)}</small>" for note in notes)
+    return PAGE.format(hash=found, title=escape(league.name), style=style, body="\n".join(sections))
 
 
 def heading(standings):
-    first, counts = head(standings)
+    first, counts, *withdrew = head(standings)
+    won = [paragraph(verdict(standings), "verdict")] if standings.finished_groups else []
     made = time.strftime("%Y-%m-%d %H:%M UTC", time.gmtime())
-    return f"<h1>{escape(first)}</h1>\n" + paragraph(f"{counts}. Written {made}.", "quiet")
+    return f"<h1>{escape(first)}</h1>\n" + "\n".join(
+        [*won, paragraph(f"{counts}. Written {made}.", "quiet"), *(paragraph(f"{it}.") for it in withdrew)]
+    )
 
 
-def scale_of(standings):
-    """Where a value is drawn: a function from values to pixels; and the least and the greatest value."""
-    ends = [0.0]
-    for it in standings.standings:
-        if it.interval:
-            ends += [float(it.interval.value) + sign * (it.interval.half or 0) for sign in (-1, 1)]
-    least, most = min(ends), max(ends)
-    width = (most - least) or 1.0
-    return lambda value: MARGIN + (float(value) - least) / width * (WIDTH - 2 * MARGIN), least, most
-
-
-def graph(interval, at):
-    """A dot with its interval, and where 0 is. `at` says where a value is drawn."""
-    if interval is None:
-        return ""
-    middle, zero = HEIGHT / 2, at(0)
-    reach = interval.half or 0
-    lines = f'<line class="zero" x1="{zero:.1f}" x2="{zero:.1f}" y1="0" y2="{HEIGHT}"/>'
-    lines += f'<line x1="{at(float(interval.value) - reach):.1f}" x2="{at(float(interval.value) + reach):.1f}" y1="{middle}" y2="{middle}"/>'
-    dot = f'<circle cx="{at(interval.value):.1f}" cy="{middle}" r="4"/>'
-    return f'<svg width="{WIDTH}" height="{HEIGHT}" viewBox="0 0 {WIDTH} {HEIGHT}" role="img" aria-label="{shown(interval)}">{lines}{dot}</svg>'
+def verdict(standings):
+    """One sentence that says who won, or leads, and by what."""
+    first = [it for it in standings.standings if it.rank == 1]
+    verb = "won" if standings.is_whole else "leads so far" if len(first) == 1 else "lead so far"
+    names, interval = " and ".join(it.name for it in first), first[0].interval
+    if len(first) > 1 or not standings.neighbours:
+        return f"{names} {verb} with {shown(interval)} mbb/hand."
+    ahead = standings.neighbours[0]
+    apart = "" if ahead.are_told_apart else ", which doesn’t tell the two apart"
+    return f"{names} {verb} with {shown(interval)} mbb/hand, {shown(ahead.ahead)} ahead of {ahead.worse}{apart}."
 
 
 def times(standings, name):
@@ -194,11 +170,19 @@ def meaning(standings):
         yield paragraph(words, "quiet")
 
 
+def ratings(standings):
+    """The players by least squares, where there are more than two."""
+    header, *found = rating_rows(standings)
+    rows = [row([escape(part), ("left", escape(name)), escape(value)]) for part, name, value in found]
+    words = [paragraph(RATED), paragraph(contradiction(standings), "quiet")]
+    return section("Ratings", table([header[0], ("left", header[1]), header[2]], rows), *words)
+
+
 def neighbours(standings):
     rows = [
         row([
             ("left words", f"{escape(it.better)} – {escape(it.worse)}"), valued(it.ahead) if it.have_same_opponents else shown(it.ahead),
-            ("left words", escape(", ".join(neighbour_marks(it)))),
+            ("left words", escape(", ".join([*neighbour_marks(it), *more_meetings(standings, it)]))),
         ])
         for it in standings.neighbours
     ]
@@ -207,27 +191,45 @@ def neighbours(standings):
     return section("Neighbours in rank", found, *[paragraph(it, "quiet") for it in words])
 
 
+def more_meetings(standings, it):
+    """How many meetings more would tell two neighbours apart, if the difference stays as it is."""
+    groups = max((cell.groups for cell in standings.cells[it.better]), default=0)
+    more = meetings_to_tell(it.ahead, groups)
+    if more and it.have_same_opponents:
+        yield f"about {counted(more, 'more meeting')} would tell them apart"
+
+
 def names_of(players):
     return ".".join(players)
 
 
 def cell_link(name, it):
-    """A cell of the cross table, which leads to the matches that it is made of."""
+    """A cell of a player against others, which leads to the matches that it is made of."""
     kind, text = valued(it.interval)
-    players = names_of(sorted([name, *it.opponents]))
     unit = ", by hands" if it.is_by_hands else ""
-    return kind, f"{link('#' + players, text)}<small>{counted(it.groups, 'group')}{unit}</small>"
+    return kind, f"{link('#' + names_of(sorted([name, *it.opponents])), text)}<small>{counted(it.groups, 'group')}{unit}</small>"
+
+
+def cross_cell(name, it, most):
+    """The same as a narrow cell, shaded by its value; what else there is of it is shown where somebody points at it."""
+    kind, _ = valued(it.interval)
+    value, _, half_width = shown(it.interval).partition(" ± ")
+    more, apart = meetings_to_tell(it.interval, it.groups), "told apart" if it.interval.leaves_out(0) else "not told apart"
+    apart = f"about {counted(more, 'more meeting')} would tell them apart" if more else apart
+    told = f"{name} – {it.opponents[0]}: {counted(it.groups, 'group')}{', by hands' if it.is_by_hands else ''}; {apart}"
+    address = "#" + names_of(sorted([name, *it.opponents]))
+    return f"{kind} {shade(it.interval.value, most)}".strip(), f"{link(address, value, told)}<small>± {half_width}</small>"
 
 
 def cross_table(standings):
     """Each player, a line, against each other one, a column, in the order of the ranks."""
-    order = [it.name for it in standings.standings]
-    rows = []
+    order, rows = [it.name for it in standings.standings], []
+    most = max((abs(float(it.interval.value)) for found in standings.cells.values() for it in found), default=0)
     for name in order:
         found = {it.opponents[0]: it for it in standings.cells[name]}
-        cells = [cell_link(name, found[other]) if other in found else ("own", "") if other == name else ("quiet", "–") for other in order]
+        cells = [cross_cell(name, found[other], most) if other in found else ("own", "") if other == name else ("quiet", "–") for other in order]
         rows.append(row([("left stays", escape(name)), *cells]))
-    return section("Each against each", table([("left stays", "mbb/hand of"), *map(escape, order)], rows))
+    return section("Each against each", table([("left stays", "mbb/hand of"), *map(escape, order)], rows, "cross"), paragraph(CROSS, "quiet"))
 
 
 def sets_table(standings):
@@ -241,18 +243,15 @@ def sets_table(standings):
     return section("Each against each", table([("left stays", "player"), ("left", "against"), "mbb/hand"], rows))
 
 
-def place_of(planned, file):
-    return f"matches/{planned.name}/{file}"
-
-
-def incidents(standings):
+def incidents(standings, links):
     """Matches in which a player failed or was mended, those that were played anew, and players whose files changed."""
     rows = []
     for match in standings.matches:
         for name in match.planned.seats:
             counts = [match.of(key, name) for key in INCIDENTS]
             if any(counts):
-                notes = link(place_of(match.planned, "notes"), match.planned.name)
+                notes = links.notes(match.planned)
+                notes = link(notes, match.planned.name) if notes else escape(match.planned.name)
                 rows.append(row([("left", notes), ("left", escape(name)), *map(str, counts)]))
     found = table([("left", "match"), ("left", "player"), *INCIDENTS], rows) if rows else paragraph("No player failed, and no action was mended.")
     return section("Incidents", found, *map(paragraph, [*replaced(standings.league), *changed_files(standings)]))
@@ -273,28 +272,23 @@ def changed_files(standings):
             yield found + (REMEMBERED if standings.league.duplicate else "")
 
 
-def matches(standings, replays, is_revealed):
+def matches(standings, links, is_revealed):
     """All finished matches by their players, with links."""
-    parts = [match_list(standings, players, replays, is_revealed) for players in sorted({it.planned.players for it in standings.matches})]
-    return section("Matches", paragraph(HOSTILE), *(parts or [paragraph("None is finished.")]))
+    parts = [match_list(standings, players, links, is_revealed) for players in sorted({it.planned.players for it in standings.matches})]
+    hostile = paragraph(PUBLIC if links.is_public else HOSTILE)
+    return section("Matches", hostile, *(parts or [paragraph("None is finished.")]))
 
 
-def has_notes(league, planned):
-    """Whether something happened in a match that its notes tell."""
-    return (league.result_of(planned.name) / "notes").stat().st_size > 0
-
-
-def match_list(standings, players, replays, is_revealed):
+def match_list(standings, players, links, is_revealed):
     rows = []
     whole = {group.meeting for group in standings.groups.get(players, [])}
     secret = deals.secret(standings.league) if is_revealed else None
     for it in sorted((it for it in standings.matches if it.planned.players == players), key=lambda it: it.planned.number):
         meeting, planned = it.planned.meeting, it.planned
         seed = deals.seed(secret, players, meeting) if is_revealed and meeting in whole else None
-        links = [link(place_of(planned, f"{planned.name}.log"), "log")]
-        links += [link(place_of(planned, "notes"), "notes")] if has_notes(standings.league, planned) else []
-        links += [link(replays[planned.name], "hands")] if planned.name in replays else []
-        cells = [str(planned.number), ("left", escape(planned.name)), ("left", " · ".join(links)), ("left", escape(", ".join(planned.seats)))]
+        found = [(links.log(planned), "log"), (links.notes(planned), "notes"), (links.hands.get(planned.name), "hands")]
+        found = " · ".join(link(address, text) for address, text in found if address)
+        cells = [str(planned.number), ("left", escape(planned.name)), ("left", found), ("left", escape(", ".join(planned.seats)))]
         cells += [f"{it.of('chips', name):+d}" for name in players]
         cells += [f"<code>{seed or 'not yet'}</code>"] if is_revealed else []
         rows.append(row(cells))

@@ -1,15 +1,22 @@
 """Which matches a league has. The plan is a file that only grows: a match has its line's number for ever."""
 import fcntl
+import hmac
 import itertools
 import json
 import os
+import random
 from collections import Counter
+from math import comb
 from typing import NamedTuple, Tuple
 
-from . import deals
+from . import deals, rounds
 from .faults import Unfinished, Wrong
 from .files import put_once
 from .words import counted, in_words
+
+
+# How often a table is drawn that isn't there yet, before all are taken for drawn.
+TRIES = 1000
 
 
 class Planned(NamedTuple):
@@ -29,8 +36,8 @@ class Planned(NamedTuple):
 
 
 def seatings(players, duplicate, meeting):
-    """Who sits where, by the seatings' numbers. Two players sit both ways, three in all six orders, more in each rotation.
-    Without duplicates each meeting has one seating, the next rotation each time."""
+    """Who sits where, by the seatings' numbers. Two players sit both ways, three in all six orders, more in each rotation of the order
+    in which they are given. Without duplicates each meeting has one seating, the next rotation each time."""
     rotations = [players[start:] + players[:start] for start in range(len(players))]
     if not duplicate:
         number = (meeting - 1) % len(players)
@@ -39,13 +46,77 @@ def seatings(players, duplicate, meeting):
     return list(enumerate(orders))
 
 
-def wanted(league):
-    """The matches that the league's file asks for: name, players, meeting, seats. First meetings come first. Players are
-    sorted by name, so that their order in the file doesn't matter."""
+def wanted(league, known):
+    """The matches that the league's file asks for and that aren't known: name, players, meeting, seats. First meetings come first.
+    Players are sorted by name, so that their order in the file doesn't matter."""
+    secret, names, first, tables = deals.secret(league), {it.name for it in known}, {}, {}
+    for it in known:
+        first.setdefault(it.group, it)
+        tables.setdefault(it.meeting, {})[it.players] = True
     for meeting in range(1, league.meetings + 1):
-        for players in itertools.combinations(sorted(league.players), league.seats):
-            for number, seats in seatings(players, league.duplicate, meeting):
-                yield f"{'.'.join(players)}.{meeting}.{number}", players, meeting, seats
+        for players in tables_of(league, secret, meeting, list(tables.get(meeting, ()))):
+            order = order_of(league, secret, players, meeting, first.get((players, meeting)))
+            for number, seats in seatings(order, league.duplicate, meeting):
+                name = f"{'.'.join(players)}.{meeting}.{number}"
+                if name not in names:
+                    yield name, players, meeting, seats
+
+
+def tables_of(league, secret, meeting, planned):
+    """Who sits together in a meeting. Where so many tables are drawn, those of a meeting that is planned already stay."""
+    players = sorted(league.players.keys() - league.withdrawn)
+    if league.swiss:
+        return rounds.pairs(league)
+    if league.tables:
+        return planned or drawn_tables(players, league.seats, league.tables, dice(secret, "tables", meeting))
+    return [table for table in itertools.combinations(players, league.seats) if all(meets(league.players[name], table) for name in table)]
+
+
+def meets(player, table):
+    """Whether a player sits at a table: who plays some alone sits with them alone."""
+    return not player.against or set(table) <= {player.name, *player.against}
+
+
+def dice(secret, *words):
+    """A generator of random numbers that the secret decides, and nobody can know beforehand."""
+    return random.Random(hmac.digest(secret, " ".join(map(str, words)).encode(), "sha256"))
+
+
+def drawn_order(league):
+    """The players who haven't withdrawn, in an order that the secret decides."""
+    order = sorted(league.players.keys() - league.withdrawn)
+    dice(deals.secret(league), "order").shuffle(order)
+    return order
+
+
+def order_of(league, secret, players, meeting, known):
+    """The order in which players sit, before it is rotated: with more than two drawn for each meeting, so that nobody always acts
+    behind the same one. A meeting of which a match is known has that one's order."""
+    if league.seats == 2 or (league.seats == 3 and league.duplicate):
+        return players
+    if known is not None:
+        number = int(known.name.rpartition(".")[2])
+        return (*known.seats[-number:], *known.seats[:-number]) if number else known.seats
+    order = list(players)
+    dice(secret, "seats", *players, meeting).shuffle(order)
+    return tuple(order)
+
+
+def drawn_tables(players, seats, count, drawn):
+    """So many tables, at which each player sits as often as any other, one more or less; none is there twice as long as there are
+    others."""
+    sat, tables, most = Counter(), [], comb(len(players), seats)
+    for number in range(min(count, most)):
+        for _ in range(TRIES):
+            drawn.shuffle(players := list(players))
+            table = tuple(sorted(sorted(players, key=lambda name: sat[name])[:seats]))
+            if table not in tables:
+                break
+        else:
+            return tables
+        tables.append(table)
+        sat.update(table)
+    return sorted(tables)
 
 
 def group_size(league):
@@ -73,8 +144,8 @@ def planned(league):
             text = text[: text.rfind("\n") + 1]
             file.truncate(len(text))
         have = text.splitlines()
-        known = {line.split(" ")[0] for line in have}
-        more = [line(name, players, meeting, seats) for name, players, meeting, seats in wanted(league) if name not in known]
+        known = [match(league, number, it) for number, it in enumerate(have, start=1)]
+        more = [line(name, players, meeting, seats) for name, players, meeting, seats in wanted(league, known)]
         if more:
             file.write("".join(it + "\n" for it in more))
             file.flush()
@@ -94,7 +165,8 @@ def match(league, number, text):
         raise Wrong(f"{league.folder / 'plan'}: line {number} isn't one of a match")
     missing = next((player for player in players if player not in league.players), None)
     if missing is not None:
-        raise Wrong(f"{league.path.name}: the plan has matches of {missing}, whom the file doesn't name; a player who was planned stays")
+        who = f"the plan has matches of {missing}, whom the file doesn't name"
+        raise Wrong(f"{league.path.name}: {who}; who leaves the league stays in it, with withdrawn = true")
     return Planned(number, name, players, int(meeting), seats)
 
 
@@ -119,6 +191,28 @@ def prepare(league):
 
 def is_finished(league, planned):
     return (league.result_of(planned.name) / "result.json").exists()
+
+
+def played(league, matches):
+    """The matches that are finished or are to be played: the unfinished ones of who has withdrawn aren't."""
+    gone = league.withdrawn
+    return [it for it in matches if gone.isdisjoint(it.players) or is_finished(league, it)]
+
+
+def counted_ones(league, matches):
+    """The matches whose groups count, once they are finished. Of who has withdrawn these are finished groups alone, and of those as
+    `keep` says: all, only those against opponents against whom all are finished, or none."""
+    gone, unfinished = league.withdrawn, set()
+    for it in matches:
+        if not gone.isdisjoint(it.players) and not is_finished(league, it):
+            unfinished.add(it.group)
+    open_sets = {players for players, _ in unfinished}
+
+    def counts(it):
+        keeps = {league.players[name].keep for name in gone.intersection(it.players)}
+        return it.group not in unfinished and "none" not in keeps and not ("complete" in keeps and it.players in open_sets)
+
+    return [it for it in matches if counts(it)]
 
 
 def count_groups(league, matches):

@@ -7,6 +7,7 @@ import sys
 import time
 from collections import Counter
 
+from . import nodes
 from .bots import INTERRUPTS
 from .faults import Interrupted, Unfinished
 from .one_match import is_locked, lock
@@ -158,6 +159,8 @@ def run(league, plan, jobs, command):
     held = lock(league, "run")
     playing = Run(league, plan, jobs or default_jobs(league), command)
     try:
+        waiting = [match.name for match in playing.waiting]
+        nodes.sweep(league, waiting, [name for name in waiting if is_locked(league, name)], playing.progress.note)
         is_whole = playing.play()
     except Interrupted:
         print("league: interrupted; the same command resumes it", file=sys.stderr)

@@ -1,15 +1,18 @@
 """What the finished groups of a league say of its players, in thousandths of the greatest blind a hand (mbb/hand)."""
 from collections import Counter
+from copy import copy
 from fractions import Fraction
+from functools import cached_property
 from typing import Dict, NamedTuple, Optional, Tuple
 
-from .estimates import Estimate, Interval, combined, estimate, estimate_of_sums, mean_of
+from .estimates import Estimate, Interval, combined, estimate, estimate_of_floats, estimate_of_sums, mean_of
 from .groups import grouped
+from .ratings import rated
 from .words import of_all
 
 # With fewer groups than this the unit is the hand.
 FEWEST_GROUPS = 5
-INCIDENTS = ("restarts", "defaults", "mended")
+INCIDENTS = ("restarts", "defaults", "mended", "passed")
 
 
 class Cell(NamedTuple):
@@ -62,7 +65,8 @@ class Standings:
 
     def __init__(self, league, plan, finished, unit=None, tell=lambda text: None):
         self.league, self.unit, self.matches = league, unit, list(finished)
-        self.planned, self.tables = len(plan), {it.players for it in plan}
+        self.planned, self.tables, counted = len(plan), {it.players for it in plan}, {it.name for it in plan}
+        self.finished = sum(it.planned.name in counted for it in self.matches)
         self.groups, self.planned_groups = grouped(plan, self.matches)
         self.finished_groups = sum(map(len, self.groups.values()))
         self.samples = {}
@@ -72,6 +76,18 @@ class Standings:
         self.cells = {name: [sample.cell(name) for sample in self.samples.values() if name in sample.players] for name in league.players}
         self.standings = self.ranked()
         self.neighbours = [self.side_by_side(*pair) for pair in zip(self.standings, self.standings[1:]) if pair[1].interval]
+
+    @cached_property
+    def ratings(self):
+        """The players' ratings by least squares."""
+        return rated(self.samples)
+
+    def of_whole_groups(self):
+        """The same with matches alone whose meetings are finished."""
+        whole = {match.planned.name for found in self.groups.values() for group in found for match in group.matches}
+        found = copy(self)
+        found.matches = [it for it in self.matches if it.planned.name in whole]
+        return found
 
     @property
     def is_whole(self):
@@ -184,6 +200,11 @@ class Sample:
         """The estimate of the difference of two players' weighted results."""
         pairs = zip(self.units[first], self.units[second])
         return estimate([first_weight * one - second_weight * other for one, other in pairs]).scaled(self.scale)
+
+    def weighted(self, factors):
+        """The estimate of a sum of the players' results, each of which counts by its factor."""
+        rows = zip(*(self.units[name] for name in self.players))
+        return estimate_of_floats([sum(factors[name] * it for name, it in zip(self.players, row)) for row in rows]).scaled(self.scale)
 
     def plain(self, name):
         """The estimate where each hand of each seating is a unit."""

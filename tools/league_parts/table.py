@@ -3,13 +3,20 @@ import csv
 import io
 import json
 
+from .standings import INCIDENTS
 from .words import counted, of_all
 
+# Which groups of a player count who has withdrawn.
+KEPT = {
+    "all": "all finished groups count", "complete": "groups count against opponents against whom all are finished", "none": "no groups count",
+}
 BY_HANDS = "by hands: too small where bots learn"
 TRUST = "Each interval behind a mean, by itself, misses the true value in 1 of 20 leagues"
 TRUST_OF_CELLS = "; of {cells} cells (a player against opponents) about {misses} miss"
 TRUST_BY_HANDS = " Intervals by hands miss more often where bots learn or fail."
 ALONE = " ± ? stands behind one result alone, which has no interval."
+RATINGS = "ratings by least squares, which compare players also over different opponents"
+SWISS = " Pairs were made by results: no interval here holds for whoever was in one."
 UNFINISHED = " Groups are missing: a mean weighs all opponents that the player met alike, however many groups against each are finished."
 
 
@@ -49,15 +56,28 @@ def head(standings):
     kind = "duplicate" if league.duplicate else "no duplicates"
     lines = [f"{league.name}: {counted(len(league.players), 'player')}, {counted(league.hands, 'hand')} a match, {kind}, in mbb/hand"]
     open_groups = standings.planned_groups - standings.finished_groups
-    counts = f"{of_all(len(standings.matches), standings.planned, 'match', 'matches')} and "
+    counts = f"{of_all(standings.finished, standings.planned, 'match', 'matches')} and "
     counts += f"{of_all(standings.finished_groups, standings.planned_groups, 'group')} are finished"
     if open_groups:
         counts += f"; {counted(open_groups, 'group')} with an unfinished match {'does' if open_groups == 1 else 'do'}n't count"
-    return [*lines, counts]
+    return [*lines, counts, *unproved(standings), *withdrawals(league)]
+
+
+def unproved(standings):
+    """How many matches a program dealt of which nothing is proved."""
+    count = sum(bool(it.result.get("versions", {}).get("unproved")) for it in standings.matches)
+    if count:
+        yield f"an unproved program dealt {counted(count, 'match', 'matches')}"
+
+
+def withdrawals(league):
+    """Who has left the league, and which of his groups count."""
+    for name in sorted(league.withdrawn):
+        yield f"{name} withdrew: {KEPT[league.players[name].keep]}"
 
 
 def standing_rows(standings):
-    yield "rank", "player", "mbb/hand", "plain", "run-off", "restarts", "defaults", "mended", ""
+    yield "rank", "player", "mbb/hand", "plain", "run-off", *INCIDENTS, ""
     for it in standings.standings:
         yield (
             place(it.rank), it.name, shown(it.interval), half(it.plain), place(it.run_off), *map(str, it.incidents.values()),
@@ -97,20 +117,43 @@ def cell_rows(standings):
                 yield name, " ".join(it.opponents), shown(it.interval), half(it.plain), str(it.groups), BY_HANDS if it.is_by_hands else ""
 
 
+def rating_rows(standings):
+    """The players by their ratings; those whom no chain of matches joins are apart."""
+    yield "part", "player", "rating"
+    for it in standings.ratings.ratings:
+        yield str(it.part), it.name, shown(it.interval)
+
+
+def contradiction(standings):
+    """How much the results contradict the ratings, in one sentence."""
+    found = standings.ratings
+    if found.squares is None or not found.freedom:
+        return "Nothing shows whether the results contradict the ratings."
+    return f"The weighted squares of what ratings don't explain are {found.squares:.1f}, at {counted(found.freedom, 'degree')} of freedom."
+
+
+def rating_lines(standings):
+    rows = [*rating_rows(standings)]
+    if len({it.part for it in standings.ratings.ratings}) == 1:
+        rows = [row[1:] for row in rows]
+    return [RATINGS, *columns(rows, {len(rows[0]) - 1}), contradiction(standings)]
+
+
 def trust(standings):
     """How far the intervals may be trusted, and what the means of an unfinished league weigh."""
     cells = sum(map(len, standings.cells.values())) // (2 if standings.league.seats == 2 else 1)
     of_cells = TRUST_OF_CELLS.format(cells=cells, misses=f"{cells / 20:.1f}") if cells > 1 else ""
     is_alone = any(it.interval.half is None for found in standings.cells.values() for it in found)
-    notes = (TRUST_BY_HANDS, standings.is_by_hands), (ALONE, is_alone), (UNFINISHED, not standings.is_whole)
+    notes = (TRUST_BY_HANDS, standings.is_by_hands), (ALONE, is_alone), (UNFINISHED, not standings.is_whole), (SWISS, standings.league.swiss)
     return f"{TRUST}{of_cells}." + "".join(note for note, is_so in notes if is_so)
 
 
 def text(standings):
     """The table for a terminal."""
-    lines = [*head(standings), "", *columns([*standing_rows(standings)], {0, 2, 3, 4, 5, 6, 7})]
+    lines = [*head(standings), "", *columns([*standing_rows(standings)], {0, 2, 3, 4, *range(5, 5 + len(INCIDENTS))})]
     if standings.finished_groups:
         lines += ["", "neighbours in rank, and by how much the better one is ahead", *neighbour_lines(standings)]
+        lines += ["", *rating_lines(standings)] if len(standings.league.players) > 2 else []
         lines += ["", *columns([*cell_rows(standings)], {2, 3, 4}), "", trust(standings)]
     return "\n".join(lines) + "\n"
 
@@ -144,6 +187,10 @@ def cell_values(name, it):
     }
 
 
+def rating_values(it):
+    return {"player": it.name, "part": it.part, **interval_values(it.interval)}
+
+
 def neighbour_values(it):
     return {
         "player": it.better, "against": it.worse, **interval_values(it.ahead), "told_apart": it.are_told_apart,
@@ -155,9 +202,12 @@ def values(standings):
     """The whole table as lists of figures by their names."""
     return {
         "league": standings.league.name, "hands": standings.league.hands, "duplicate": standings.league.duplicate,
-        "matches": {"planned": standings.planned, "finished": len(standings.matches)},
+        "matches": {"planned": standings.planned, "finished": standings.finished},
         "groups": {"planned": standings.planned_groups, "finished": standings.finished_groups},
+        "withdrawn": {name: standings.league.players[name].keep for name in sorted(standings.league.withdrawn)},
         "standings": [standing_values(it) for it in standings.standings],
+        "ratings": [rating_values(it) for it in standings.ratings.ratings],
+        "residual": {"squares": number(standings.ratings.squares), "freedom": standings.ratings.freedom},
         "neighbours": [neighbour_values(it) for it in standings.neighbours],
         "cells": [cell_values(name, it) for name in sorted(standings.cells) for it in standings.cells[name]],
     }
@@ -170,7 +220,7 @@ def as_json(standings):
 def as_csv(standings):
     """One line for each standing, pair of neighbours and cell; `kind` says which."""
     found, made = values(standings), io.StringIO()
-    kinds = {"standing": "standings", "neighbours": "neighbours", "cell": "cells"}
+    kinds = {"standing": "standings", "rating": "ratings", "neighbours": "neighbours", "cell": "cells"}
     rows = [{"kind": kind, **row} for kind, key in kinds.items() for row in found[key]]
     names = list(dict.fromkeys(name for row in rows for name in row))
     writer = csv.DictWriter(made, names, lineterminator="\n")

@@ -1,6 +1,9 @@
 """Plays some hands of each player against the sample player who calls, before a league begins."""
+import os
 import secrets
 import shutil
+import signal
+import subprocess
 import sys
 
 from match_engine.program import TOP
@@ -9,6 +12,7 @@ from .bots import Keeper
 from .faults import Unfinished
 from .league_file import Player
 from .one_match import Table, end_by_signals, lock, play, settings_of
+from .running import default_jobs, end_with
 from .words import counted, printable
 
 HANDS = 20
@@ -64,19 +68,41 @@ def try_player(league, player, keeper):
     )
 
 
-def try_all(league):
-    """Tries each player; the exit status, 1 where one failed."""
-    lock(league, "try")
+def try_one(league, name):
+    """Tries a player, and tells how he did; the exit status, 1 where he failed."""
     end_by_signals()
-    keeper, status = Keeper(), 0
+    keeper = Keeper()
     try:
-        for player in league.players.values():
-            try:
-                why, seen = try_player(league, player, keeper)
-            except Unfinished as fault:
-                why, seen = str(fault), None
-            print(printable(f"{player.name}: {'failed: ' + why if why else seen}"), flush=True)
-            status = 1 if why else status
+        why, seen = try_player(league, league.players[name], keeper)
+    except Unfinished as fault:
+        why, seen = str(fault), None
     finally:
         keeper.close()
-    return status
+    print(printable(f"{name}: {'failed: ' + why if why else seen}"), flush=True)
+    return 1 if why else 0
+
+
+def try_all(league, command):
+    """Tries all players, some side by side, each in a process of its own, and tells of them in the file's order; the exit status.
+    `command` gives the words that try one."""
+    lock(league, "try")
+    waiting, running, status, parent = list(league.players), {}, 0, os.getpid()
+    blocked = signal.pthread_sigmask(signal.SIG_BLOCK, [])
+    end_by_signals()
+    try:
+        while waiting or running:
+            while waiting and len(running) < default_jobs(league):
+                name = waiting.pop(0)
+                running[name] = subprocess.Popen(
+                    command(name), stdin=subprocess.DEVNULL, stdout=subprocess.PIPE, preexec_fn=lambda: end_with(parent, blocked)
+                )
+            first = next(iter(running))
+            sys.stdout.write(running[first].communicate()[0].decode(errors="replace"))
+            sys.stdout.flush()
+            status = max(status, running.pop(first).returncode != 0)
+    finally:
+        for process in running.values():
+            process.terminate()
+        for process in running.values():
+            process.communicate()
+    return int(status)

@@ -5,12 +5,13 @@ what the transaction file tells, and listens. `play` then waits for the players 
 is told to the watcher, whose methods do nothing by themselves. `NodeMatch` is of the same form: nodes in processes of their
 own keep the match, and each player speaks with a relay.
 """
+from .course import PASSED_OVER
 from .faults import InUse, MatchFault, SeatFault
 from .files import stamp
 from .match import AGAIN, DEFAULT, Limits, Match, Result, Settings, Watcher
 from .node_match import NodeMatch
-from .program import PROGRAM
 
 __all__ = [
-    "AGAIN", "DEFAULT", "PROGRAM", "InUse", "Limits", "Match", "MatchFault", "NodeMatch", "Result", "SeatFault", "Settings", "Watcher", "stamp",
+    "AGAIN", "DEFAULT", "PASSED_OVER", "InUse", "Limits", "Match", "MatchFault", "NodeMatch", "Result", "SeatFault", "Settings", "Watcher",
+    "stamp",
 ]

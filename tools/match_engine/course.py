@@ -102,6 +102,15 @@ class Course:
         self.see(int(hand), betting)
         self.ended[int(hand)] = line
 
+    def unsent(self, seat):
+        """A seat's line counts as not sent: another player is to get it, who begins anew."""
+        self.seats[seat].prompt = None
+
+    def answered(self, seat):
+        """What a seat's player said to the newest line of the seat, if he did."""
+        told = self.seats[seat]
+        return told.answers.get(told.place)
+
     def gone(self, seat):
         """Nothing more comes of a seat's trace."""
         self.seats[seat].is_gone = True

@@ -17,6 +17,16 @@ def stamp(microseconds):
     return "{}.{:06}".format(*divmod(microseconds, SECOND))
 
 
+def begun_at(process):
+    """When a process began, in ticks since the machine's start: with its number it names it. Nothing where it has ended."""
+    try:
+        with open(f"/proc/{process}/stat", encoding="latin-1") as file:
+            fields = file.read().rpartition(")")[2].split()
+    except OSError:
+        return None
+    return None if fields[0] in "ZX" else fields[19]
+
+
 class Transaction(NamedTuple):
     """An action that was carried out, with the times in microseconds: when the line that it answers was sent, and when it
     came. `mark` says what else there was to it: it was `mended`, or a `default`."""

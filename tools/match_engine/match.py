@@ -4,9 +4,10 @@ import time
 from pathlib import Path
 from typing import Iterable, List, NamedTuple, Optional, Sequence
 
+from .course import PASSED_OVER
 from .faults import Failed, MatchFault, SeatFault
 from .files import File, Restart, Transaction, transactions, whole_lines
-from .program import PROGRAM, Dealer, Draw
+from .program import Dealer, Draw
 from .seats import Seat, take_leave
 
 # What a watcher answers where a player failed who may return.
@@ -34,6 +35,8 @@ class Settings(NamedTuple):
     game: str
     hands: int
     names: Sequence[str]
+    # The program that deals, by its path (tools/which_program.py).
+    program: Path
     seed: int = 0
     deals: Optional[Iterable[str]] = None
     limits: Limits = Limits()
@@ -51,7 +54,12 @@ class Settings(NamedTuple):
     # How many nodes keep the match, each in a process of its own, and the folder of their stores, else in memory; 0 is none.
     nodes: int = 0
     stores: Optional[Path] = None
-    program: Path = PROGRAM
+    # By node the host at which it runs, by ssh, and by seat that of its player and his relay, or none; with nodes here there are none.
+    # The first port of the match at each host, and the name of its folders there.
+    hosts: Sequence[str] = ()
+    at: Sequence[Optional[str]] = ()
+    first_port: int = 0
+    place: str = ""
 
 
 class Result(NamedTuple):
@@ -179,15 +187,16 @@ class Match:
             raise
 
     def prepare(self):
-        """Files come last: where anything else is wrong, what an earlier match left is as it was."""
+        """Ports come first: a player who is there as early as this isn't refused. Files come last: where anything else is wrong, what an
+        earlier match left is as it was."""
         settings = self.settings
+        for port in [*settings.ports, *[0] * self.players][: self.players]:
+            self.seats.append(self.kept(Seat(settings.listen, port)))
         game = game_at(settings.game)
         self.dealer = self.kept(Dealer(settings.program, settings.game, game, settings.hands, settings.names))
         self.deals = iter(settings.deals) if settings.deals is not None else self.kept(
             Draw(settings.program, game, settings.hands, self.players, settings.seed)
         )
-        for port in [*settings.ports, *[0] * self.players][: self.players]:
-            self.seats.append(self.kept(Seat(settings.listen, port)))
         is_told = settings.is_resumed and settings.transactions is not None and settings.transactions.exists()
         self.transactions = self.file(settings.transactions)
         self.log = self.file(settings.log)
@@ -341,7 +350,7 @@ class Match:
                 self.times.check(seat, received - self.sent[seat])
                 return line[len(begin) :], received
             if line[:1] not in ("#", ";"):
-                self.watcher.warned(seat, f"passed over, since it doesn't answer the newest line: {line}")
+                self.watcher.warned(seat, f"{PASSED_OVER}it doesn't answer the newest line: {line}")
             if self.clock.moment(received) > until:
                 raise Failed(late)
 

@@ -13,6 +13,8 @@ from .faults import InUse, MatchFault
 MEMORY = Path("/dev/shm")
 # The file that says of which match the stores are; it is written once all of them are made.
 MADE = "made"
+# The file that has the match's path, for who looks what is left.
+PATH = "path"
 
 
 def fault(path, why):
@@ -58,6 +60,11 @@ def folder_of(settings):
     """The path of a match's folder, which only the match's own path decides, and the folder of stores, if one is named."""
     word = hashlib.sha256(os.fsencode(os.path.realpath(settings.name))).hexdigest()[:32]
     return (MEMORY / f"holdem_table.{os.getuid()}" if settings.stores is None else settings.stores.resolve()) / word
+
+
+def has_stores(settings):
+    """Whether there are stores with which a match can go on."""
+    return (folder_of(settings) / MADE).exists()
 
 
 class NodeFolder:
@@ -129,6 +136,7 @@ class NodeFolder:
         settings = self.settings
         tokens = [secrets.token_hex(32) for _ in settings.names]
         try:
+            write(self.path / PATH, os.fsencode(os.path.realpath(settings.name)))
             write(self.path / "game", game)
             write(self.path / "key", secrets.token_hex(32).encode())
             for seat, token in enumerate(tokens):

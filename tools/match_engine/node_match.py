@@ -1,25 +1,22 @@
 """A match that nodes keep, each in a process of its own, with a relay between each player and them."""
-import os
-import selectors
-import signal
 import time
 from contextlib import ExitStack
-from typing import Callable, NamedTuple
 
-from .course import Acted, Course, Ended, Place
+from .course import Acted, Course, Ended
 from .faults import Failed, MatchFault, SeatFault
-from .files import File, Transaction, transactions, whole_lines
+from .files import File, Restart, Transaction, transactions, whole_lines
+from .host_nodes import HostNode, HostSlot
 from .match import THOUSAND, Clock, Result, Times, Watcher, game_at, header
 from .node_files import NodeFolder
-from .node_processes import Nodes
+from .node_logs import FarthestLog
+from .node_processes import Node, Nodes
+from .node_seats import NodeSeats
 from .program import Dealer
-from .relays import Relay, look_at_ports
 from .slots import Slot
+from .telling import ORDERED, Telling
 
 # How often logs and processes are looked at where no trace tells anything, and how often nodes that replay, in seconds.
 LOOK, REPLAY_LOOK = 0.02, 0.05
-# Lines are told by their times: so long each is kept back, in microseconds.
-ORDERED = 50_000
 # How long nodes that replay wait for one of them that says nothing, in seconds; the others go on without it.
 HUNG = 30.0
 # Of a look that took longer, in seconds, so much counts.
@@ -32,29 +29,10 @@ GRACE = 60.0
 # A relay drops lines of its trace where this process takes none for long. Once the log has its score, or a relay has ended with
 # the match, nothing more is waited for where nothing has come for so many seconds.
 UNTOLD = 300.0
-
-
-# The place at which each match begins.
-BEGIN = Place(0, 0)
-
-
-class Soon(NamedTuple):
-    """What the watcher is told soon: when it was, at which place of the match, what is called, and with what words."""
-
-    at: int
-    place: Place
-    call: Callable
-    words: tuple
-
-
-def in_order(told, answer):
-    """In the order of their times, but nothing before an answer that brought it about: two relays' clocks may differ by as much as
-    a line takes."""
-    behind, latest = {}, 0
-    for it in sorted(told, key=lambda it: (it.place, it.call == answer)):
-        behind[it] = max(it.at, latest)
-        latest = behind[it] if it.call == answer else latest
-    return sorted(told, key=lambda it: (behind[it], it.place, it.call == answer))
+# How long logs of other hosts are waited for once one of them is whole, in seconds.
+COMING = 3.0
+# How long relays are waited for at the match's end until they have said so to their players, in seconds.
+PARTING = 0.5
 
 
 class LookTime:
@@ -70,35 +48,6 @@ class LookTime:
         self.begun = now
 
 
-class FarthestLog:
-    """The log that is farthest of those that nodes write: each is a beginning of the longest, as far as its lines are whole."""
-
-    def __init__(self, paths):
-        self.paths, self.taken = paths, 0
-
-    def size(self, path):
-        try:
-            return os.stat(path).st_size
-        except OSError:
-            return 0
-
-    def lines(self):
-        """The whole lines that came since, with their ends."""
-        path = max(self.paths, key=self.size)
-        if self.size(path) <= self.taken:
-            return []
-        try:
-            with open(path, "rb") as file:
-                file.seek(self.taken)
-                lines = whole_lines(file.read())
-        except FileNotFoundError:
-            return []
-        except OSError as why:
-            raise MatchFault(f"{path}: {why.strerror}") from why
-        self.taken += len(lines)
-        return lines.decode("latin-1").splitlines(True)
-
-
 class NodeMatch:
     """A match on its way: of the same form as `Match`.
 
@@ -112,15 +61,14 @@ class NodeMatch:
         self.players = len(settings.names)
         self.clock, self.open = Clock(), ExitStack()
         self.times = Times(settings.limits, settings.hands, self.players)
-        self.mended, self.score, self.scored = [0] * self.players, None, None
+        self.mended, self.defaults = ([0] * self.players for _ in range(2))
+        self.score = self.scored = None
         # What the transaction file told when it was opened, how much of that was met again, and so much of the log was there.
         self.told, self.met, self.logged = [], 0, 0
         # Whether the nodes run, and whether nothing of the match is wanted any more.
         self.is_running, self.is_finished = False, False
-        # What is told soon, which relays have ended, when each seat was sent its newest line, and when the match was last seen to go on.
-        self.relays, self.soon, self.gone, self.asked_at, self.news_at = [], [], [], [0.0] * self.players, 0.0
-        self.looked = LookTime()
-        self.selector = self.kept(selectors.DefaultSelector())
+        # When the match was last seen to go on.
+        self.looked, self.news_at, self.seats = LookTime(), 0.0, None
         try:
             self.prepare()
         except BaseException:
@@ -139,33 +87,33 @@ class NodeMatch:
         dealer = Dealer(settings.program, settings.game, self.game, settings.hands, settings.names)
         dealer.close()
         self.course = Course(dealer.game, settings.hands)
-        ports = [*settings.ports, *[0] * self.players][: self.players]
-        look_at_ports(settings.listen, ports)
-        slot = self.kept(Slot(settings.nodes, self.players))
+        self.telling = Telling(self.course, self.watcher)
+        self.seats = self.kept(NodeSeats(settings, self.course, self.watcher, self.looked))
+        slot = self.kept(
+            HostSlot(settings.hosts, settings.first_port, self.players) if settings.hosts else Slot(settings.nodes, self.players)
+        )
         self.transactions, self.log = self.file(settings.transactions), self.file(settings.log)
         self.folder = self.kept(NodeFolder(settings, header(settings).split(" ")[2]))
         self.open.callback(self.leave_folder)
-        self.nodes = self.kept(Nodes(settings.program, self.folder, slot, settings.nodes, self.watcher.troubled))
+        self.nodes = self.kept(Nodes(slot, [self.node(number) for number in range(settings.nodes)], self.watcher.troubled))
         self.farthest = FarthestLog([self.folder.log(node) for node in range(settings.nodes)])
         if self.is_going_on():
             self.go_on(slot)
         else:
             self.begin(slot)
-        self.start_relays(slot, ports)
+
+    def node(self, number):
+        settings = self.settings
+        if settings.hosts:
+            return HostNode(settings.program, self.folder, number, settings.hosts[number], settings.place)
+        return Node(settings.program, self.folder, number)
 
     def file(self, path):
         return None if path is None else self.kept(File(path))
 
-    def start_relays(self, slot, ports):
-        for seat, port in enumerate(ports):
-            relay = self.kept(Relay(self.settings.program, self.folder, slot, seat, self.settings.listen, port))
-            self.relays.append(relay)
-            for pipe in relay.pipes():
-                self.selector.register(pipe, selectors.EVENT_READ)
-
     @property
     def ports(self):
-        return [relay.port for relay in self.relays]
+        return self.seats.ports
 
     # The start
 
@@ -186,6 +134,7 @@ class NodeMatch:
         """Makes the stores of a new match, and begins its files."""
         self.folder.empty()
         self.folder.furnish(self.game, slot)
+        self.seats.start(self.folder, slot)
         self.nodes.initialize()
         for file in (self.transactions, self.log):
             if file is not None and not self.settings.is_resumed:
@@ -196,7 +145,11 @@ class NodeMatch:
     def go_on(self, slot):
         """Has the nodes replay what the stores have, and adds to the files what they lack of it."""
         kept = whole_lines(self.transactions.content())
-        self.told = [told for _, told in transactions(self.transactions.path, kept)]
+        for number, told in transactions(self.transactions.path, kept):
+            if isinstance(told, Restart):
+                self.seats.restarts[told.seat] += 1
+            else:
+                self.told.append((number, told))
         self.folder.furnish(self.game, slot)
         self.await_replay()
         lines = self.take_log()
@@ -209,8 +162,18 @@ class NodeMatch:
         if self.course.is_over():
             self.nodes.close()
             self.is_running = False
-            for seat in range(self.players):
-                self.course.gone(seat)
+            self.let_go()
+        self.seats.start(self.folder, slot)
+
+    def let_go(self):
+        """Awaits nothing more of any relay."""
+        for seat in range(self.players):
+            self.course.gone(seat)
+
+    def let_go_of_the_gone(self):
+        """Awaits nothing more of relays that have ended, since the log has the score."""
+        for seat in self.seats.gone:
+            self.course.gone(seat)
 
     def await_replay(self):
         """Starts the nodes, and waits until they know all that was chosen before: else players got lines of the past."""
@@ -222,8 +185,8 @@ class NodeMatch:
 
     def compare(self, lines, acted):
         """A MatchFault where the files aren't those of the match in the stores; neither was changed yet."""
-        for number, (told, one) in enumerate(zip(self.told, acted)):
-            self.compare_action(number, told, one)
+        for told, one in zip(self.told, acted):
+            self.compare_action(*told, one)
         text = "".join(line + "\n" for line in [header(self.settings), *lines])
         old = b"" if self.log is None else self.log.content()
         if not text.startswith(old.decode("latin-1")):
@@ -232,10 +195,9 @@ class NodeMatch:
 
     def compare_action(self, number, told, acted):
         """A MatchFault where the transaction file has another action than the match."""
-        action = told.action if isinstance(told, Transaction) else told.text()
-        if action != acted.action:
-            where = f"{self.transactions.path}: line {number + 1}"
-            raise MatchFault(f"{where} is of another match: it has {action}, and the stores have {acted.action}")
+        if told.action != acted.action:
+            where = f"{self.transactions.path}: line {number}"
+            raise MatchFault(f"{where} is of another match: it has {told.action}, and the stores have {acted.action}")
 
     # The match
 
@@ -249,10 +211,21 @@ class NodeMatch:
             while not self.is_done():
                 self.look()
         finally:
-            self.tell()
+            self.telling.tell()
+        if self.settings.hosts:
+            self.compare_logs()
+        self.nodes.forget()
         self.watcher.finished(self.clock.now())
         self.is_finished = True
-        return Result(self.score, self.times.used, self.times.worst, self.mended, [0] * self.players, [0] * self.players)
+        return Result(self.score, self.times.used, self.times.worst, self.mended, self.seats.restarts, self.defaults)
+
+    def compare_logs(self):
+        """A MatchFault where two nodes have written different logs, as far as these can be had. Those that come are waited for a
+        moment."""
+        until, coming = time.monotonic() + COMING, [self.folder.log(node.number) for node in self.nodes.all if node.is_heard()]
+        while not self.farthest.are_equal(coming) and time.monotonic() < until:
+            time.sleep(LOOK)
+        self.farthest.compare()
 
     def is_done(self):
         """Whether the log has its score, and each player was sent the last line of the last hand."""
@@ -261,8 +234,13 @@ class NodeMatch:
     def await_players(self):
         limit = self.settings.limits.start
         until = None if limit < 0 else self.looked.seconds + limit / THOUSAND
+        if self.settings.may_return:
+            self.seats.await_all(until)
+            while self.seats.awaited:
+                self.look()
+            return
         while True:
-            awaited = [relay for relay in self.relays if not relay.has_version()]
+            awaited = [relay for relay in self.seats.relays if not relay.has_version()]
             if not awaited:
                 return
             if until is not None and self.looked.seconds >= until:
@@ -274,57 +252,62 @@ class NodeMatch:
         """Starts the nodes of a new match. The relay of who is to act first is stopped until each other player was sent the first
         line: a relay begins with the newest line, and so a player could miss those before it reached a node."""
         first = self.course.first_seat()
-        for relay in self.relays:
-            if relay.seat == first:
-                relay.process.send_signal(signal.SIGSTOP)
+        if first is not None:
+            self.seats.relays[first].hold(True)
         self.is_running = True
         while not all(told.place for seat, told in enumerate(self.course.seats) if seat != first):
             self.look()
-        for relay in self.relays:
-            if relay.seat == first:
-                relay.process.send_signal(signal.SIGCONT)
+        if first is not None:
+            self.seats.relays[first].hold(False)
 
     def look(self):
         """Goes on by what traces, logs and processes tell, and looks whether a player has failed."""
         self.advance()
         self.judge()
-        self.tell(self.clock.now() - ORDERED)
+        self.telling.tell(self.clock.now() - ORDERED)
 
     def advance(self):
         """Waits a moment for traces, takes what happened as far as they and the logs tell, and starts nodes again that have ended."""
         self.looked.begin_look()
-        self.selector.select(LOOK)
-        for relay in self.relays:
+        self.seats.wait(LOOK)
+        for relay in self.seats.relays:
             self.take_trace(relay)
         if self.take_log():
             self.news_at = self.looked.seconds
-        for one in iter(self.next, None):
-            self.take(one)
+        for place, one in iter(self.next, (None, None)):
+            self.take(one, place)
         if self.is_running:
             self.nodes.tend()
 
     def next(self):
-        """What happened next, if that is known. What the transaction file told needs no trace."""
-        return self.course.next(is_known=self.met < len(self.told))
+        """What happened next and where, if that is known. What the transaction file told needs no trace."""
+        place = self.course.place()
+        happened = self.course.next(is_known=self.met < len(self.told))
+        return (None, None) if happened is None else (place, happened)
 
     def take_trace(self, relay):
         """Takes what a relay tells."""
         for at, way, line in relay.read():
             if way == "TO":
-                self.asked_at[relay.seat] = self.news_at = self.looked.seconds
-                self.course.sent(relay.seat, at, line)
-                self.tell_soon(relay.seat, at, self.watcher.sent, at, line)
-            else:
-                self.tell_soon(relay.seat, at, self.watcher.received, at, line)
+                self.take_sent(relay.seat, at, line)
+            elif self.seats.is_played(relay.seat):
+                self.telling.later(relay.seat, at, self.watcher.received, at, line)
                 warning = self.course.received(relay.seat, at, line)
                 if warning is not None:
-                    self.tell_soon(relay.seat, at, self.watcher.warned, warning)
-        if relay.status is not None and relay.seat not in self.gone:
-            self.gone.append(relay.seat)
+                    self.telling.later(relay.seat, at, self.watcher.warned, warning)
+        if relay.status is not None and self.seats.take_end(relay.seat):
             self.news_at = self.looked.seconds
-            self.course.gone(relay.seat)
-            for pipe in relay.pipes():
-                self.selector.unregister(pipe)
+            if not self.settings.may_return or relay.is_over() or self.scored is not None:
+                self.course.gone(relay.seat)
+
+    def take_sent(self, seat, at, line):
+        """Takes a line that a seat was sent. A stand-in answers it where the player did so already."""
+        self.seats.asked_at[seat] = self.news_at = self.looked.seconds
+        self.course.sent(seat, at, line)
+        if self.seats.is_played(seat):
+            self.telling.later(seat, at, self.watcher.sent, at, line)
+        elif self.course.answered(seat) is not None:
+            self.seats.answer_again(seat, line, self.course.answered(seat).said)
 
     def take_log(self):
         """Takes what the farthest log has new; its lines without their ends."""
@@ -336,33 +319,55 @@ class NodeMatch:
                 self.scored = line
         return [line for line in lines if not line.startswith("#")]
 
-    def take(self, happened):
+    def take(self, happened, place=None):
         """Takes an action, or the end of a hand, into figures and files."""
         if isinstance(happened, Ended):
             self.end_hand(happened.line)
         elif self.met < len(self.told):
-            told = self.told[self.met]
-            self.compare_action(self.met, told, happened)
-            self.times.add(happened.seat, told.received - told.sent)
+            number, told = self.told[self.met]
+            self.compare_action(number, told, happened)
+            self.count(happened.seat, told)
             self.met += 1
         else:
-            self.note(happened)
+            self.note(happened, place)
 
-    def note(self, acted):
+    def count(self, seat, told):
+        """Adds an action to the seat's figures."""
+        self.times.add(seat, told.received - told.sent)
+        if told.mark == "mended":
+            self.mended[seat] += 1
+        if told.mark == "default":
+            self.defaults[seat] += 1
+            self.seats.absent.add(seat)
+
+    def note(self, acted, place):
         """Writes an action. Of one that no trace told, since this process wasn't there, the time is when it was learned of."""
         sent = received = self.clock.now()
+        mark = "default" if acted.said is None and acted.seat in self.seats.absent else None
         if acted.said is not None:
             sent, received = acted.sent, acted.received
-            self.attempt(acted.seat, self.times.check, acted.seat, received - sent)
+            self.check(acted.seat, received - sent)
             if acted.said != acted.action:
-                self.mended[acted.seat] += 1
+                mark = "mended"
                 text = f"the action {acted.said!r} is changed to {acted.action}"
-                self.tell_soon(acted.seat, received, self.watcher.warned, text)
-        self.times.add(acted.seat, received - sent)
+                self.telling.later(acted.seat, received, self.watcher.warned, text, place=place)
+        told = Transaction(acted.action, sent, received, mark)
+        self.count(acted.seat, told)
         if self.transactions is not None:
-            self.transactions.append(Transaction(acted.action, sent, received).text() + "\n")
+            kept = told if self.settings.may_return else told._replace(mark=None)
+            self.transactions.append(kept.text() + "\n")
             if self.settings.sync_actions:
                 self.transactions.sync()
+
+    def check(self, seat, time):
+        """Has a player fail whose response took longer than a limit. Of one who may return the action stands: it is chosen."""
+        try:
+            self.times.check(seat, time)
+        except Failed as why:
+            if not self.settings.may_return:
+                raise SeatFault(seat, str(why)) from why
+            if self.seats.is_played(seat) and not self.course.is_over():
+                self.seats.lose(seat, str(why))
 
     def end_hand(self, line):
         """Writes a hand's line, once its actions are down on the disk."""
@@ -382,21 +387,27 @@ class NodeMatch:
             self.watcher.logged(line)
 
     def judge(self):
-        """Adds the score behind the last hand. A SeatFault where a player is late, or has left."""
+        """Adds the score behind the last hand. Looks after players who are late, or have left: who may not return ends the match."""
         if self.course.is_over() and self.score is None and self.scored is not None:
             self.publish(self.scored)
             self.score = self.scored
         if self.scored is not None and self.is_silent_for(UNTOLD):
-            for seat in range(self.players):
-                self.course.gone(seat)
+            self.let_go()
         if self.is_done():
             return
+        late = self.settings.limits.response / THOUSAND + TRACED
+        if self.settings.may_return:
+            if self.scored is None:
+                self.seats.tend(late)
+            else:
+                self.let_go_of_the_gone()
+            return
         for seat, _ in self.course.unanswered():
-            if self.looked.seconds > self.asked_at[seat] + self.settings.limits.response / THOUSAND + TRACED:
+            if self.looked.seconds > self.seats.asked_at[seat] + late:
                 self.end_by(seat, self.fail_late)
-        for seat in self.gone:
+        for seat in self.seats.gone:
             if self.is_lost(seat):
-                self.end_by(seat, self.relays[seat].fail)
+                self.end_by(seat, self.seats.relays[seat].fail)
 
     def is_silent_for(self, seconds):
         """Whether nothing has come of the match for so long."""
@@ -404,7 +415,7 @@ class NodeMatch:
 
     def is_lost(self, seat):
         """Whether the match can't go on without a seat whose relay has ended."""
-        if self.relays[seat].is_over():
+        if self.seats.relays[seat].is_over():
             # All that the player was to be told he was told: other traces, and the logs, may come to the end later.
             return self.is_silent_for(UNTOLD)
         is_another_asked = any(True for _ in self.course.unanswered())
@@ -413,7 +424,7 @@ class NodeMatch:
     def may_be_done(self, seat):
         """Whether a player who has left may have done all that he had to: he left in the last hand, and nothing shows that the
         match waits for him; or that isn't known, since his trace lacks lines."""
-        relay = self.relays[seat]
+        relay = self.seats.relays[seat]
         is_last = self.course.newest().hand >= self.settings.hands - 1
         return relay.has_left() and (relay.has_gaps() or (is_last and not self.course.is_held_up_by(seat)))
 
@@ -425,29 +436,10 @@ class NodeMatch:
         begun = self.looked.seconds
         while self.course.hand < self.course.newest().hand and self.looked.seconds < max(begun, self.news_at) + GRACE:
             self.advance()
-        self.attempt(seat, fail)
-
-    def attempt(self, seat, call, *words):
-        """A call that may fail by the seat's player."""
         try:
-            call(*words)
+            fail()
         except Failed as why:
             raise SeatFault(seat, str(why)) from why
-
-    def tell_soon(self, seat, at, call, *words):
-        """Has the watcher be told something of a seat: at the place to which its trace has come."""
-        self.soon.append(Soon(at, self.course.seats[seat].place or BEGIN, call, (seat, *words)))
-
-    def tell(self, until=None):
-        """Tells the watcher what is due by its time; all of it where there is no moment. A line of a place to which the match, as
-        far as it is known, hasn't come yet is kept back, and so is what stands behind an answer that isn't due."""
-        is_due = [until is None or (it.at <= until and it.place <= self.course.place()) for it in self.soon]
-        awaited = [it.place for it, due in zip(self.soon, is_due) if not due and it.call == self.watcher.received]
-        is_due = [due and not any(place < it.place for place in awaited) for it, due in zip(self.soon, is_due)]
-        due = [it for it, is_told in zip(self.soon, is_due) if is_told]
-        self.soon = [it for it, is_told in zip(self.soon, is_due) if not is_told]
-        for it in in_order(due, self.watcher.received):
-            it.call(*it.words)
 
     # The end
 
@@ -459,8 +451,18 @@ class NodeMatch:
         else:
             self.watcher.troubled(f"the stores are kept in {self.folder.path}")
 
+    def take_leave(self):
+        """Waits a moment until the relays have said to their players that nothing more comes. Ports stay held."""
+        until = time.monotonic() + PARTING
+        while len(self.seats.gone) < self.players and time.monotonic() < until:
+            self.seats.wait(LOOK)
+            for relay in self.seats.relays:
+                self.take_trace(relay)
+
     def close(self):
         """Ends all that belongs to it: first the relays, and with them the players' connections."""
+        if self.seats is not None:
+            self.seats.end_relays()
         self.open.close()
 
     def __enter__(self):

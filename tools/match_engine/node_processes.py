@@ -26,7 +26,7 @@ def start(program, words, folder, **streams):
             [program, *map(str, words)], cwd=folder, stdin=subprocess.DEVNULL, preexec_fn=lambda: end_with(parent), **streams
         )
     except OSError as why:
-        raise MatchFault(f"the program {program} can't be started: {why.strerror}; tools/build makes it") from why
+        raise MatchFault(f"the program {program} can't be started: {why.strerror}") from why
 
 
 def last_line(text):
@@ -109,6 +109,18 @@ class Node:
         said = f": {self.note()}" if status > 0 else ""
         return f"node {self.number} {ending(status)}, and {goes_on}{said}"
 
+    def is_heard(self):
+        """Whether more may come of its log."""
+        return self.process is not None
+
+    def forget(self):
+        """Its store isn't wanted any more. Here the folder is removed with all of them."""
+
+    def let_go(self):
+        """Has its process end."""
+        if self.process is not None:
+            self.process.kill()
+
     def close(self):
         if self.process is not None:
             kill(self.process)
@@ -118,9 +130,8 @@ class Node:
 class Nodes:
     """All nodes of a match. `warn` is told when one ends."""
 
-    def __init__(self, program, folder, slot, count, warn):
-        self.slot, self.warn = slot, warn
-        self.all = [Node(program, folder, number) for number in range(count)]
+    def __init__(self, slot, nodes, warn):
+        self.slot, self.all, self.warn = slot, nodes, warn
 
     def initialize(self):
         """Makes the stores, that of node 0 first."""
@@ -162,7 +173,11 @@ class Nodes:
 
     def close(self):
         for node in self.all:
-            if node.process is not None:
-                node.process.kill()
+            node.let_go()
         for node in self.all:
             node.close()
+
+    def forget(self):
+        """Has the stores removed, since the match is over."""
+        for node in self.all:
+            node.forget()

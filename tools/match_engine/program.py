@@ -11,7 +11,6 @@ from pathlib import Path
 from .faults import MatchFault
 
 TOP = Path(__file__).resolve().parent.parent.parent
-PROGRAM = TOP / "crates/holdem_table/out/holdem_table"
 sys.path.insert(0, str(TOP / "examples/bots"))
 
 from table import Betting, Game
@@ -77,7 +76,7 @@ class Child:
                 pass_fds=descriptors, preexec_fn=lambda: end_with(parent),
             )
         except OSError as why:
-            raise MatchFault(f"the program {program} can't be started: {why.strerror}; tools/build makes it") from why
+            raise MatchFault(f"the program {program} can't be started: {why.strerror}") from why
         self.words = words
 
     def say(self, *lines):

@@ -1,14 +1,13 @@
 """The relay of a seat: a process between its player, who dials once, and the nodes."""
-import errno
 import os
 import re
+import signal
 import subprocess
-from contextlib import ExitStack
 
 from .faults import Failed, MatchFault
 from .node_processes import ending, last_line, start
 from .program import kill
-from .seats import SHOWN, VERSION, bound, no_port, printable
+from .seats import SHOWN, VERSION, no_port, printable
 
 # A relay waits for nodes as long as it can, eleven days: it is for the dealer to say when there is nothing to wait for.
 GIVE_UP = 1_000_000
@@ -22,15 +21,6 @@ GAPS = b"left out of the trace"
 NOTES = 4096
 
 
-def look_at_ports(listen, ports):
-    """A MatchFault where one of these ports can't be had. Nobody can come to one meanwhile: his connection would end with the look."""
-    with ExitStack() as held:
-        for place, port in enumerate(ports):
-            if port and port in ports[:place]:
-                raise no_port(listen, port, os.strerror(errno.EADDRINUSE))
-            held.enter_context(bound(listen, port))
-
-
 class Relay:
     """A relay. `port` is where the player is awaited; `version` is his first line, once it came."""
 
@@ -38,15 +28,30 @@ class Relay:
         host = f"[{listen}]" if ":" in listen else listen
         words = ["relay", "--newest", "--port", port, "--listen", host, "--mend", "game", "--trace", "-", "--token-file", f"token{seat}"]
         words += ["--give-up", GIVE_UP, *(slot.seat(node, seat) for node in range(slot.nodes))]
-        self.process = start(program, words, folder.path, stdout=subprocess.PIPE, stderr=subprocess.PIPE)
         self.seat, self.version, self.status = seat, None, None
+        self.process = self.begin(program, folder, [str(word) for word in words])
         self.traced, self.said, self.has_come = b"", b"", False
         self.port = self.first_line(listen, port)
         for pipe in self.pipes():
             os.set_blocking(pipe.fileno(), False)
 
+    def begin(self, program, folder, words):
+        return start(program, words, folder.path, **self.streams())
+
+    @staticmethod
+    def streams():
+        return {"stdout": subprocess.PIPE, "stderr": subprocess.PIPE}
+
     def pipes(self):
         return self.process.stdout, self.process.stderr
+
+    def hold(self, is_held):
+        """Has it stand still, or go on."""
+        self.process.send_signal(signal.SIGSTOP if is_held else signal.SIGCONT)
+
+    def no_port(self, listen, port, said):
+        """The MatchFault of a relay that has ended before it told its port."""
+        return no_port(listen, port, said)
 
     def first_line(self, listen, port):
         """The number of its port."""
@@ -54,9 +59,9 @@ class Relay:
         while not line.endswith(b"\n"):
             piece = os.read(self.process.stdout.fileno(), 1)
             if not piece:
-                said = last_line(self.process.stderr.read())
+                fault = self.no_port(listen, port, last_line(self.process.stderr.read()))
                 self.close()
-                raise no_port(listen, port, said)
+                raise fault
             line += piece
         return int(line)
 

@@ -5,7 +5,8 @@ import time
 
 from .faults import Failed, MatchFault
 
-VERSION = re.compile(r"VERSION:2\.0\.[0-9]{1,9}")
+# (blanks may stand behind it: the original reads three numbers, and no further)
+VERSION = re.compile(r"VERSION:2\.0\.[0-9]{1,9} *")
 # The most bytes of a player's line before its LF, and how many of a longer one are kept to be shown.
 LINE, SHOWN = 4096, 100
 # How long a line may take to be taken, and how often it is asked whether a player is coming, in seconds.
