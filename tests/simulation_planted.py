@@ -1,14 +1,21 @@
 """Wrong servers that tests/simulation --planted is to find: what is wrong, the edit of one file that makes it (path below crates/, old
 and new text), and the rules that are to find it. They aren't proved, so they can't be built: `rt try` runs each, over a copy of the
 sources."""
+import itertools
+import multiprocessing
 import shutil
 import subprocess
 import sys
 import tempfile
 from pathlib import Path
 
+from simulation_rules import Checker
+from simulation_runs import kept_scripts, watched
 from simulation_scripts import drawn
-from simulation_trace import TOP
+from simulation_trace import TOP, Wrong
+
+# Where wrong servers are tried and there are no programs of them; and by so many seeds.
+TRIED, PLANTED_SEEDS = "by rt try", 200
 
 # Hands of a match by which a wrong server is tried: `rt try` gives no answer of more than 1 MiB.
 HANDS = 5
@@ -58,7 +65,7 @@ def tried(number, seeds, is_calm):
     """Runs the server of a number by small scripts of seeds, of 0 the right one: each script and its trace, as far as there is one."""
     with tempfile.TemporaryDirectory(prefix="planted-") as folder:
         copy = Path(folder)
-        shutil.copytree(TOP / "crates", copy / "crates", ignore=shutil.ignore_patterns("out", "must-fail"))
+        shutil.copytree(TOP / "crates", copy / "crates", ignore=shutil.ignore_patterns("out", "must-fail", "mutants"))
         for name in ("crates.txt", "HANDLES"):
             shutil.copy(TOP / name, copy)
         if number:
@@ -87,3 +94,35 @@ def tried(number, seeds, is_calm):
         lines = traces.get(name, ())
         if len(lines) > 1:
             yield int(name), script, "\n".join(lines[1:]) + "\n"
+
+
+def first_found(job):
+    """What the first script finds of a wrong server, and which that is: of a seed, or behind them one that is kept. `rt try` runs them
+    where there is no program."""
+    program, number, seeds, is_calm = job
+    if program:
+        kept = ((name, script, None) for name, script in kept_scripts())
+        runs = itertools.chain(((f"seed {seed}", drawn(seed, is_calm), None) for seed in seeds), kept)
+    else:
+        runs = ((f"seed {seed}", script, text) for seed, script, text in tried(number, seeds, is_calm))
+    for name, script, text in runs:
+        try:
+            Checker(script, *(watched(program, script) if text is None else (text,))).run()
+        except Wrong as wrong:
+            return wrong.rule, wrong.words, name
+    return None, None, None
+
+
+def planted(options):
+    """The first script by which each wrong server is found, which is to be by a rule that was named; the right one passes them all."""
+    passed = failed = 0
+    folder, first = Path(options.planted).resolve() if options.planted != TRIED else None, options.first or 1
+    seeds = range(first, first + (options.count or (PLANTED_SEEDS if folder is None else 1_000)))
+    jobs = [(folder and str(folder / str(number)), number, seeds, options.calm) for number in range(0 if folder is None else 1, len(PLANTED) + 1) if folder or number not in BY_PROGRAMS]
+    with multiprocessing.Pool(options.jobs) as pool:
+        for (_, number, _, _), (rule, said, script) in zip(jobs, pool.imap(first_found, jobs)):
+            name, rules = (PLANTED[number - 1][0], PLANTED[number - 1][4]) if number else ("the server as it is", {None})
+            found = "not found" if rule is None else f"found by {rule}, {script}: {said[:150]}"
+            print(f"{number}. {name}: {found}", flush=True)
+            passed, failed = (passed + 1, failed) if rule in rules else (passed, failed + 1)
+    return passed, failed

@@ -86,6 +86,14 @@ def split(part):
     return found
 
 
+class Backwards(Exception):
+    """A record of a ballot below one that was promised before."""
+
+
+# What reading a journal comes to that is no store.
+NO_STORE = (ValueError, IndexError, KeyError, Backwards)
+
+
 class Store:
     """What a journal means, read record by record; more is read where bytes grow behind the last gate."""
 
@@ -107,7 +115,9 @@ class Store:
                 raise ValueError("a record that ends behind the file")
             self.at += 3 + size
             ballot = ballot_of(payload[1:6])
-            self.promised = max(self.promised, ballot)
+            if ballot < self.promised:
+                raise Backwards(f"a record of ballot {ballot} behind the promise of {self.promised}")
+            self.promised = ballot
             if payload[0] == 4:
                 slot, commands = number(payload[6:10]), split(payload[11:])
                 if len(commands) != payload[10]:
@@ -164,14 +174,19 @@ class Disk:
         return bytes(file)
 
     def backs(self, does):
-        """Whether each image backs something: all that wasn't synced lost, and each write alone kept."""
+        """Whether each image backs something: all that wasn't synced lost, and each write alone kept, which is read where it opens the gate."""
         if not does(self.store):
             return False
         for _, at, data in self.unsynced:
+            if not at <= self.store.at < at + len(data):
+                continue
             file = bytearray(self.synced)
             put(file, at, data)
             store = self.store.copy()
-            store.read(file)
+            try:
+                store.read(file)
+            except NO_STORE:
+                return False
             if not does(store):
                 return False
         return True
@@ -189,40 +204,3 @@ class Records:
             size = number(self.data[:4])
             yield self.data[4], self.data[5 : 4 + size]
             self.data = self.data[4 + size :]
-
-
-class Dealt:
-    """The sequential dealer's lines and log after each beginning of a list of commands."""
-
-    def __init__(self, game, names, hands, header):
-        self.table = nodes.Table(game, hands)
-        self.names, self.lines, self.count = names, [{} for _ in names], 0
-        self.log, self.ends = header + "\n", [len(header) + 1]
-        self.acts, self.last = [], [None for _ in names]
-        # After each beginning of the list: how many hands were dealt, and how many are finished.
-        self.hands = [(0, 0)]
-        # The place of each line among those of its seat.
-        self.order = [{} for _ in names]
-
-    def take(self, command):
-        """One command more, which does nothing where it doesn't fit."""
-        self.count += 1
-        table = self.table
-        if table.fits(command):
-            turn = None if command[0] == 1 else (table.hand.turn + table.hand.number) % len(self.names)
-            self.acts.append((self.count, command, turn))
-            table.apply(command)
-            if table.hand.over:
-                self.log += "".join(line + "\n" for line in table.log(self.names))
-        self.ends.append(len(self.log))
-        self.hands.append((0 if table.hand is None else table.hand.number + 1, table.finished))
-        if table.hand is not None:
-            for seat in range(len(self.names)):
-                line = table.line(seat)
-                if line != self.last[seat]:
-                    self.lines[seat].setdefault(line, []).append(self.count)
-                    self.last[seat] = line
-                    self.order[seat].setdefault(line, len(self.order[seat]))
-
-    def is_over(self):
-        return self.table.finished == self.table.hands

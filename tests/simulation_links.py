@@ -1,0 +1,317 @@
+"""The rules of tests/simulation on what nodes say to each other: connections, records, frames, campaigns and status lines."""
+import re
+
+from simulation_codes import Direction, proof
+from simulation_covered import RECORDS
+from simulation_list import AWAY
+from simulation_trace import KINDS, Records, Wrong, ballot_of, bytes_of, number, split
+
+# What a beat begins with where there is no key, in hexadecimal, and how long it is; the places of the front and of the flags in it, and which
+# flag says that the match is over.
+BEAT, BEAT_SIZE, FRONT, FLAGS, OVER = "0000001003", 40, slice(26, 34), slice(34, 36), 2
+
+HELLO, PROOF, FRAME, BEATS, LIVES = 0, 1, 2, 3, 4
+
+# The key that nodes of simulated matches share (crates/simulator/src/place.rt).
+KEY = bytes([5]) * 32
+
+# Campaigns of one process in vain: behind so many the next waits so long at least (docs/NODES.md), whatever it is for: the
+# shortest wait, a fifth of a second, is doubled up to two seconds.
+SHORTEST, MOST_WAIT = 200_000, 2_000_000
+
+# What a status line says (docs/NOTES.md).
+YES, BALLOT = "(yes|no)", r"(-|\d+\.\d+)"
+STATUS = re.compile(rf"node (\d) front (\d+) hand (-|\d+) over {YES} replaying {YES} promised {BALLOT} leads {YES} quorum {YES} peers (\S+) seats (\S+) pending {YES} backlog (\S+) commands (\d+)/s\n")
+
+# For a bot 64 KiB wait at most, and one line of 4,096 bytes with its end (docs/OPERATING-NODES.md, `backlog`).
+LINE = 4_096
+MOST_WAITING = 65_536 + LINE + 2
+
+
+class Connection:
+    """A connection, and who has its ends: nodes by their numbers, bots as b0, b1, .."""
+
+    def __init__(self, dialler, listener, seat=None):
+        self.dialler, self.listener, self.seat = dialler, listener, seat
+        # Of each end that is a node's the process that has it.
+        self.processes = {}
+        # What each side says: its records, its Hello, and with a key how its further records are opened.
+        self.records, self.hellos, self.directions = {}, {}, {}
+        # What its bot said and no node read yet, and what was read of it and is no whole line yet.
+        self.unread, self.partial = bytearray(), b""
+        # What was told to its bot and is no whole line yet, and behind how many commands it got the last one.
+        self.told, self.said, self.at = b"", b"", 0
+        # From which line on its bot asked to be told, if it did, and when; and the place of the last line that it was told. How many
+        # commands its node had when it took the bot in.
+        self.asked, self.asked_at, self.place, self.known = None, 0, None, 0
+
+    def other(self, who):
+        return self.listener if str(self.dialler) == who else int(self.dialler)
+
+    def records_of(self, who):
+        records = self.records.get(who)
+        if records is None:
+            records = self.records[who] = Records()
+        return records
+
+    def greet(self, who, body):
+        """A side says its Hello. Behind both there is a key for each direction, where the nodes have one."""
+        self.hellos[who] = body
+        other = str(self.other(who))
+        if other in self.hellos:
+            hellos = self.hellos[str(self.dialler)] + self.hellos[str(self.listener)]
+            for role, side in enumerate((str(self.dialler), str(self.listener))):
+                self.directions[side] = Direction(KEY, role, hellos)
+            self.proofs = {side: proof(KEY, role, hellos) for role, side in enumerate((str(self.dialler), str(self.listener)))}
+
+
+class Links:
+    """The rules on connections between nodes."""
+
+    def on_dial(self, row):
+        connection, *rest = map(int, row[3:])
+        while len(self.connections) <= connection:
+            self.connections.append(None)
+        if row[1].startswith("b"):
+            self.connections[connection] = Connection(row[1], rest[0], rest[1])
+        else:
+            made = self.connections[connection] = Connection(row[1], rest[0])
+            made.processes[row[1]] = self.processes[int(row[1])]
+
+    def connection(self, row):
+        at = int(row[3])
+        return self.connections[at] if at < len(self.connections) else None
+
+    def own(self, row, connection):
+        """The process that speaks over a connection, which is the one that dialled or took it."""
+        process = self.processes.get(int(row[1]))
+        if process is None or connection.processes.get(row[1]) is not process:
+            raise Wrong("old", row[0], f"node {row[1]} speaks over connection {row[3]}, which its process doesn't have")
+        return process
+
+    def say_to_node(self, row, connection, data):
+        process = self.own(row, connection)
+        for kind, body in connection.records_of(row[1]).read(data):
+            self.record(row, connection, process, kind, body)
+
+    def record(self, row, connection, process, kind, body):
+        moment, node = row[0], int(row[1])
+        self.count_one(f"record {RECORDS[kind]}")
+        if kind == HELLO:
+            connection.greet(row[1], body)
+            self.hello(moment, node, body)
+            return
+        if kind == FRAME:
+            process.spoken.setdefault(connection.other(row[1]), moment)
+        if self.has_key:
+            body = self.opened(row, connection, kind, body)
+        if kind == FRAME:
+            self.frame(moment, node, process, body)
+        elif kind == BEATS:
+            self.beats += 1
+            self.beat(moment, node, process, number(body[8:12]), body[12])
+        elif kind == LIVES:
+            self.lives(moment, node, body)
+
+    def opened(self, row, connection, kind, content):
+        """What a record says where the nodes have a key."""
+        direction = connection.directions.get(row[1])
+        if direction is None:
+            raise Wrong("tag", row[0], f"node {row[1]} says a record of kind {kind} before both Hellos")
+        body = direction.opened(kind, content) if kind != PROOF else content
+        if body is None or kind == PROOF and content != connection.proofs[row[1]]:
+            raise Wrong("tag", row[0], f"node {row[1]} says a record of kind {kind} with a wrong tag")
+        return body
+
+    def is_beat(self, row):
+        """Whether what is written is a beat and nothing else, between two nodes without a key; it is judged then."""
+        at = int(row[3])
+        connection = self.connections[at] if at < len(self.connections) else None
+        if connection is None or connection.seat is not None:
+            return False
+        who, words = row[1], row[4]
+        records = connection.records.get(who)
+        if records is not None and records.data:
+            return False
+        process = self.processes.get(int(who))
+        if process is None or connection.processes.get(who) is not process:
+            self.own(row, connection)
+        self.beats += 1
+        # The next beat says what the one before it did, but for its number, and nothing came into the list.
+        said = words[FRONT.start :]
+        if said != process.beat:
+            self.beat(row[0], int(who), process, int(words[FRONT], 16), int(words[FLAGS], 16))
+            process.beat = said
+        return True
+
+    def beat(self, moment, node, process, front, flags):
+        """A beat says a front that the list has, not below an earlier one of the process, and the match's end where it has come. Behind a
+        failed call of its disk a process tells nothing of its node any more."""
+        if process.is_failed:
+            return
+        if front > self.front or front < process.beat_front or flags & OVER and not self.dealt.is_over():
+            raise Wrong("beat", moment, f"node {node} tells front {front} and flags {flags} behind {process.beat_front}, of {self.front} commands")
+        process.beat_front = front
+        self.fronts[node].add(front)
+        if front > process.known:
+            process.known = front
+
+    def lives(self, moment, node, body):
+        """A life that is told is that of the store: no store is replaced here."""
+        told = [body[at : at + 16] for at in range(0, len(body), 16)]
+        if len(told) != self.count or any(life not in (bytes(16), bytes([place + 1]) * 16) for place, life in enumerate(told)):
+            raise Wrong("lives", moment, f"node {node} tells lives that no store has: {body.hex()}")
+
+    def hello(self, moment, node, body):
+        """What a Hello says that was promised is so in each image."""
+        ballot = ballot_of(body[72:77])
+        if not self.processes[node].disk.backs(lambda store: store.promised >= ballot):
+            raise Wrong("backed", moment, f"node {node} says that it promised {ballot}, which its disk may not keep")
+
+    # Frames: what one says of its node's store stands in each image of its disk.
+
+    def frame(self, moment, node, process, body):
+        kind = KINDS[body[5]]
+        self.count_one("frame " + kind)
+        getattr(self, "say_" + kind.lower())(moment, node, process, body[6:])
+
+    def promised(self, moment, node, process, ballot):
+        if not process.disk.backs(lambda store: store.promised >= ballot):
+            raise Wrong("backed", moment, f"node {node} says that it promised {ballot}, which its disk may not keep")
+
+    def say_ask(self, moment, node, process, part):
+        self.count_one("due ask")
+        self.know(moment, node, process, number(part))
+
+    def know(self, moment, node, process, front):
+        """A process says that it has so many commands."""
+        if front > self.front:
+            raise Wrong("front", moment, f"node {node} says that it has {front} commands, of {self.front}")
+        process.known = max(process.known, front)
+
+    def say_prepare(self, moment, node, process, part):
+        ballot, front = ballot_of(part), number(part[5:9])
+        if ballot[1] != node:
+            raise Wrong("own", moment, f"node {node} prepares {ballot}")
+        self.promised(moment, node, process, ballot)
+        self.know(moment, node, process, front)
+        if ballot in process.begun:
+            self.campaign(moment, node, process, ballot, front)
+
+    def say_promise(self, moment, node, process, part):
+        ballot = ballot_of(part)
+        self.promised(moment, node, process, ballot)
+        self.promises.setdefault(ballot, {ballot[1]}).add(node)
+        rest = part[10:]
+        for _ in range(part[9]):
+            size = {1: 6 + rest[14] if rest[9] == 1 else 0, 2: 12, 3: 7}[rest[9]]
+            slot, earlier, command = number(rest[:4]), ballot_of(rest[4:9]), rest[9 : 9 + size]
+            rest = rest[9 + size :]
+            kept = process.disk.store.entries.get(slot)
+            if kept is None or kept[0] < earlier or kept[0] == earlier and kept[1] != command:
+                raise Wrong("backed", moment, f"node {node} tells a vote at slot {slot} that its disk doesn't have")
+
+    def say_refuse(self, moment, node, process, part):
+        self.promised(moment, node, process, ballot_of(part[9:]))
+
+    def say_accept(self, moment, node, process, part):
+        """Who proposes has voted for it himself, in a ballot of his own, which more than half of all promised."""
+        ballot = ballot_of(part)
+        if ballot[1] != node:
+            raise Wrong("own", moment, f"node {node} proposes in {ballot}")
+        if 2 * len(self.promises.get(ballot, ())) <= self.count:
+            raise Wrong("quorum", moment, f"node {node} proposes in {ballot}, which {sorted(self.promises.get(ballot, ()))} promised")
+        self.accepted(moment, node, ballot, number(part[5:9]), part[10:])
+
+    def say_accepted(self, moment, node, process, part):
+        self.accepted(moment, node, ballot_of(part), number(part[5:9]), part[10:])
+
+    def accepted(self, moment, node, ballot, slot, commands):
+        for place, command in enumerate(split(commands)):
+            vote = self.votes.get((slot + place, ballot), {}).get(node)
+            if vote is None:
+                raise Wrong("backed", moment, f"node {node} says that it accepted slot {slot + place} in {ballot}, which isn't synced")
+            if vote != command:
+                raise Wrong("backed", moment, f"node {node} says that it accepted another command at {slot + place}")
+
+    def say_chosen(self, moment, node, process, part):
+        slot = number(part[:4])
+        if self.chosen.get(slot) != part[4:]:
+            raise Wrong("chosen", moment, f"node {node} says that a command was chosen at {slot} that wasn't")
+        self.know(moment, node, process, slot + 1)
+
+    def say_forward(self, moment, node, process, part):
+        if part[0] == AWAY:
+            self.show_default(moment, node, part)
+
+    def campaign(self, moment, node, process, ballot, front):
+        """A process campaigns, and says from which slot on: its front. While that stands, it votes in none of its ballots and promised
+        itself to nobody else, the waits between its campaigns are doubled. It begins no ballot before it has said the one before."""
+        begun = process.begun.pop(ballot)
+        if any(later > ballot for later in process.begun):
+            raise Wrong("twice", moment, f"node {node} says that it began {ballot} behind the next one: {sorted(process.begun)}")
+        if begun < process.last:
+            return
+        if front != process.front:
+            process.ballots = 0
+        if process.ballots:
+            self.count_one("due campaign again")
+        least = min(SHORTEST << process.ballots, MOST_WAIT) - self.longest if process.ballots > 1 else 0
+        if begun - process.last < least:
+            raise Wrong("ballots", moment, f"node {node} campaigns {begun - process.last} after its last one, behind {process.ballots} in vain")
+        process.front, process.last = front, begun
+        process.ballots += 1
+
+    # Status lines: what a node's store, the list and the match make it say.
+
+    def status(self, moment, node, line):
+        self.count_one("told a status")
+        found = STATUS.fullmatch(line)
+        if found is None:
+            raise Wrong("status", moment, f"node {node} tells as its status {line!r}")
+        process = self.processes[node]
+        backlog = [int(count) for count in found[12].split(",")]
+        if max(backlog) >= MOST_WAITING - LINE - 2:
+            self.count_one("all that waits for a bot")
+        if max(backlog) > MOST_WAITING:
+            raise Wrong("queue", moment, f"node {node} has {max(backlog)} bytes that wait for a bot")
+        wrong = [*self.wrong_node(node, process, found), *self.wrong_peers(node, found), *self.wrong_seats(process, found)]
+        if wrong:
+            raise Wrong("status", moment, f"node {node}, {wrong}: {line!r}; {self.front} commands, promised {process.disk.store.promised}")
+
+    def wrong_node(self, node, process, found):
+        """Of what a status line says of its node what isn't so."""
+        told, front, hand, over, _, promised, leads, _, _, _, pending, _, commands = found.groups()
+        front, ballot = int(front), process.disk.store.promised
+        dealt, finished = self.dealt.hands[min(front, self.front)]
+        return [word for word, is_wrong in {
+            "node": int(told) != node,
+            "front": not process.known <= front <= self.front,
+            "hand": hand != (str(dealt - 1) if dealt else "-"),
+            "over": over != ("yes" if finished == self.hands else "no"),
+            "promised": promised != ("-" if ballot == (0, 0) else "{}.{}".format(*ballot)),
+            "leads": leads == "yes" and (ballot[1] != node or 2 * len(self.promises.get(ballot, ())) <= self.count),
+            "pending": pending == "yes" and dealt == finished,
+            "commands": int(commands) > front,
+        }.items() if is_wrong]
+
+    def wrong_peers(self, node, found):
+        """Of what it says of the others what isn't so: each is there, and a front is one that the other told."""
+        others = [word.split(":") for word in found[9].split(",")]
+        heard = [words for words in others if words[1] != "gone"]
+        if [int(words[0]) for words in others] != [other for other in range(self.count) if other != node]:
+            yield "peers"
+        elif any(int(words[1]) not in self.fronts[int(words[0])] for words in heard):
+            yield "fronts of peers"
+        if found[8] == "yes" and 2 * (len(heard) + 1) <= self.count:
+            yield "quorum"
+
+    def wrong_seats(self, process, found):
+        """Of what it says of seats what isn't so."""
+        seats = [word.split(":") for word in found[10].split(",")]
+        if [words[0] for words in seats] != self.names or len(found[12].split(",")) != len(self.names):
+            yield "seats"
+        for seat, words in enumerate(seats):
+            if words[1] == "seated" and seat not in process.took:
+                yield f"seat {seat}"
+
