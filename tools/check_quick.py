@@ -1,0 +1,121 @@
+"""What ./check --quick does: it makes unproved programs, runs the crates of tests by `rt try --test`, and the scripts in a copy of the tree.
+
+The copy has the programs where `rt ci` leaves proved ones, so that no script runs an unproved program unasked in the tree itself.
+"""
+import contextlib
+import re
+import shutil
+import tempfile
+from concurrent.futures import ThreadPoolExecutor, as_completed
+from pathlib import Path
+
+import repository
+import unproved
+from which_program import MARK, UNPROVED
+
+TOP = repository.TOP
+# The programs that scripts run, the greatest first, and the crates of tests whose built tests some scripts run.
+PROGRAMS = ["holdem_table", "workload", "clockwork_lines"]
+BUILT = {"match_tests": ["tests/step_growths", "tests/serve_growths", "tests/run_growths"], "relay_tests": ["tests/relay_growths"]}
+# What a program with AddressSanitizer has in it, and the scripts that refuse allocations of a program, which its allocator doesn't ask for.
+SANITIZED = b"AddressSanitizer"
+REFUSING = ["tests/memory", "tests/step_growths"]
+# How many scripts run side by side, and beside them crates of tests.
+SCRIPTS, CRATES = 2, 1
+RESULT = re.compile(r"^test result: \w+\. (\d+) passed; (\d+) failed", re.M)
+
+
+def crates_of_tests():
+    """The crates that have tests, those first whose built tests scripts wait for."""
+    found = [name for name in repository.crates() if any(b"#[test]" in file.read_bytes() for file in (TOP / "crates" / name / "src").rglob("*.rt"))]
+    return sorted(found, key=lambda name: name not in BUILT)
+
+
+def place_of(name):
+    """Where an unproved program is kept."""
+    return UNPROVED.with_name(name)
+
+
+def copied(folder):
+    """A copy of the tree without what was built of it."""
+    shutil.copytree(TOP, folder, symlinks=True, ignore=lambda place, names: [name for name in names if name in ("out", ".git", "__pycache__")])
+    return folder
+
+
+def put_in(copy, crate, program):
+    """Puts an unproved program into the copy, where a proved one would be, without its mark: the scripts know what they run."""
+    data = program.read_bytes()
+    place = copy / "crates" / crate / "out" / program.name
+    place.parent.mkdir(exist_ok=True)
+    place.write_bytes(data[: -len(MARK)] if data.endswith(MARK) else data)
+    place.chmod(0o755)
+
+
+def program(name):
+    """Makes the program of a crate, and says what came of it: a status, and a line of counts behind what was said."""
+    try:
+        unproved.kept(name, place_of(name), is_marked=name == UNPROVED.name)
+    except unproved.NoProgram as why:
+        return f"the program {name}", 1, f"{why}\n0 passed, 1 failed\n"
+    return f"the program {name}", 0, "1 passed, 0 failed\n"
+
+
+def tested(name):
+    """Runs the tests of a crate; the program of its tests is made too where a script runs it."""
+    to = place_of(f"{name}_tests") if name in BUILT else None
+    if to is not None:
+        to.unlink(missing_ok=True)
+    try:
+        status, said = unproved.tested(name, to)
+    except unproved.NoProgram as why:
+        status, said = 1, f"{why}\n"
+    counts = RESULT.findall(said)
+    passed, failed = map(int, counts[-1]) if counts else (0, 1)
+    return f"the tests of {name}", status, f"{said}\n{passed} passed, {failed} failed\n"
+
+
+def left_out(name, why):
+    """A script that isn't run: one that isn't measured."""
+    return name, 0, f"not measured: all of it: {why}\n0 passed, 0 failed, 1 skipped\n"
+
+
+def measured(name, copy, step):
+    """Runs a script, unless it can't be measured over the programs that the kit gave."""
+    is_sanitized = any(SANITIZED in place_of(it).read_bytes() for it in PROGRAMS if place_of(it).is_file())
+    if is_sanitized and name in REFUSING:
+        return left_out(name, "the kit gives programs with AddressSanitizer, which has an allocator of its own")
+    return step(name, copy)
+
+
+@contextlib.contextmanager
+def tree():
+    """The copy of the tree, while it is needed."""
+    with tempfile.TemporaryDirectory(prefix="check-quick-") as temporary:
+        yield copied(Path(temporary) / "tree")
+
+
+def run(names, step):
+    """Does all, given the scripts' names and what runs one in a tree. The name, the status and what was said of each, as they end."""
+    waiting = {name for names in BUILT.values() for name in names}
+    with tree() as copy, ThreadPoolExecutor(len(PROGRAMS)) as makers, ThreadPoolExecutor(CRATES) as testers, ThreadPoolExecutor(SCRIPTS) as scripts:
+        for ended in as_completed([makers.submit(program, name) for name in PROGRAMS]):
+            yield ended.result()
+        for name in filter(lambda name: place_of(name).is_file(), PROGRAMS):
+            put_in(copy, name, place_of(name))
+        begun = {testers.submit(tested, name): name for name in crates_of_tests()}
+        begun.update({scripts.submit(measured, name, copy, step): None for name in names if name not in waiting})
+        for ended in as_completed(begun):
+            yield ended.result()
+            if begun[ended] in BUILT:
+                yield from growths(begun[ended], [name for name in BUILT[begun[ended]] if name in names], copy, step)
+
+
+def growths(crate, names, copy, step):
+    """Runs scripts that run the built tests of a crate; they aren't measured where the kit gave no program of them."""
+    made = place_of(f"{crate}_tests")
+    if not made.is_file():
+        yield from (left_out(name, f"the kit gives no program of the tests of {crate} without a sanitizer") for name in names)
+        return
+    put_in(copy, crate, made)
+    for name in names:
+        yield measured(name, copy, step)
