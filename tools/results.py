@@ -53,7 +53,7 @@ def total(column):
 def table():
     """The table, line by line."""
     names, figures = [*repository.crates()], {**repository.in_page(), **repository.measured()}
-    edits = {name: [len(repository.edits(folder)) for folder in repository.places(name)] for name in names}
+    edits = {name: [*map(len, repository.of_check(name))] for name in names}
     minutes = {name: [figures.get(name, {}).get(kind) for kind in repository.KINDS] for name in names}
     rows = [[f"`{name}`", *line_counts(name), *edits[name], *map(minutes_text, minutes[name])] for name in names]
     sums = [sum(column) for column in zip(*edits.values())] + [minutes_text(total(column)) for column in zip(*minutes.values())]

@@ -21,7 +21,7 @@ class Mutant:
     """An edit that the prover must refuse: its name, whether ./check tries it, and the words of what it changes."""
 
     def __init__(self, edit, contracts):
-        self.name, self.is_tried = edit.name[: -len(".edit")], edit.parent.name == "must-fail"
+        self.name, self.is_tried = edit.name[: -len(".edit")], edit.parent.name == "must-fail" or repository.is_of_gate(edit)
         parts = self.name.split(".")
         old = "\n".join(re.findall(r"^old: (.*)$", edit.read_text(encoding="utf-8"), re.M))
         changed = old if parts[0][:1].isupper() else contracts.get((parts[0], parts[1]), "")
@@ -94,7 +94,7 @@ This page is for readers who ask what a definition excludes: the worked examples
 
 An example is a lemma in a file of `crates/NAME/proofs/` whose name has `Examples` in it. The prover computes each example and refuses a false one. It is listed below each definition that it names, with the comment above it in brackets.
 
-A mutant is an edit that the prover must refuse, in `crates/NAME/must-fail/` or in `wrong-bodies/NAME/`. Its name has the file, the function and the wrong body. It is listed below each definition that the contract of that function names. Definitions without an example or a mutant aren't listed."""
+A mutant is an edit that the prover must refuse, in `crates/NAME/mutants/` or in `crates/NAME/must-fail/`. Its name has the file, the function and the wrong body. It is listed below each definition that the contract of that function names. Definitions without an example or a mutant aren't listed."""
 
 
 def page():
