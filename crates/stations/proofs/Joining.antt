@@ -16,11 +16,11 @@ use Rattle.stations.specs.Joining.{DidAt, AreProcesses, ProcessesShowOneList, Pr
 
 -- ---- the standings of the nodes from k on, so many
 
-abbrev from : (ℕ → Standing) → ℕ → ℕ → List Standing
+abbrev pub from : (ℕ → Standing) → ℕ → ℕ → List Standing
 from s k zero = []
 from s k (suc n) = s k ∷ from s (k + 1) n
 
-length_from : (s : ℕ → Standing) (k n : ℕ) → length (from s k n) ≡ n
+pub length_from : (s : ℕ → Standing) (k n : ℕ) → length (from s k n) ≡ n
 length_from s k zero = refl
 length_from s k (suc n) = ap suc (length_from s (k + 1) n)
 
@@ -50,10 +50,10 @@ set_from s t k (suc n) (suc j) less same =
     ∙ ap (λ (i : ℕ). set (from s (k + 1) n) j (t i)) e)
 
 -- and of all nodes
-at_place : (s : ℕ → Standing) (n j : ℕ) (d : Standing) → j < n → get_or (from s 0 n) j d ≡ s j
+pub at_place : (s : ℕ → Standing) (n j : ℕ) (d : Standing) → j < n → get_or (from s 0 n) j d ≡ s j
 at_place s n j d less = let e : 0 + j ≡ j = omega arith in at_from s 0 n j d less ∙ ap s e
 
-set_place : (s t : ℕ → Standing) (n j : ℕ) → j < n → ((i : ℕ) → i ≢ j → t i ≡ s i) → from t 0 n ≡ set (from s 0 n) j (t j)
+pub set_place : (s t : ℕ → Standing) (n j : ℕ) → j < n → ((i : ℕ) → i ≢ j → t i ≡ s i) → from t 0 n ≡ set (from s 0 n) j (t j)
 set_place s t n j less same =
     let e : 0 + j ≡ j = omega arith in
     set_from s t 0 n j less (λ i above other. same i (λ is. other (is ∙ sym e))) ∙ ap (λ (i : ℕ). set (from s 0 n) j (t i)) e
@@ -180,7 +180,7 @@ module _ (setting : Setting) (sources : List Source) (histories : ℕ → List D
   state_of s = record { standings = from s 0 (length sources); now = record_of all }
 
   -- with any standings that the nodes' deeds lead to
-  run_of : (s : ℕ → Standing) → ((i : ℕ) → i < length sources → DidAt (plan_of setting sources) i (histories i) (s i)) → RunsTo setting (length sources) [] sources (state_of s)
+  pub run_of : (s : ℕ → Standing) → ((i : ℕ) → i < length sources → DidAt (plan_of setting sources) i (histories i) (s i)) → RunsTo setting (length sources) [] sources (state_of s)
   run_of s did = joined setting sources all s processes.plan processes.order.order.nodes
       (λ i less. subst (λ (deeds : List Deed). DidAt (plan_of setting sources) i deeds (s i)) (sym (processes.order.order.each i less)) (did i less))
 

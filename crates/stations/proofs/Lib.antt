@@ -1,4 +1,5 @@
 mod Joining
+mod Moving
 mod Acting
 mod Dying
 mod Incarnations

@@ -1,6 +1,7 @@
 pub mod Deeds
 pub mod Codes
 pub mod Joining
+pub mod Moving
 pub mod Stations
 pub mod Giving
 pub mod Looking

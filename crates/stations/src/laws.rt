@@ -2,6 +2,7 @@
 
 ghost use Rattle.std.specs.Prelude.{map, option_map};
 ghost use Rattle.stations.specs.Joining.{ProcessesShowOneList, ProcessesAreBacked, ProcessesSendToNodes, ProcessesNeverConflict, ProcessesApplyTheChosen, ProcessesChooseOneList};
+ghost use Rattle.stations.specs.Moving.{ProcessesHaveNoDeadEnd};
 ghost use Rattle.stations.specs.Stations.{DeathsAtRestAreDeeds, DeathsInsideAreDeeds};
 ghost use Rattle.stations.specs.Incarnations.{IncarnationsAreDeeds};
 ghost use Rattle.stations.specs.Together.{StationsArePromised, ListsOfStationsArePromised};
@@ -11,7 +12,7 @@ ghost use Rattle.stations.specs.Looking.{look_of};
 use crate::station::Station;
 use dealer_node::laws::{images_are_seen, moments_pass, seen_as_one};
 use dealer_world::laws::{
-    events_are_calls, runs_apply_the_chosen, runs_are_backed, runs_choose_one_list,
+    events_are_calls, no_dead_end, runs_apply_the_chosen, runs_are_backed, runs_choose_one_list,
     runs_never_conflict, runs_send_to_nodes, runs_show_one_list,
 };
 use promise_store::Disk;
@@ -60,6 +61,17 @@ pub fn processes_choose_one_list()
     ensures { ProcessesChooseOneList }
 {
     runs_choose_one_list();
+}
+
+/// And no state of them is a dead end. Where a member of a least quorum, seen as what its node holds, has something to
+/// propose, and rounds and slots are left, it has a way of at most four events for each member. What the nodes do by it,
+/// each event given to its own node, one after another, with memory and disks that suffice, is in a true order behind all
+/// that was done, and none of it is refused; at its end that node's front has passed the commands. Deliveries may come in
+/// any order, and others be lost or late.
+pub fn processes_have_no_dead_end()
+    ensures { ProcessesHaveNoDeadEnd }
+{
+    no_dead_end();
 }
 
 /// So the tables that nodes had, of whatever processes of theirs and at whatever moments, are tables of one match: there is one
