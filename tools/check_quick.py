@@ -20,6 +20,8 @@ BUILT = {"match_tests": ["tests/step_growths", "tests/serve_growths", "tests/run
 # What a program with AddressSanitizer has in it, and the scripts that refuse allocations of a program, which its allocator doesn't ask for.
 SANITIZED = b"AddressSanitizer"
 REFUSING = ["tests/memory", "tests/step_growths"]
+# What isn't measured over programs that aren't optimised, and why.
+LEFT = {"tests/simulation": "its 400 matches take some 100 processor minutes over a program that isn't optimised"}
 # How many scripts run side by side, and beside them crates of tests.
 SCRIPTS, CRATES = 2, 1
 RESULT = re.compile(r"^test result: \w+\. (\d+) passed; (\d+) failed", re.M)
@@ -82,6 +84,8 @@ def left_out(name, why):
 def measured(name, copy, step):
     """Runs a script, unless it can't be measured over the programs that the kit gave."""
     is_sanitized = any(SANITIZED in place_of(it).read_bytes() for it in PROGRAMS if place_of(it).is_file())
+    if name in LEFT:
+        return left_out(name, LEFT[name])
     if is_sanitized and name in REFUSING:
         return left_out(name, "the kit gives programs with AddressSanitizer, which has an allocator of its own")
     return step(name, copy)
