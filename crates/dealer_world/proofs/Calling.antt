@@ -20,7 +20,7 @@ use Rattle.dealer_world.proofs.Answering.{TellsUp, refused_so}
 
 module _ {D : Type 0} (g : Ghosts D) where
   -- how a call of the node at this place ended, and what it answered
-  ended_at : (place : Place) (called : Call) (s : Standing) (old new : Node D) (earlier later : Told) (answer : Result (Unit {0}) NodeFault)
+  pub ended_at : (place : Place) (called : Call) (s : Standing) (old new : Node D) (earlier later : Told) (answer : Result (Unit {0}) NodeFault)
       (takes : Takes g called s old new earlier later answer) → place_at (member_in old) ≡ place
       → (ends : Ends place s called takes.after takes.frames takes.shown) × Answered place s called takes.after takes.frames takes.shown ends takes.faults answer
   ended_at place called s old new earlier later answer takes placed =

@@ -49,7 +49,7 @@ use Rattle.dealer_world.proofs.Answering.{all_is, TellsUp}
 no_rise : (old new : ℕ) → new ≡ old → new < 2 ^ 64 - 1 → Rose old new → ⊥
 no_rise old new same low rose = grind (arith, same, low, rose)
 
-untroubled : (place : Place) (s : Standing) (called : Call) (after : Standing) (frames : List Outgoing) (shown : List Shown) (faults : List SeatFault) (answer : Result (Unit {0}) NodeFault)
+pub untroubled : (place : Place) (s : Standing) (called : Call) (after : Standing) (frames : List Outgoing) (shown : List Shown) (faults : List SeatFault) (answer : Result (Unit {0}) NodeFault)
     → (answer ≡ Err fault.OutOfMemory → ⊥) → (answer ≡ Err (fault.Store Disk) → ⊥)
     → (ends : Ends place s called after frames shown) → Answered place s called after frames shown ends faults answer → IsUntroubled place s called after frames shown ends
 untroubled place s called after frames shown faults answer ample sound (took turn rule a b c) answered = tt
@@ -60,7 +60,7 @@ untroubled place s called after frames shown faults answer ample sound (unchange
 
 -- ---- the events of a round
 
-same_node : (e : Event) (y : calm.Event) → IsEvent e y → node_of e ≡ of_round.node_of y
+pub same_node : (e : Event) (y : calm.Event) → IsEvent e y → node_of e ≡ of_round.node_of y
 same_node (event.Frame from to bytes) (Ticks node) is = absurd is
 same_node (event.Frame from to bytes) (Delivers sender receiver spelled) is = is.1
 same_node (event.Line node seat bytes) other is = absurd is
@@ -72,7 +72,7 @@ same_node (event.Drop node seat) other is = absurd is
 same_node (event.Stop node pick) other is = absurd is
 same_node (event.Start node) other is = absurd is
 
-same_call : (e : Event) (y : calm.Event) (found : Store) → IsEvent e y → call_of found e ≡ of_round.call_of y
+pub same_call : (e : Event) (y : calm.Event) (found : Store) → IsEvent e y → call_of found e ≡ of_round.call_of y
 same_call (event.Frame from to bytes) (Ticks node) found is = absurd is
 same_call (event.Frame from to bytes) (Delivers sender receiver spelled) found is = λ j. call.Frame (is.0 j) (is.2 j)
 same_call (event.Line node seat bytes) other found is = absurd is
@@ -114,7 +114,7 @@ no_events (x ∷ events) ys e are = absurd (cc)
 
 -- ---- one event
 
-is_seated : (players : ℕ) (e : Event) (y : calm.Event) (found : Store) → IsEvent e y → IsSeated players (call_of found e)
+pub is_seated : (players : ℕ) (e : Event) (y : calm.Event) (found : Store) → IsEvent e y → IsSeated players (call_of found e)
 is_seated players (event.Frame from to bytes) y found is = tt
 is_seated players (event.Line node seat bytes) y found is = absurd is
 is_seated players (event.Tick number) y found is = tt

@@ -49,7 +49,7 @@ written_in i (f ∷ fs) (m ∷ ms) o (from, to, bytes, reads, are) (inl e) =
     inl (ap (written i) e ∙ sym (λ j. record { from = from j; to = to j; bytes = bytes j }))
 written_in i (f ∷ fs) (m ∷ ms) o (from, to, bytes, reads, are) (inr h) = inr (written_in i fs ms o are h)
 
-written_reads : (i : ℕ) (frames : List Outgoing) (made : List Frame) → AreWritten i frames made → AreReadBack frames
+pub written_reads : (i : ℕ) (frames : List Outgoing) (made : List Frame) → AreWritten i frames made → AreReadBack frames
 written_reads i [] made are o h = absurd h
 written_reads i (f ∷ fs) [] are o h = absurd are
 written_reads i (f ∷ fs) (m ∷ ms) (from, to, bytes, reads, are) o (inl e) =
@@ -57,7 +57,7 @@ written_reads i (f ∷ fs) (m ∷ ms) (from, to, bytes, reads, are) o (inl e) =
 written_reads i (f ∷ fs) (m ∷ ms) (from, to, bytes, reads, are) o (inr h) = written_reads i fs ms are o h
 
 -- what is on its way stands in the record, with its bytes
-abbrev IsRecorded : List Sent → List Frame → Type 0
+abbrev pub IsRecorded : List Sent → List Frame → Type 0
 IsRecorded sent frames = (s : Sent) → In s sent → In (record { from = s.from; to = s.to; bytes = bytes_of s.message }) frames
 
 in_sent : (i : ℕ) (some : List Outgoing) (made : List Frame) (s : Sent) → In s (sent_by i some) → ((o : Outgoing) → In o some → In (written i o) made)
@@ -66,7 +66,7 @@ in_sent i [] made s h all = absurd h
 in_sent i (f ∷ fs) made s (inl e) all = subst (λ (x : Sent). In (record { from = x.from; to = x.to; bytes = bytes_of x.message }) made) (sym e) (all f (inl refl))
 in_sent i (f ∷ fs) made s (inr h) all = in_sent i fs made s h (λ o k. all o (inr k))
 
-sent_recorded : (i : ℕ) (frames : List Outgoing) (made : List Frame) → AreWritten i frames made → IsRecorded (sent_by i frames) made
+pub sent_recorded : (i : ℕ) (frames : List Outgoing) (made : List Frame) → AreWritten i frames made → IsRecorded (sent_by i frames) made
 sent_recorded i frames made are s h = in_sent i frames made s h (λ o k. written_in i frames made o are k)
 
 -- ---- one event
@@ -79,7 +79,7 @@ pub record Turned (place : Place) (s : Standing) (called : Call) (after : Standi
   pub frames_are : frames ≡ turn.frames
   pub came : arrived ≡ arrived_at s.up place.node (front_of s) called
 
-turned : (place : Place) (s : Standing) (called : Call) (after : Standing) (frames : List Outgoing) (shown : List Shown) (ends : Ends place s called after frames shown) (arrived : List Arrived) (began : Bool)
+pub turned : (place : Place) (s : Standing) (called : Call) (after : Standing) (frames : List Outgoing) (shown : List Shown) (ends : Ends place s called after frames shown) (arrived : List Arrived) (began : Bool)
     → ((refusal : Refusal) → IsTurn place s called (Err refusal) → ⊥)
     → IsUntroubled place s called after frames shown ends → Keeps place s called after frames shown ends arrived began → Turned place s called after frames arrived
 turned place s called after frames shown (took turn rule e f g) arrived began never is keeps = record { turn = turn; rule = rule; after_is = e; frames_are = f; came = keeps.0 }
@@ -88,7 +88,7 @@ turned place s called after frames shown (failed outcome begun up rule b e f g) 
 turned place s called after frames shown (unchanged e f g) arrived began never is keeps = absurd is
 
 -- what it brings was sent
-brought : (event : Event) (sent : List Sent) (frames : List Frame) (up : Bool) (front : ℕ) (what : Arrived) → IsOnItsWay sent event → IsRecorded sent frames → In what (arrived_at up (node_of event) front (call_of event))
+pub brought : (event : Event) (sent : List Sent) (frames : List Frame) (up : Bool) (front : ℕ) (what : Arrived) → IsOnItsWay sent event → IsRecorded sent frames → In what (arrived_at up (node_of event) front (call_of event))
     → IsAmong frames what
 brought (Ticks node) sent frames true front what way known h = absurd h
 brought (Ticks node) sent frames false front what way known h = absurd h
@@ -104,7 +104,7 @@ placed_what count (what ∷ more) arrival (inl e) = (inl (ap (λ (a : Arrival). 
 placed_what count (what ∷ more) arrival (inr h) = let t = placed_what count more arrival h in (inr t.0, t.1)
 
 -- the record stays unforged
-unforged_after : (now : Record) (i : ℕ) (arrived : List Arrived) (made : Made) → IsUnforged now.sent now.delivered → ArePlaced now.sent now.delivered → ((what : Arrived) → In what arrived → IsAmong now.sent what)
+pub unforged_after : (now : Record) (i : ℕ) (arrived : List Arrived) (made : Made) → IsUnforged now.sent now.delivered → ArePlaced now.sent now.delivered → ((what : Arrived) → In what arrived → IsAmong now.sent what)
     → IsUnforged (grown now i arrived made).sent (grown now i arrived made).delivered
 unforged_after now i arrived made unforged placed among arrival h = elim (in_split now.delivered (map (placed_at (length now.sent)) arrived) arrival h) [
   | inl old ↦ subst (λ (l : List Frame). IsAmong l arrival.what) (sym (take-append-le arrival.sent_before now.sent made.frames (placed arrival old))) (unforged arrival old)
@@ -120,7 +120,7 @@ unforged_after now i arrived made unforged placed among arrival h = elim (in_spl
 
 -- ---- all standings, one changed
 
-changed : (plan : Plan) (old new : State) (node : ℕ) (after : Standing) → node < length old.standings → new.standings ≡ set old.standings node after
+pub changed : (plan : Plan) (old new : State) (node : ℕ) (after : Standing) → node < length old.standings → new.standings ≡ set old.standings node after
     → put (standing_at plan old) node after ≡ standing_at plan new
 changed plan old new node after low e = λ j k. at_node k j
   where
@@ -219,7 +219,7 @@ walk plan IsSo (event ∷ first) rest st sent old new on go (between, one, more)
 
 -- ---- the law
 
-members_of : (laws : Given) (setting : Setting) (n : ℕ) (before : List Era) (sources : List Source) (old : State) (members : List ℕ) → (was : Kept setting n before sources old) → IsUnforged old.now.sent old.now.delivered
+pub members_of : (laws : Given) (setting : Setting) (n : ℕ) (before : List Era) (sources : List Source) (old : State) (members : List ℕ) → (was : Kept setting n before sources old) → IsUnforged old.now.sent old.now.delivered
     → ((k : ℕ) → In k members → k < length sources) → (world : World) × AreOf (own_of setting sources before) setting (length sources) (λ k. deals_from setting.game.players (slice_get sources k)) world (standing_at (plan_of setting sources) old) members
 members_of laws setting n before sources old members was unforged low =
     let b = was.behind unforged in

@@ -20,7 +20,7 @@ use Rattle.dealer_world.specs.RecordLaws.{HaveDeals}
 abbrev pub DrawsAreDeals : Type 0
 DrawsAreDeals = (seed hand players : ℕ) → players ≤ 10 → IsDeal players (drawn seed hand players)
 
-each_at : {X : Type 0} (P : X → Type 0) (xs : List X) (k : ℕ) → All P xs → IfSome (slice_get xs k) P
+pub each_at : {X : Type 0} (P : X → Type 0) (xs : List X) (k : ℕ) → All P xs → IfSome (slice_get xs k) P
 each_at P [] k all = tt
 each_at P (x ∷ xs) zero all = All-head P x xs all
 each_at P (x ∷ xs) (suc k) all = each_at P xs k (All-tail P x xs all)

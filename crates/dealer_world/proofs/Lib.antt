@@ -20,6 +20,8 @@ mod Keeping
 mod Conflicts
 mod Applied
 mod CalmRun
+mod CaseRuns
+mod EndRuns
 mod Ruled
 mod Calling
 mod Giving
@@ -30,7 +32,8 @@ mod Answering
 mod Reached
 mod Opened
 mod Again
-mod CalmCluster
+pub mod CalmCluster
+mod TakenEvents
 mod Founding
 mod Wanting
 mod Started

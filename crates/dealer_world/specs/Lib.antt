@@ -19,6 +19,8 @@ pub mod RecordLaws
 pub mod Runs
 pub mod RuleRuns
 pub mod CalmRun
+pub mod CaseRuns
+pub mod EndRuns
 pub mod Stepping
 pub mod Calling
 pub mod Shows
@@ -26,4 +28,5 @@ pub mod Ruling
 pub mod Viewing
 pub mod Promise
 pub mod CalmCluster
+pub mod TakenEvents
 pub mod Beginning

@@ -13,8 +13,11 @@ ghost use Rattle.protocol_model.specs.Laws.{OneDealer, HasOrigin};
 ghost use Rattle.protocol_model.specs.Worlds.{World, Reached};
 ghost use Rattle.dealer_world.specs.Given.{Given};
 ghost use Rattle.dealer_world.specs.RecordLaws.{OldFramesSayTheSame, LinesOfRecordsAgree, AlikeListsShowTheSame, CompleteLogsAreMatchLogs};
+ghost use Rattle.dealer_world.specs.EndRuns.{RunsCanEnd};
+ghost use Rattle.dealer_world.specs.CaseRuns.{NodesHaveCases, OrdersHelpRuns};
 ghost use Rattle.dealer_world.specs.CalmRun.{NoDeadEnd, RoundsMoveOn, FreshClustersAreCalm};
 ghost use Rattle.dealer_world.specs.CalmCluster.{ClustersAtRestMove};
+ghost use Rattle.dealer_world.specs.TakenEvents.{SoundEventsAreTaken};
 ghost use Rattle.dealer_world.specs.Calling.{EventsAreCalls, VainEventsAreNone, FrontsAreSeen, ConflictsAreRefusals, BrokenEventsAreCalls};
 ghost use Rattle.dealer_world.specs.RuleRuns.{RunsShowOneList, RunsAreBacked, RunsSendToNodes, RunsNeverConflict, RunsApplyTheChosen, RunsChooseOneList};
 
@@ -22,7 +25,7 @@ use dealer_kind::laws::{deals_are_owned_acts_are_said_and_aways_are_ordered, own
 use dealer_node::laws::seen_as_one;
 use deck_draw::laws::draws_are_deals;
 use matchstate::laws::{agree, beginnings_are_alike};
-use node_rules::laws::{calls_are_sound, calm_rounds_move, refusals_have_reasons};
+use node_rules::laws::{calls_are_sound, calm_rounds_move, matches_can_end, refusals_have_reasons};
 use paxos_wire::old_frames_read_back;
 use promise_store::Disk;
 use protocol_model::laws::{
@@ -176,6 +179,29 @@ pub fn no_dead_end()
     node_rules::laws::no_dead_end();
 }
 
+/// Each node of a match that has a slot at its front has something to propose with the members of a quorum, or awaits a bot,
+/// or the match is over at it. And where one that runs awaits a bot, an order that the player to act is played for isn't
+/// refused, and then it has something to propose.
+pub fn members_have_cases()
+    ensures each { NodesHaveCases }
+    ensures orders { OrdersHelpRuns }
+{
+    layers_below();
+    draws_are_deals();
+    node_rules::laws::members_have_cases();
+}
+
+/// Every match can be ended: from every state of a run of the rules in which no frame was forged, at each member of a least
+/// quorum, by at most q + 3 + (N - f)(4q - 2) events of its members, as `node_rules` has them. None of them is refused, and no
+/// frame of them is forged.
+pub fn runs_can_end()
+    ensures { RunsCanEnd }
+{
+    layers_below();
+    draws_are_deals();
+    matches_can_end();
+}
+
 /// A cluster at rest whose nodes keep the rules moves: in every run in which no frame was forged, where the members of a
 /// least quorum are calm for a node, none of the frames of its round is forged and none of its events is refused, after
 /// each beginning of it; and once all of it was given to its nodes, and found memory and disks that didn't fail, that
@@ -192,6 +218,14 @@ pub fn clusters_at_rest_move<D: Disk + Drop>()
     ensures { ClustersAtRestMove D.Disk }
 {
     node_rules::laws::no_dead_end();
+}
+
+/// An event of a way that was given to a node is one call of it by the rules, of that kind, unless it was answered by 92, or
+/// by 91 because the disk failed.
+pub fn sound_events_are_taken<D: Disk + Drop>()
+    ensures { SoundEventsAreTaken D.Disk }
+{
+    seen_as_one::<D>();
 }
 
 /// Nodes that have just been started on empty stores are at rest: where a node deals the first hand, it could move each

@@ -33,7 +33,11 @@ use Rattle.node_rules.proofs.Settled.{marked_at}
 use Rattle.node_rules.proofs.Electing.{covered}
 use Rattle.node_rules.proofs.Counting.{Counts, GrowsByEach, votes_grow, answers_had}
 use Rattle.node_rules.proofs.Members.{AreDistinct, above_all, rise_distinct, without_in, in_without, without_rise, without_length}
-use Rattle.node_rules.proofs.CalmTurns.{Round, place_at, ballot_in, slot_in, told_in, stores_in, IsRest, no_vote, unvoted_slot, begun_counted, begun_turn, ticked_turn, prepare_in, promise_in, promised_turn, prepare_turn, IsPreparing, with_counted, preparing_more, promise_turn, made_in, none_marked, completed_turn, completed_run, completing_turn, accept_in, accepted_in, HasPromised, accepted_turn, accept_turn, IsLeading, with_heard_vote, accepted_goes, leading_more, LastTurn, last_turn, more_counted, are_ahead, are_taken, new_over}
+use Rattle.node_rules.proofs.CalmTurns.{Round, place_at, ballot_in, slot_in, told_in, stores_in, IsRest, no_vote, unvoted_slot, begun_counted, begun_turn, ticked_turn, prepare_in, promise_in, promised_turn, prepare_turn, IsPreparing, with_counted, preparing_more, promise_turn, made_in, none_marked, completed_turn, completed_run, completing_turn, accept_in, accepted_in, HasPromised, accepted_turn, accept_turn, IsLeading, counted_low, with_heard_vote, accepted_goes, leading_more, LastTurn, last_turn, more_counted, are_ahead, are_taken, new_over}
+use Rattle.paxos_wire.specs.declared.ballot.Ballot.{Ballot}
+use Rattle.protocol_model.specs.Ballots.{AtMost}
+use Rattle.protocol_model.proofs.Ballots.{at_most_self, at_most_of_below}
+use Rattle.node_rules.proofs.NextBallots.{seen_below}
 use Rattle.node_rules.proofs.CalmSteps.{sent_in, ended, deliver, prepare_framed, tick_first}
 
 -- ---- the other members
@@ -170,6 +174,15 @@ pub record Promises (r : Round) (others : List ℕ) (counted : List ℕ) (from :
   pub promised_so : (j : ℕ) → In j others → HasPromised r j (st j)
   pub told : (j : ℕ) → In j others → IsTold r j sent
 
+-- no member has promised a ballot above the round's, nor has the node seen one, which it has promised itself
+pub record IsLow (r : Round) (st : ℕ → Standing) : Type 0 where
+  pub seen : AtMost (st r.i).seen (ballot_in r)
+  pub own : (st r.i).store.promise ≡ ballot_in r
+  pub promises : (k : ℕ) → In k r.members → AtMost (st k).store.promise (ballot_in r)
+
+promised_low : (r : Round) (j : ℕ) (s : Standing) → HasPromised r j s → AtMost s.store.promise (ballot_in r)
+promised_low r j s p = subst (λ (st : Store). AtMost st.promise (ballot_in r)) (sym p.store) (at_most_self (ballot_in r))
+
 -- the state once the node proposed
 pub record Proposes (r : Round) (others : List ℕ) (from : ℕ) (st : ℕ → Standing) (sent : List Sent) : Type 0 where
   pub leading : IsLeading r (r.i ∷ []) (st r.i)
@@ -177,6 +190,7 @@ pub record Proposes (r : Round) (others : List ℕ) (from : ℕ) (st : ℕ → S
   pub way : (j : ℕ) → In j others → In (record { from = r.i; to = j; message = accept_in r }) sent
   pub reads : (j : ℕ) → In j others → reading (bytes_of (accept_in r)) ≡ Ok (accept_in r)
   pub voted_so : (j : ℕ) → In j others → j < from → IsVoted r j sent
+  pub low : (j : ℕ) → In j others → AtMost (st j).store.promise (ballot_in r)
 
 not_counted : (r : Round) (others : List ℕ) → Others r others → (counted : List ℕ) (from j : ℕ) (todo : List ℕ) → ToCome r others from (j ∷ todo) → ((m : ℕ) → In m counted → (m ≡ r.i) ⊎ (m < from)) → In j counted → ⊥
 not_counted r others o counted from j todo c only h = elim (only j h) [
@@ -229,6 +243,8 @@ leads_then r rest counted s p j distinct less inside all enough = record {
   marks = r.given.proposal_marks r.n [] k (front_of u) own (made_in r) made_so (none_marked k c.unproposed);
   votes = λ m v e out same. no_vote r rest r.i rest.member m v
       (ap (λ (st : Store). st.votes m) (sym p.store) ∙ (sym (votes_outside r.given s.store (ballot_in r) (slot_in r) r.commands whole m out) ∙ e)) same;
+  seen = counted_low r rest j (inside j (inl refl)) s p.seen;
+  promise = elim (r.given.command_run_promise s.store (ballot_in r) (slot_in r) r.commands) [ inl same ↦ same ∙ ap (λ (st : Store). st.promise) p.store | inr new ↦ new ];
   log = (new_over r rest s p.learned).log ∙ ap (λ (l : Learned). l.log) p.learned;
   nodes = r.given.run_nodes s.learned r.i (ballot_in r) (slot_in r) r.commands ∙ nodes;
   more = grows.grows.more;
@@ -306,6 +322,7 @@ all_promises r rest others o [] j from counted c size IsSo st sent p events late
       way = λ k h. in_first (sent_by r.i t.frames) sent (record { from = r.i; to = k; message = accept_in r }) (sent_in r.i t.frames k (accept_in r) (framed k h));
       reads = λ k h. back (record { to = k; message = accept_in r }) (framed k h);
       voted_so = λ k h l. absurd (omega arith);
+      low = λ k h. subst (λ (s : Standing). AtMost s.store.promise (ballot_in r)) (sym (put_other st r.i t.after k (o.other k h))) (promised_low r k (st k) (p.promised_so k h));
     }))
   where
     jin : In j others
@@ -329,7 +346,7 @@ all_promises r rest others o (next ∷ todo) j from counted c size IsSo st sent 
     (record {
       preparing = subst (IsPreparing r (j ∷ counted)) (sym (put_same st r.i (counted_turn r counted (st r.i) p.preparing j).after))
           (preparing_more r rest counted (st r.i) p.preparing j p.distinct (half r rest (length counted) (suc (length todo)) size) (not_counted r others o counted from j (next ∷ todo) c p.only)
-          (rest.low j (o.member j (c.inside j (inl refl)))));
+          (rest.low j (o.member j (c.inside j (inl refl)))) (o.member j (c.inside j (inl refl))));
       distinct = distinct_more r rest others o counted from j (next ∷ todo) c p.only p.distinct;
       inside = inside_more r others o counted from j (next ∷ todo) c p.inside;
       done = done_more r others counted from j (next ∷ todo) c p.done;
@@ -353,9 +370,10 @@ vote_framed r rest j s other =
 
 all_accepts : (r : Round) → IsRest r → (others : List ℕ) → Others r others → (todo : List ℕ) (from : ℕ) → ToCome r others from todo → (IsSo : (ℕ → Standing) → Type 0) (st : ℕ → Standing) (sent : List Sent)
     → Proposes r others from st sent → (events : List Event)
-    → ((new : ℕ → Standing) (more : List Sent) → IsLeading r (r.i ∷ []) (new r.i) → ((j : ℕ) → In j others → IsVoted r j more) → GoOn (place_in r.setting r.n r.deals) IsSo new more events)
+    → ((new : ℕ → Standing) (more : List Sent) → IsLeading r (r.i ∷ []) (new r.i) → ((j : ℕ) → In j others → IsVoted r j more) → ((j : ℕ) → In j others → AtMost (new j).store.promise (ballot_in r))
+    → GoOn (place_in r.setting r.n r.deals) IsSo new more events)
     → GoOn (place_in r.setting r.n r.deals) IsSo st sent (map (λ j. delivers r.i j (accept_in r)) todo ++ events)
-all_accepts r rest others o [] from c IsSo st sent p events later = later st sent p.leading (λ j h. p.voted_so j h (all_done r others from c j h))
+all_accepts r rest others o [] from c IsSo st sent p events later = later st sent p.leading (λ j h. p.voted_so j h (all_done r others from c j h)) p.low
 all_accepts r rest others o (j ∷ todo) from c IsSo st sent p events later =
     deliver r IsSo st sent r.i j (accept_in r) (map (λ k. delivers r.i k (accept_in r)) todo ++ events) t (p.waits j jin c.rise.0).up (p.reads j jin) (p.way j jin)
     (accept_turn r rest j (o.member j jin) (st j) (p.waits j jin c.rise.0))
@@ -371,6 +389,7 @@ all_accepts r rest others o (j ∷ todo) from c IsSo st sent p events later =
           reads = back (record { to = r.i; message = accepted_in r }) framed;
         })
       ];
+      low = λ k h. low_at k h (eqb_tells k j);
     }) events later)
   where
     jin : In j others
@@ -378,6 +397,18 @@ all_accepts r rest others o (j ∷ todo) from c IsSo st sent p events later =
 
     t : Turn
     t = voted_turn r j (st j)
+
+    voted_low : AtMost (voted_turn r j (st j)).after.store.promise (ballot_in r)
+    voted_low = subst (λ (s : Standing). AtMost s.store.promise (ballot_in r)) (sym (asked_same r.i (accept_in r) (accepted_turn r j (st j)).after))
+        (elim (r.given.command_run_promise (st j).store (ballot_in r) (slot_in r) r.commands) [
+          | inl same ↦ subst (λ (b : Ballot). AtMost b (ballot_in r)) (sym same) (p.low j jin)
+          | inr new ↦ subst (λ (b : Ballot). AtMost b (ballot_in r)) (sym new) (at_most_self (ballot_in r))
+        ])
+
+    low_at : (k : ℕ) → In k others → ((k == j) ≡ true) × (k ≡ j) ⊎ ((k == j) ≡ false) × (k ≢ j) → AtMost (put st j (voted_turn r j (st j)).after k).store.promise (ballot_in r)
+    low_at k h (inl same) = subst (λ (m : ℕ). AtMost (put st j (voted_turn r j (st j)).after m).store.promise (ballot_in r)) (sym same.1)
+        (subst (λ (s : Standing). AtMost s.store.promise (ballot_in r)) (sym (put_same st j (voted_turn r j (st j)).after)) voted_low)
+    low_at k h (inr other) = subst (λ (s : Standing). AtMost s.store.promise (ballot_in r)) (sym (put_other st j (voted_turn r j (st j)).after k other.1)) (p.low k h)
 
     framed : In (record { to = r.i; message = accepted_in r }) (voted_turn r j (st j)).frames
     framed = vote_framed r rest j (st j) (o.other j jin)
@@ -391,26 +422,43 @@ pub record Votes (r : Round) (others : List ℕ) (voters : List ℕ) (from : ℕ
   pub own : In r.i voters
   pub only : (m : ℕ) → In m voters → (m ≡ r.i) ⊎ (m < from)
   pub voted_so : (j : ℕ) → In j others → IsVoted r j sent
+  pub low : (j : ℕ) → In j others → AtMost (st j).store.promise (ballot_in r)
+
+abbrev pub MovedLow : Round → (ℕ → Standing) → Type 0
+MovedLow r st = HasMovedOn r.i (slot_in r) r.commands st × IsLow r st
 
 abbrev heard_turn : Round → Standing → ℕ → Turn
 heard_turn r s j = joined (joined (still (with_heard_vote r s j)) (still (with_heard_vote r s j))) (asking j (accepted_in r) (with_heard_vote r s j))
 
 all_votes : (r : Round) → IsRest r → (others : List ℕ) → Others r others → (todo : List ℕ) (j from : ℕ) (voters : List ℕ) → ToCome r others from (j ∷ todo) → length voters + suc (length todo) ≡ length r.members
     → (st : ℕ → Standing) (sent : List Sent) → Votes r others voters from st sent
-    → GoOn (place_in r.setting r.n r.deals) (HasMovedOn r.i (slot_in r) r.commands) st sent (map (λ k. delivers k r.i (accepted_in r)) (j ∷ todo))
+    → GoOn (place_in r.setting r.n r.deals) (MovedLow r) st sent (map (λ k. delivers k r.i (accepted_in r)) (j ∷ todo))
 all_votes r rest others o [] j from voters c size st sent p =
-    deliver r (HasMovedOn r.i (slot_in r) r.commands) st sent j r.i (accepted_in r) [] l.turn p.leading.up (p.voted_so j jin).reads (p.voted_so j jin).way l.goes
-    (λ back. ended (place_in r.setting r.n r.deals) (HasMovedOn r.i (slot_in r) r.commands) (put st r.i l.turn.after) (sent_by r.i l.turn.frames ++ sent)
-    (subst (λ (s : Standing). (slot_in r + length r.commands ≤ front_of s) × AreKnown s.learned.log (slot_in r) r.commands) (sym (put_same st r.i l.turn.after))
-    (l.learned.passed, l.learned.known)))
+    deliver r (MovedLow r) st sent j r.i (accepted_in r) [] l.turn p.leading.up (p.voted_so j jin).reads (p.voted_so j jin).way l.goes
+    (λ back. ended (place_in r.setting r.n r.deals) (MovedLow r) (put st r.i l.turn.after) (sent_by r.i l.turn.frames ++ sent) (
+      subst (λ (s : Standing). (slot_in r + length r.commands ≤ front_of s) × AreKnown s.learned.log (slot_in r) r.commands) (sym here) (l.learned.passed, l.learned.known),
+      record {
+        seen = subst (λ (s : Standing). AtMost s.seen (ballot_in r)) (sym here) l.seen;
+        own = ap (λ (s : Standing). s.store.promise) here ∙ l.promise;
+        promises = λ k h. low_at k h (eqb_tells k r.i);
+      },
+    ))
   where
     jin : In j others
     jin = c.inside j (inl refl)
 
     l : LastTurn r (st r.i) j
     l = last_turn r rest voters (st r.i) p.leading j (rest.low j (o.member j (c.inside j (inl refl)))) (all_in r others o voters from j c p.done p.own)
+
+    here : put st r.i l.turn.after r.i ≡ l.turn.after
+    here = put_same st r.i l.turn.after
+
+    low_at : (k : ℕ) → In k r.members → ((k == r.i) ≡ true) × (k ≡ r.i) ⊎ ((k == r.i) ≡ false) × (k ≢ r.i) → AtMost (put st r.i l.turn.after k).store.promise (ballot_in r)
+    low_at k h (inl same) = subst (λ (m : ℕ). AtMost (put st r.i l.turn.after m).store.promise (ballot_in r)) (sym same.1)
+        (subst (λ (b : Ballot). AtMost b (ballot_in r)) (sym (ap (λ (s : Standing). s.store.promise) here ∙ l.promise)) (at_most_self (ballot_in r)))
+    low_at k h (inr other) = subst (λ (s : Standing). AtMost s.store.promise (ballot_in r)) (sym (put_other st r.i l.turn.after k other.1)) (p.low k (o.all k h other.1))
 all_votes r rest others o (next ∷ todo) j from voters c size st sent p =
-    deliver r (HasMovedOn r.i (slot_in r) r.commands) st sent j r.i (accepted_in r) (map (λ k. delivers k r.i (accepted_in r)) (next ∷ todo)) (heard_turn r (st r.i) j)
+    deliver r (MovedLow r) st sent j r.i (accepted_in r) (map (λ k. delivers k r.i (accepted_in r)) (next ∷ todo)) (heard_turn r (st r.i) j)
     p.leading.up (p.voted_so j (c.inside j (inl refl))).reads (p.voted_so j (c.inside j (inl refl))).way
     (accepted_goes r rest voters (st r.i) p.leading j (distinct_more r rest others o voters from j (next ∷ todo) c p.only p.distinct) (half r rest (suc (length voters)) (length todo) (omega (arith, size))))
     (λ back. all_votes r rest others o todo next (j + 1) (j ∷ voters) (next_come r others from j (next ∷ todo) c) (omega (arith, size)) (put st r.i (heard_turn r (st r.i) j).after)
@@ -422,6 +470,7 @@ all_votes r rest others o (next ∷ todo) j from voters c size st sent p =
       own = inr p.own;
       only = only_more r others voters from j (next ∷ todo) c p.only;
       voted_so = λ k h. voted_later r k (sent_by r.i (heard_turn r (st r.i) j).frames) sent (p.voted_so k h);
+      low = λ k h. subst (λ (s : Standing). AtMost s.store.promise (ballot_in r)) (sym (put_other st r.i (heard_turn r (st r.i) j).after k (o.other k h))) (p.low k h);
     }))
 
 -- ---- the whole
@@ -438,10 +487,11 @@ begun_state r rest = record {
   store = refl;
   learned = refl;
   pending = refl;
+  seen = at_most_of_below (r.standings r.i).seen (ballot_in r) (seen_below r.i (r.standings r.i));
 }
 
 by_others : (r : Round) → IsRest r → (others : List ℕ) → Others r others
-    → GoOn (place_in r.setting r.n r.deals) (HasMovedOn r.i (slot_in r) r.commands) r.standings []
+    → GoOn (place_in r.setting r.n r.deals) (MovedLow r) r.standings []
     (Ticks r.i ∷ (map (λ j. delivers r.i j (prepare_in r)) others ++ (map (λ j. delivers j r.i (promise_in r j)) others
     ++ (map (λ j. delivers r.i j (accept_in r)) others ++ map (λ j. delivers j r.i (accepted_in r)) others))))
 by_others r rest [] o = absurd (let q = rest.quorum.most in let m = r.given.least_nodes r.n rest.few in let s = o.size in omega (arith, q, m, s))
@@ -470,13 +520,14 @@ by_others r rest (j ∷ todo) o =
     })
     (map (λ k. delivers r.i k (accept_in r)) others ++ map (λ k. delivers k r.i (accepted_in r)) others)
     (λ st sent p. all_accepts r rest others o others 0 come Moved st sent p (map (λ k. delivers k r.i (accepted_in r)) others)
-    (λ st sent leading voted_so. all_votes r rest others o todo j 0 (r.i ∷ []) come (let s = o.size in omega (arith, s)) st sent (record {
+    (λ st sent leading voted_so low. all_votes r rest others o todo j 0 (r.i ∷ []) come (let s = o.size in omega (arith, s)) st sent (record {
       leading = leading;
       distinct = (rest.low r.i rest.member, (λ h. h), tt);
       done = λ m h l. absurd (omega arith);
       own = inl refl;
       only = λ m h. elim h [ inl e ↦ inl e | inr none ↦ absurd none ];
       voted_so = voted_so;
+      low = low;
     })))))
   where
     others : List ℕ
@@ -486,8 +537,8 @@ by_others r rest (j ∷ todo) o =
     come = first_come r (j ∷ todo) o
 
     Moved : (ℕ → Standing) → Type 0
-    Moved = HasMovedOn r.i (slot_in r) r.commands
+    Moved = MovedLow r
 
 -- the round of members at rest
-pub rounds_go_on : (r : Round) → IsRest r → GoOn (place_in r.setting r.n r.deals) (HasMovedOn r.i (slot_in r) r.commands) r.standings [] (round r.standings r.i r.members r.commands)
+pub rounds_go_on : (r : Round) → IsRest r → GoOn (place_in r.setting r.n r.deals) (MovedLow r) r.standings [] (round r.standings r.i r.members r.commands)
 rounds_go_on r rest = by_others r rest (without r.i r.members) (others_of r rest)

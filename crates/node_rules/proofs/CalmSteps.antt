@@ -52,6 +52,21 @@ pub deliver : (r : Round) (IsSo : (ℕ → Standing) → Type 0) (st : ℕ → S
 deliver r IsSo st sent from to w events t up read way e later =
     step (place_in r.setting r.n r.deals) IsSo st sent (delivers from to w) events t (w, refl, way) (λ outcome is. turn_of (place_at r to) (st to) from w t outcome up read e is) later
 
+-- with less said of the end
+
+pub go_on_to : (places : ℕ → Place) (IsSo Less : (ℕ → Standing) → Type 0) (st : ℕ → Standing) (sent : List Sent) (events : List Event) → ((new : ℕ → Standing) → IsSo new → Less new)
+    → GoOn places IsSo st sent events → GoOn places Less st sent events
+unfolding GoOn
+go_on_to places IsSo Less st sent [] less go = less st go
+go_on_to places IsSo Less st sent (event ∷ events) less (way, goes) = (
+  way,
+  λ outcome is. let g = goes outcome is in (
+    g.0,
+    g.1,
+    λ back. go_on_to places IsSo Less (put st (node_of event) (g.0).after) (sent_by (node_of event) (g.0).frames ++ sent) events less (g.2 back),
+  ),
+)
+
 -- with more frames on their way
 
 way_with : (sent more : List Sent) (event : Event) → Within sent more → IsOnItsWay sent event → IsOnItsWay more event

@@ -1,5 +1,5 @@
 -- The turns of a calm round.
-use Rattle.std.proofs.Common.{◌≡◌, ℕ, ◌<◌, ◌≤◌, ◌+◌, ◌*◌, ◌-◌, ◌⊎◌, inl, inr, Bool, true, false, true≢false, not, ◌&&◌, if◌then◌else◌, List, [], ◌∷◌, Option, Some, None, Result, Ok, Err, refl, sym, ap, subst, ◌∙◌, arith, length, replicate, get_or}
+use Rattle.std.proofs.Common.{◌≡◌, ℕ, ◌<◌, ◌≤◌, ◌+◌, ◌*◌, ◌-◌, ◌⊎◌, inl, inr, Bool, true, false, true≢false, not, ◌&&◌, if◌then◌else◌, List, [], ◌∷◌, map, Option, Some, None, Result, Ok, Err, refl, sym, ap, subst, ◌∙◌, arith, length, replicate, get_or}
 use Rattle.std.specs.Prelude.{nat_le, IsOk}
 use Rattle.std.proofs.lemmas.Bool.{lt-ltb, le-ltb, leb-true}
 use Rattle.paxos_wire.specs.declared.limits.TheConstants.{SLOTS, WINDOW}
@@ -11,7 +11,7 @@ use Rattle.slot_log.specs.Slots.{Log, IsLog, front}
 use Rattle.slot_log.specs.declared.command.Command.{Command}
 use Rattle.protocol_model.specs.Sets.{In}
 use Rattle.protocol_model.specs.Ballots.{Below, AtMost}
-use Rattle.protocol_model.specs.Messages.{Vote, Message, Accepted}
+use Rattle.protocol_model.specs.Messages.{Vote, Message, Accepted, vote_of}
 use Rattle.protocol_model.specs.Frames.{answers}
 use Rattle.protocol_model.specs.Quorums.{IsChosenIn}
 use Rattle.protocol_model.specs.Stores.{Store, promised}
@@ -42,7 +42,9 @@ use Rattle.node_rules.specs.Rules.{seeing, taking, asking, on_message}
 use Rattle.node_rules.specs.Calm.{IsLeastQuorum, ballot_after, IsUnheld, IsToldCommandRun, IsOwn}
 use Rattle.node_rules.specs.CalmRound.{place_in, AreKnown}
 use Rattle.node_rules.specs.Given.{Given}
-use Rattle.protocol_model.proofs.Ballots.{at_most_self, not_below, below_if, is_below_if}
+use Rattle.protocol_model.proofs.Ballots.{at_most_self, at_most_trans, at_most_of_below, not_below, below_if, is_below_if}
+use Rattle.protocol_model.proofs.Votes.{tells}
+use Rattle.node_rules.proofs.NextBallots.{highest_low}
 use Rattle.node_rules.proofs.OwnRuns.{unmarked}
 use Rattle.node_rules.proofs.Closing.{none_of_ballot}
 use Rattle.node_rules.proofs.Halting.{unled_by}
@@ -128,25 +130,38 @@ pub record ClosesSo (place : Place) (s : Standing) : Type 0 where
   pub turn : Turn
   pub closes_so : closing place s ≡ Ok turn
   pub same_log : turn.after.learned.log ≡ s.learned.log
+  pub same_seen : turn.after.seen ≡ s.seen
+  pub promise : (turn.after.store.promise ≡ s.store.promise) ⊎ ((k : Campaign) × (s.campaign ≡ Some k) × (turn.after.store.promise ≡ k.ballot))
 
-pub total_close : (place : Place) (s : Standing) (k : Campaign) → s.campaign ≡ Some k
+pub total_close : (g : Given) (place : Place) (s : Standing) (k : Campaign) → s.campaign ≡ Some k
     → ((made : AcceptRun) → run_by place.nodes k (front_of s) (own_value place s) ≡ Ok (Some made) → Fresh place s k made) → ClosesSo place s
-total_close place s k has fresh_if = by_room (nat_le SLOTS (front_of s)) refl
+total_close g place s k has fresh_if = by_room (nat_le SLOTS (front_of s)) refl
   where
     by_proposal : (r : Result (Option AcceptRun) ProposeFault) → nat_le SLOTS (front_of s) ≡ false → proposal_at place s ≡ r → ClosesSo place s
-    by_proposal (Ok None) room e = record { turn = still s; closes_so = quiet_close place s room e; same_log = refl }
-    by_proposal (Err fault) room e = record { turn = still (idle s); closes_so = room_close place s (Err fault) room e; same_log = refl }
+    by_proposal (Ok None) room e = record { turn = still s; closes_so = quiet_close place s room e; same_log = refl; same_seen = refl; promise = inl refl }
+    by_proposal (Err fault) room e = record { turn = still (idle s); closes_so = room_close place s (Err fault) room e; same_log = refl; same_seen = refl; promise = inl refl }
     by_proposal (Ok (Some made)) room e =
-        let f = fresh_if made (ap (λ (y : Option Campaign). run_from_campaign place.nodes y (front_of s) (own_value place s)) (sym has) ∙ e) in
-        record { turn = turn_made place s k made; closes_so = made_close place s k made room has e f; same_log = f.over.log }
+        let made_so : run_by place.nodes k (front_of s) (own_value place s) ≡ Ok (Some made) =
+        ap (λ (y : Option Campaign). run_from_campaign place.nodes y (front_of s) (own_value place s)) (sym has) ∙ e in
+        let f = fresh_if made made_so in
+        let tests = passed_run place.nodes k (front_of s) (own_value place s) made made_so in
+        record {
+          turn = turn_made place s k made;
+          closes_so = made_close place s k made room has e f;
+          same_log = f.over.log;
+          same_seen = refl;
+          promise = elim (g.command_run_promise s.store made.ballot made.slot made.commands) [ inl same ↦ inl same | inr new ↦ inr (k, has, new ∙ tests.ballot) ];
+        }
 
     by_lead : (b : Bool) → leads place.nodes s.campaign ≡ b → nat_le SLOTS (front_of s) ≡ true → ClosesSo place s
     by_lead true led room = record {
       turn = still (idle s);
       closes_so = λ j. if led j && room j then Ok (still (idle s)) else closing_by place (proposal_at place s) (record s { campaign = marked_run_from s.campaign (proposal_at place s) });
       same_log = refl;
+      same_seen = refl;
+      promise = inl refl;
     }
-    by_lead false led room = record { turn = still s; closes_so = unled_close place s led; same_log = refl }
+    by_lead false led room = record { turn = still s; closes_so = unled_close place s led; same_log = refl; same_seen = refl; promise = inl refl }
 
     by_room : (b : Bool) → nat_le SLOTS (front_of s) ≡ b → ClosesSo place s
     by_room true room = by_lead (leads place.nodes s.campaign) refl room
@@ -279,6 +294,28 @@ pub record IsPreparing (r : Round) (counted : List ℕ) (s : Standing) : Type 0 
   pub store : s.store ≡ promised (r.standings r.i).store (ballot_in r)
   pub learned : s.learned ≡ (r.standings r.i).learned
   pub pending : s.pending ≡ (r.standings r.i).pending
+  pub seen : AtMost s.seen (ballot_in r)
+
+-- a member's promise tells of no ballot above the node's
+told_from_low : (entries : List Entry) (top : Ballot) → ((entry : Entry) → In entry entries → AtMost entry.ballot top)
+    → (b : Ballot) → In b (map (λ (entry : Entry). entry.ballot) entries) → AtMost b top
+told_from_low [] top all b h = absurd h
+told_from_low (entry ∷ entries) top all b (inl e) = subst (λ (x : Ballot). AtMost x top) (sym e) (all entry (inl refl))
+told_from_low (entry ∷ entries) top all b (inr h) = told_from_low entries top (λ o k. all o (inr k)) b h
+
+told_low : (r : Round) → IsRest r → (j : ℕ) → In j r.members → (entry : Entry) → In entry (told_in r j) → AtMost entry.ballot (ballot_in r)
+told_low r rest j h entry there =
+    at_most_trans entry.ballot (r.standings j).store.promise (ballot_in r)
+    (rest.within j h entry.slot (vote_of entry) ((tells (r.standings j).store (slot_in r)).only entry there).1)
+    (at_most_of_below (r.standings j).store.promise (ballot_in r) (rest.above j h))
+
+pub counted_low : (r : Round) → IsRest r → (j : ℕ) → In j r.members → (s : Standing) → AtMost s.seen (ballot_in r) → AtMost (seeing (promise_in r j) s).seen (ballot_in r)
+counted_low r rest j h s low =
+    highest_low s.seen (ballot_in r) (ballot_in r ∷ map (λ (entry : Entry). entry.ballot) (told_in r j)) low
+    (λ b k. elim k [
+      | inl e ↦ subst (λ (x : Ballot). AtMost x (ballot_in r)) (sym e) (at_most_self (ballot_in r))
+      | inr t ↦ told_from_low (told_in r j) (ballot_in r) (told_low r rest j h) b t
+    ])
 
 -- with one promise more
 abbrev pub with_counted : (r : Round) (counted : List ℕ) (s : Standing) → IsPreparing r counted s → ℕ → Standing
@@ -296,8 +333,8 @@ more_counted r rest counted s p j distinct less out low =
     (not_in counted j out) (let m = r.given.most_nodes r.n rest.few in omega arith) p.counts
 
 pub preparing_more : (r : Round) → IsRest r → (counted : List ℕ) (s : Standing) (p : IsPreparing r counted s) (j : ℕ) → AreDistinct r.n counted → 2 * length counted ≤ r.n → (In j counted → ⊥) → j < r.n
-    → IsPreparing r (j ∷ counted) (with_counted r counted s p j)
-preparing_more r rest counted s p j distinct less out low = record {
+    → In j r.members → IsPreparing r (j ∷ counted) (with_counted r counted s p j)
+preparing_more r rest counted s p j distinct less out low member = record {
   up = p.up;
   campaign = with_promise r.n p.campaign j (ballot_in r) (slot_in r) (told_in r j);
   has = refl;
@@ -305,6 +342,7 @@ preparing_more r rest counted s p j distinct less out low = record {
   store = p.store;
   learned = p.learned;
   pending = p.pending;
+  seen = counted_low r rest j member s p.seen;
 }
 
 -- one that completes nothing
@@ -502,6 +540,8 @@ pub record IsLeading (r : Round) (voters : List ℕ) (s : Standing) : Type 0 whe
   pub sent : List Message
   pub marks : MarksSent sent campaign
   pub votes : (k : ℕ) (v : Vote) → s.store.votes k ≡ Some v → (k < slot_in r) ⊎ (slot_in r + length r.commands ≤ k) → v.ballot ≡ ballot_in r → ⊥
+  pub seen : AtMost s.seen (ballot_in r)
+  pub promise : s.store.promise ≡ ballot_in r
   pub log : s.learned.log ≡ (r.standings r.i).learned.log
   pub nodes : s.learned.nodes ≡ r.n
   pub more : List Message
@@ -538,6 +578,9 @@ more_only r came more l new j grows voters only voter k c h = elim (grows.only (
 
 abbrev pub with_heard_vote : (r : Round) (s : Standing) → ℕ → Standing
 with_heard_vote r s j = record (seeing (accepted_in r) s) { learned = hearing_run s.learned j (ballot_in r) (slot_in r) r.commands }
+
+heard_low : (r : Round) (s : Standing) → AtMost s.seen (ballot_in r) → AtMost (seeing (accepted_in r) s).seen (ballot_in r)
+heard_low r s low = highest_low s.seen (ballot_in r) (ballot_in r ∷ []) low (λ b k. elim k [ inl e ↦ subst (λ (x : Ballot). AtMost x (ballot_in r)) (sym e) (at_most_self (ballot_in r)) | inr none ↦ absurd none ])
 
 -- too few votes complete nothing
 too_few : (r : Round) → IsRest r → (voters : List ℕ) (s : Standing) (p : IsLeading r voters s) (j : ℕ) → AreDistinct r.n (j ∷ voters) → 2 * length (j ∷ voters) ≤ r.n
@@ -583,6 +626,8 @@ leading_more r rest voters s p j distinct less = record {
   sent = p.sent;
   marks = p.marks;
   votes = p.votes;
+  seen = heard_low r s p.seen;
+  promise = p.promise;
   log = (too_few r rest voters s p j distinct less).log ∙ p.log;
   nodes = r.given.run_nodes s.learned j (ballot_in r) (slot_in r) r.commands ∙ p.nodes;
   more = grows.grows.more;
@@ -619,11 +664,16 @@ has_learned r rest voters s p j low all =
     }) (λ m h. elim (all m h) [ inl e ↦ inl e | inr before ↦ inr (p.voted_in m before) ]) in
     record { passed = heard.0; known = heard.1 })
 
+same_campaign : (a b : Campaign) → ◌≡◌ {A = Option Campaign} (Some a) (Some b) → a ≡ b
+same_campaign a b e = cc
+
 -- the turn, which may propose further on
 pub record LastTurn (r : Round) (s : Standing) (j : ℕ) : Type 0 where
   pub turn : Turn
   pub goes : on_message (place_at r r.i) j (accepted_in r) s ≡ Ok turn
   pub learned : HasLearned r turn.after.learned
+  pub seen : AtMost turn.after.seen (ballot_in r)
+  pub promise : turn.after.store.promise ≡ ballot_in r
 
 pub last_turn : (r : Round) → IsRest r → (voters : List ℕ) (s : Standing) (p : IsLeading r voters s) (j : ℕ) → j < r.n → ((m : ℕ) → In m r.members → In m (j ∷ voters)) → LastTurn r s j
 last_turn r rest voters s p j low all = record {
@@ -635,6 +685,11 @@ last_turn r rest voters s p j low all = record {
     passed = subst (λ (y : Log). slot_in r + length r.commands ≤ front y) (sym c.same_log) l.passed;
     known = subst (λ (y : Log). AreKnown y (slot_in r) r.commands) (sym c.same_log) l.known;
   });
+  seen = subst (λ (b : Ballot). AtMost b (ballot_in r)) (sym (ap (λ (y : Standing). y.seen) (asked_same j (accepted_in r) c.turn.after) ∙ c.same_seen)) (heard_low r s p.seen);
+  promise = ap (λ (y : Standing). y.store.promise) (asked_same j (accepted_in r) c.turn.after) ∙ (elim c.promise [
+    | inl same ↦ same ∙ p.promise
+    | inr new ↦ new.2 ∙ (ap (λ (k : Campaign). k.ballot) (same_campaign new.0 p.campaign (sym new.1 ∙ p.has)) ∙ p.ballot)
+  ]);
 }
   where
     new : Learned
@@ -675,4 +730,4 @@ last_turn r rest voters s p j low all = record {
             let near = o.1 in omega (arith, far, near)
 
     c : ClosesSo (place_at r r.i) t.after
-    c = total_close (place_at r r.i) t.after p.campaign p.has fresh_if
+    c = total_close r.given (place_at r r.i) t.after p.campaign p.has fresh_if

@@ -14,8 +14,8 @@ use Rattle.slot_log.specs.declared.reason.Reason.TheVariants.{MatchDone, HandRun
 use Rattle.protocol_model.specs.Sets.{put}
 use Rattle.protocol_model.specs.Worlds.{World}
 use Rattle.protocol_model.proofs.Sets.{put_same}
-use Rattle.dealer_kind.specs.Kind.{hands_after}
-use Rattle.node_rules.specs.Standings.{Place, Standing, front_of, hands_at}
+use Rattle.dealer_kind.specs.Kind.{fits, hands_after}
+use Rattle.node_rules.specs.Standings.{Place, Standing, applied, front_of, hands_at}
 use Rattle.node_rules.specs.Turns.{Turn, NothingToAct}
 use Rattle.node_rules.specs.Proposing.{is_over, own_value}
 use Rattle.node_rules.specs.Seats.{away_at}
@@ -67,19 +67,24 @@ waits_while_running place s act e =
     waits_from place s (finished_count place.setting.game (hands_at place s)) (place.deals (finished_count place.setting.game (hands_at place s))) refl
     (λ deal has fit. running_unfit (is_over place s) (is_running place.setting.game (hands_at place s)) _ _ (next_runs place.setting.game (hands_at place s) act e) fit)
 
--- between hands it has its next deal
+-- between hands its next deal fits
+pub deal_fits_between : (place : Place) (s : Standing) (deal : List ℕ) → is_over place s ≡ false → away_at place s ≡ None → length deal ≡ 2 * place.setting.game.players + 5
+    → fits place.setting (applied s) (Deal (finished_count place.setting.game (hands_at place s)) deal) ≡ true
+deal_fits_between place s deal goes_on between size = λ j. is_none (if goes_on j then Some MatchDone
+    else if stops j then Some HandRunning
+    else if not (eq-eqb (finished_count place.setting.game (hands_at place s)) (finished_count place.setting.game (hands_at place s)) refl j) then Some WrongHand
+    else if not (eq-eqb (length deal) (2 * place.setting.game.players + 5) size j) then Some WrongCards
+    else None)
+  where
+    stops : is_running place.setting.game (hands_at place s) ≡ false
+    stops = none_runs place.setting.game (hands_at place s) between
+
+-- and it has that
 deals_between : (place : Place) (s : Standing) (deal : List ℕ) → is_over place s ≡ false → away_at place s ≡ None
     → place.deals (finished_count place.setting.game (hands_at place s)) ≡ Some deal → length deal ≡ 2 * place.setting.game.players + 5
     → own_value place s ≡ Some (Deal (finished_count place.setting.game (hands_at place s)) deal)
 deals_between place s deal goes_on between has size =
-    own_deals place s (finished_count place.setting.game (hands_at place s)) deal has (λ j. is_none (if goes_on j then Some MatchDone
-    else if stops j then Some HandRunning
-    else if not (eq-eqb (finished_count place.setting.game (hands_at place s)) (finished_count place.setting.game (hands_at place s)) refl j) then Some WrongHand
-    else if not (eq-eqb (length deal) (2 * place.setting.game.players + 5) size j) then Some WrongCards
-    else None))
-  where
-    stops : is_running place.setting.game (hands_at place s) ≡ false
-    stops = none_runs place.setting.game (hands_at place s) between
+    own_deals place s (finished_count place.setting.game (hands_at place s)) deal has (deal_fits_between place s deal goes_on between size)
 
 -- ---- the cases
 
@@ -129,10 +134,24 @@ closed_log place s turn (rests campaign e) = ap (λ (t : Turn). t.after.learned.
 closed_log place s turn (closes_with p) = ap (λ (t : Turn). t.after.learned.log) p.turn_is ∙ p.fresh.over.log
 
 -- what an order's turn leaves
-ordered_log : (g : Given) (own : ℕ → Command → Bool) (place : Place) (world : World) (s : Standing) (turn : Turn) (st : Stands own place world s) → OrderTurn (scope g own place world s st Away) s turn
+pub ordered_log : (g : Given) (own : ℕ → Command → Bool) (place : Place) (world : World) (s : Standing) (turn : Turn) (st : Stands own place world s) → OrderTurn (scope g own place world s st Away) s turn
     → turn.after.learned.log ≡ s.learned.log
 ordered_log g own place world s turn st o =
     ap (λ (t : Turn). t.after.learned.log) o.whole ∙ closed_log place (played_for place o.act s).after o.closes.turn o.closes.closed
+
+-- it promises nothing, and has seen nothing
+closed_met : (g : Given) (place : Place) (s : Standing) (turn : Turn) → Closed place s turn → (turn.after.store.promise ≡ s.store.promise) × (turn.after.seen ≡ s.seen)
+closed_met g place s turn (rests campaign e) = (ap (λ (t : Turn). t.after.store.promise) e, ap (λ (t : Turn). t.after.seen) e)
+closed_met g place s turn (closes_with p) = (
+  ap (λ (t : Turn). t.after.store.promise) p.turn_is ∙ elim (g.command_run_promise s.store p.made.ballot p.made.slot p.made.commands) [ inl same ↦ same | inr new ↦ new ∙ sym p.promised ],
+  ap (λ (t : Turn). t.after.seen) p.turn_is,
+)
+
+pub ordered_met : (g : Given) (own : ℕ → Command → Bool) (place : Place) (world : World) (s : Standing) (turn : Turn) (st : Stands own place world s) → OrderTurn (scope g own place world s st Away) s turn
+    → (turn.after.store.promise ≡ s.store.promise) × (turn.after.seen ≡ s.seen)
+ordered_met g own place world s turn st o =
+    let met = closed_met g place (played_for place o.act s).after o.closes.turn o.closes.closed in
+    (ap (λ (t : Turn). t.after.store.promise) o.whole ∙ met.0, ap (λ (t : Turn). t.after.seen) o.whole ∙ met.1)
 
 pub orders_help : Given → OrdersHelp
 orders_help g own setting n deals world standings i members outcome are among up room awaiting is_turn = by_splits (order_splits g own place world (standings i) st up outcome rule)

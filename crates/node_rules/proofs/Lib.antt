@@ -2,6 +2,7 @@ mod Carrying
 pub mod Results
 mod Telling
 mod Ordering
+mod NextBallots
 mod Proposed
 mod OwnRuns
 mod Sourcing
@@ -64,6 +65,10 @@ mod Counted
 mod Valued
 mod HeldRuns
 mod Cases
+mod Afterwards
+mod Fitting
+mod EndingSteps
+mod Ending
 mod Created
 pub mod Examples
 pub mod TurnExamples
@@ -71,3 +76,4 @@ mod OrderExamples
 pub mod OutcomeExamples
 pub mod CalmExamples
 pub mod WayExamples
+mod CaseExamples

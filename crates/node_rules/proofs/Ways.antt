@@ -1,5 +1,5 @@
 -- The two ways on, and that there is always one.
-use Rattle.std.proofs.Common.{◌≡◌, ◌≢◌, ℕ, suc, ◌+◌, ◌*◌, ◌^◌, ◌<◌, ◌⊎◌, inl, inr, Bool, true, false, List, [], ◌∷◌, ◌++◌, Option, map, length, length-append, refl, sym, ap, subst, arith}
+use Rattle.std.proofs.Common.{◌≡◌, ◌≢◌, ℕ, suc, ◌+◌, ◌*◌, ◌^◌, ◌<◌, ◌≤◌, ◌⊎◌, inl, inr, Bool, true, false, List, [], ◌∷◌, ◌++◌, Option, map, length, length-append, refl, sym, ap, subst, arith}
 use Rattle.std.proofs.lemmas.List.{length-map}
 use Rattle.std.proofs.lemmas.Bool.Decides.{eqb_tells}
 use Rattle.paxos_wire.specs.declared.ballot.Ballot.{Ballot}
@@ -22,26 +22,16 @@ use Rattle.node_rules.specs.Calm.{without, ballot_after, Event, Ticks, delivers,
 use Rattle.node_rules.specs.CalmRound.{place_in, GoOn, HasMovedOn, AreOf, CalmRoundMoves}
 use Rattle.node_rules.specs.Ways.{Movable, AreUnpromised, PromisedMost, Outbids, two_ballots, IsWay, at_once, outbid, HasShortWay, NoDeadEnd, MostIsUnpromised, CalmIsMovable}
 use Rattle.node_rules.specs.Given.{Given}
-use Rattle.node_rules.proofs.Ordering.{higher_is}
+use Rattle.node_rules.proofs.NextBallots.{below_next, promise_below, seen_below}
 use Rattle.node_rules.proofs.Members.{above_all, rise_distinct, without_in, in_without, without_length}
 use Rattle.node_rules.proofs.KeptVotes.{KeepsVotes, keeps_self}
 use Rattle.node_rules.proofs.CalmTurns.{Round, IsRest}
-use Rattle.node_rules.proofs.CalmSteps.{with_more_sent}
-use Rattle.node_rules.proofs.CalmRound.{rounds_go_on}
+use Rattle.node_rules.proofs.CalmSteps.{go_on_to, with_more_sent}
+use Rattle.node_rules.proofs.CalmRound.{MovedLow, rounds_go_on}
 use Rattle.node_rules.proofs.Calming.{unspent, rest_by}
 use Rattle.node_rules.proofs.OutbidTurns.{outbid_standings, outbid_own, stored_same, outbid_keeps, next_is, outbid_goes}
 
 -- ---- who promised most
-
-below_next : (i : ℕ) (b : Ballot) → Below b (next_ballot i b)
-below_next i b = inl (omega arith)
-
--- neither a promise nor a ballot seen is as high as the node's next one
-promise_below : (i : ℕ) (s : Standing) → Below s.store.promise (ballot_after i s)
-promise_below i s = below_of_at_most s.store.promise (greatest_seen s) (ballot_after i s) (higher_is s.seen s.store.promise).1 (below_next i (greatest_seen s))
-
-seen_below : (i : ℕ) (s : Standing) → Below s.seen (ballot_after i s)
-seen_below i s = below_of_at_most s.seen (greatest_seen s) (ballot_after i s) (higher_is s.seen s.store.promise).0 (below_next i (greatest_seen s))
 
 pub most_is_unpromised : MostIsUnpromised
 most_is_unpromised standings members j most node h =
@@ -92,7 +82,7 @@ most_among standings i (m ∷ members) h = most_of standings m members
 
 -- ---- how long they are
 
-length_round : (ballot : Ballot) (standings : ℕ → Standing) (i : ℕ) (members : List ℕ) (commands : List Command) → length (round_by ballot standings i members commands) ≡ 1 + 4 * length (without i members)
+pub length_round : (ballot : Ballot) (standings : ℕ → Standing) (i : ℕ) (members : List ℕ) (commands : List Command) → length (round_by ballot standings i members commands) ≡ 1 + 4 * length (without i members)
 length_round ballot standings i members commands =
     let others : List ℕ = without i members in
     let asks : ℕ → Event = λ j. delivers i j (Prepare ballot (front_of (standings i))) in
@@ -161,28 +151,55 @@ round_same ballot other a b i members commands same fronts stores = λ k.
         ≡ map (λ j. delivers j i (Promise other (front_of (b i)) (told_by (b j).store (front_of (b i))))) (without i members)
     told = map_same _ _ (without i members) (λ j h k. delivers j i (Promise (same k) (fronts k) (told_by (stores j h k) (fronts k))))
 
+-- where a way leads: the front has passed the commands, and no member has promised a ballot above the last one, nor has the node seen one, which it has promised
+-- itself and which isn't of a round above this one
+pub record MovesLow (i : ℕ) (members : List ℕ) (slot : ℕ) (commands : List Command) (most : ℕ) (new : ℕ → Standing) : Type 0 where
+  pub moved : HasMovedOn i slot commands new
+  pub ballot : Ballot
+  pub round : ballot.round ≤ most
+  pub seen : AtMost (new i).seen ballot
+  pub own : (new i).store.promise ≡ ballot
+  pub promises : (k : ℕ) → In k members → AtMost (new k).store.promise ballot
+
 -- in one round
 pub one_round : (g : Given) (own : ℕ → Command → Bool) (setting : Setting) (n : ℕ) (deals : ℕ → ℕ → Option (List ℕ)) (world : World) (standings : ℕ → Standing) (i : ℕ) (members : List ℕ) (commands : List Command)
-    → AreOf own setting n deals world standings members → Movable (place_in setting n deals i) standings i members commands → AreUnpromised standings i members
-    → GoOn (place_in setting n deals) (HasMovedOn i (front_of (standings i)) commands) standings [] (round standings i members commands)
-one_round g own setting n deals world standings i members commands are movable unpromised =
-    rounds_go_on (record { given = g; setting = setting; n = n; deals = deals; standings = standings; i = i; members = members; commands = commands })
-    (rest_by g own setting n deals world standings standings i members commands are movable (λ k h. keeps_self (standings k)) movable.seen_left unpromised)
+    (most : ℕ) → AreOf own setting n deals world standings members → Movable (place_in setting n deals i) standings i members commands → AreUnpromised standings i members
+    → (greatest_seen (standings i)).round < most
+    → GoOn (place_in setting n deals) (MovesLow i members (front_of (standings i)) commands most) standings [] (round standings i members commands)
+one_round g own setting n deals world standings i members commands most are movable unpromised low =
+    go_on_to (place_in setting n deals) (MovedLow r) (MovesLow i members (front_of (standings i)) commands most) standings [] (round standings i members commands)
+    (λ new so. let end = so.1 in record { moved = so.0; ballot = ballot_after i (standings i); round = omega (arith, low); seen = end.seen; own = end.own; promises = end.promises })
+    (rounds_go_on r (rest_by g own setting n deals world standings standings i members commands are movable (λ k h. keeps_self (standings k)) movable.seen_left unpromised))
+  where
+    r : Round
+    r = record { given = g; setting = setting; n = n; deals = deals; standings = standings; i = i; members = members; commands = commands }
 
 -- by a ballot that is refused, and the round of the next
 pub by_two_ballots : (g : Given) (own : ℕ → Command → Bool) (setting : Setting) (n : ℕ) (deals : ℕ → ℕ → Option (List ℕ)) (world : World) (standings : ℕ → Standing) (i : ℕ) (members : List ℕ) (commands : List Command)
-    (j : ℕ) → AreOf own setting n deals world standings members → Movable (place_in setting n deals i) standings i members commands → Outbids standings i members j
-    → GoOn (place_in setting n deals) (HasMovedOn i (front_of (standings i)) commands) standings [] (two_ballots standings i members commands j)
-by_two_ballots g own setting n deals world standings i members commands j are movable bid =
+    (most j : ℕ) → AreOf own setting n deals world standings members → Movable (place_in setting n deals i) standings i members commands → Outbids standings i members j
+    → (standings j).store.promise.round < most
+    → GoOn (place_in setting n deals) (MovesLow i members (front_of (standings i)) commands most) standings [] (two_ballots standings i members commands j)
+by_two_ballots g own setting n deals world standings i members commands top j are movable bid told_low =
     outbid_goes r j low other (movable.up i movable.member) (movable.up j member) (are.is_place i movable.member).few movable.goes_on (unspent i (standings i) movable.seen_left movable.slot_left)
-    bid.above ((are.of j member).runs (movable.up j member)).settled (HasMovedOn i (front_of (standings i)) commands) (round_by (next_ballot i promise) standings i members commands)
-    (λ more. with_more_sent (place_in setting n deals) (HasMovedOn i (front_of (standings i)) commands) (outbid_standings r j) [] more (round_by (next_ballot i promise) standings i members commands) (λ x h. absurd h)
-    (subst (GoOn (place_in setting n deals) (HasMovedOn i (front_of (standings i)) commands) (outbid_standings r j) []) same_round
-    (subst (λ (slot : ℕ). GoOn (place_in setting n deals) (HasMovedOn i slot commands) (outbid_standings r j) [] (round (outbid_standings r j) i members commands)) same_front
+    bid.above ((are.of j member).runs (movable.up j member)).settled Ended (round_by (next_ballot i promise) standings i members commands)
+    (λ more. with_more_sent (place_in setting n deals) Ended (outbid_standings r j) [] more (round_by (next_ballot i promise) standings i members commands) (λ x h. absurd h)
+    (subst (GoOn (place_in setting n deals) Ended (outbid_standings r j) []) same_round
+    (go_on_to (place_in setting n deals) (MovedLow (record r { standings = outbid_standings r j })) Ended (outbid_standings r j) [] (round (outbid_standings r j) i members commands)
+    (λ new so. let end = so.1 in record {
+      moved = subst (λ (slot : ℕ). HasMovedOn i slot commands new) same_front so.0;
+      ballot = ballot_after i (outbid_standings r j i);
+      round = subst (λ (b : Ballot). b.round ≤ top) (sym next) (omega (arith, told_low));
+      seen = end.seen;
+      own = end.own;
+      promises = end.promises;
+    })
     (rounds_go_on (record r { standings = outbid_standings r j }) rest))))
   where
     r : Round
     r = record { given = g; setting = setting; n = n; deals = deals; standings = standings; i = i; members = members; commands = commands }
+
+    Ended : (ℕ → Standing) → Type 0
+    Ended = MovesLow i members (front_of (standings i)) commands top
 
     promise : Ballot
     promise = (standings j).store.promise
@@ -232,17 +249,48 @@ by_two_ballots g own setting n deals world standings i members commands j are mo
         (λ k h. subst (Below (outbid_standings r j k).store.promise) (sym next)
         (below_of_at_most (outbid_standings r j k).store.promise (standings j).store.promise (next_ballot i (standings j).store.promise) (most k h) (below_next i (standings j).store.promise)))
 
+-- of either, where this round is above all that the node has met and that the members have promised
+pub way_low : (g : Given) (own : ℕ → Command → Bool) (setting : Setting) (n : ℕ) (deals : ℕ → ℕ → Option (List ℕ)) (world : World) (standings : ℕ → Standing) (i : ℕ) (members : List ℕ) (commands : List Command)
+    (most : ℕ) → AreOf own setting n deals world standings members → Movable (place_in setting n deals i) standings i members commands
+    → (greatest_seen (standings i)).round < most → ((k : ℕ) → In k members → (standings k).store.promise.round < most)
+    → (events : List Event) → IsWay standings i members commands events
+    → GoOn (place_in setting n deals) (MovesLow i members (front_of (standings i)) commands most) standings [] events
+way_low g own setting n deals world standings i members commands most are movable met promises events (at_once unpromised e) =
+    subst (GoOn (place_in setting n deals) (MovesLow i members (front_of (standings i)) commands most) standings []) (sym e)
+    (one_round g own setting n deals world standings i members commands most are movable unpromised met)
+way_low g own setting n deals world standings i members commands most are movable met promises events (outbid j bid e) =
+    subst (GoOn (place_in setting n deals) (MovesLow i members (front_of (standings i)) commands most) standings []) (sym e)
+    (by_two_ballots g own setting n deals world standings i members commands most j are movable bid (promises j (without_in i members j bid.member).0))
+
 -- ---- the laws
+
+-- a round above all that some members have promised
+record HasTop (standings : ℕ → Standing) (members : List ℕ) (least : ℕ) : Type 0 where
+  most : ℕ
+  above : least < most
+  promises : (k : ℕ) → In k members → (standings k).store.promise.round < most
+
+top_of : (standings : ℕ → Standing) (least : ℕ) (members : List ℕ) → HasTop standings members least
+top_of standings least [] = record { most = least + 1; above = omega arith; promises = λ k h. absurd h }
+top_of standings least (m ∷ members) =
+    let later = top_of standings least members in
+    let above = later.above in
+    record {
+      most = later.most + (standings m).store.promise.round + 1;
+      above = omega (arith, above);
+      promises = λ k h. elim h [
+        | inl e ↦ subst (λ (x : ℕ). (standings x).store.promise.round < later.most + (standings m).store.promise.round + 1) (sym e) (omega arith)
+        | inr there ↦ (let l = later.promises k there in omega (arith, l))
+      ];
+    }
 
 way_goes : (g : Given) (own : ℕ → Command → Bool) (setting : Setting) (n : ℕ) (deals : ℕ → ℕ → Option (List ℕ)) (world : World) (standings : ℕ → Standing) (i : ℕ) (members : List ℕ) (commands : List Command)
     → AreOf own setting n deals world standings members → Movable (place_in setting n deals i) standings i members commands → (events : List Event) → IsWay standings i members commands events
     → GoOn (place_in setting n deals) (HasMovedOn i (front_of (standings i)) commands) standings [] events
-way_goes g own setting n deals world standings i members commands are movable events (at_once unpromised e) =
-    subst (GoOn (place_in setting n deals) (HasMovedOn i (front_of (standings i)) commands) standings []) (sym e)
-    (one_round g own setting n deals world standings i members commands are movable unpromised)
-way_goes g own setting n deals world standings i members commands are movable events (outbid j bid e) =
-    subst (GoOn (place_in setting n deals) (HasMovedOn i (front_of (standings i)) commands) standings []) (sym e)
-    (by_two_ballots g own setting n deals world standings i members commands j are movable bid)
+way_goes g own setting n deals world standings i members commands are movable events way =
+    let top = top_of standings (greatest_seen (standings i)).round members in
+    go_on_to (place_in setting n deals) (MovesLow i members (front_of (standings i)) commands top.most) (HasMovedOn i (front_of (standings i)) commands) standings [] events (λ new low. low.moved)
+    (way_low g own setting n deals world standings i members commands top.most are movable top.above top.promises events way)
 
 pub no_dead_end : Given → NoDeadEnd
 no_dead_end g own setting n deals world standings i members commands are movable = (

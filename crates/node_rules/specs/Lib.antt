@@ -20,6 +20,7 @@ pub mod Calm
 pub mod CalmRound
 pub mod Ways
 pub mod Cases
+pub mod Endings
 pub mod LawsTick
 pub mod LawsAnswers
 pub mod LawsBacking

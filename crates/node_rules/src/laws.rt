@@ -2,6 +2,7 @@
 
 ghost use Rattle.node_rules.specs.CalmRound.{CalmRoundMoves, FreshIsCalm};
 ghost use Rattle.node_rules.specs.Cases.{EachHasACase, OrdersHelp};
+ghost use Rattle.node_rules.specs.Endings.{MatchesCanEnd};
 ghost use Rattle.node_rules.specs.Given.{Given};
 ghost use Rattle.node_rules.specs.Outcomes.{PromisesMakeProposals, FrontIsUnknown, ToldIsKnown, VotesStayInTime, QuorumIsKnown};
 ghost use Rattle.node_rules.specs.Sound.{TurnsAreChains, AppendsAreBegun, CallsAreSound, LinesAreRefusedDown};
@@ -19,6 +20,7 @@ ghost use Rattle.node_rules.specs.LawsValue.{DealsComeFirst};
 ghost use Rattle.node_rules.specs.LawsVotes.{OwnVotesAreInTime, RefusedBallotsEnd};
 ghost use Rattle.node_rules.specs.Ways.{NoDeadEnd, MostIsUnpromised, CalmIsMovable};
 
+use betting::laws::hands_end;
 use dealer_kind::laws::{answers_are_heard, nodes_are_few_and_odd, orders_play_for_the_next};
 use learner::laws::{
     answers_of_runs_count, chosen_is_known, command_runs_are_known, completed_is_chosen,
@@ -32,7 +34,7 @@ use proposer::laws::{
 };
 use protocol_model::laws::{
     answers_have_proposals, backing_lasts, chains_reach, command_runs_are_carried,
-    command_runs_are_moves, known_is_chosen, one_choice, one_node_is_no_quorum,
+    command_runs_are_moves, known_is_chosen, one_choice, one_dealer, one_node_is_no_quorum,
 };
 use seat_session::laws::{any_pieces, runs_go_on, whole_lines};
 use slot_log::laws::{
@@ -177,6 +179,20 @@ pub fn members_have_cases()
     ensures orders { OrdersHelp }
 {
     layers_below();
+}
+
+/// Every match can be ended, at each node that has its deals, with each least quorum to which it belongs: by starts of the
+/// members that are down, and then by ticks of the node, orders of the default action at it, and frames that these made.
+///
+/// With q members, N commands at most in the hands of the match, and the node's front at f, that takes at most
+/// q + 3 + (N - f)(4q - 2) events, as long as the rounds that the members have seen or promised lie N + 2 below 2^32. None
+/// of these events is refused. Which frames come is said by the turns before them.
+pub fn matches_can_end()
+    ensures { MatchesCanEnd }
+{
+    layers_below();
+    one_dealer();
+    hands_end();
 }
 
 /// A cluster at rest moves: where the members of a least quorum are calm for one of them, its round goes on to its end,

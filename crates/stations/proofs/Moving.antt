@@ -1,5 +1,7 @@
 -- The ways of the processes of a match are those of a run of the rules.
-use Rattle.std.proofs.Common.{◌≡◌, ◌≢◌, ℕ, ◌+◌, ◌<◌, ◌≤◌, ◌⊎◌, inl, inr, Bool, true, false, ◌==◌, List, [], ◌∷◌, ◌++◌, length, get_or, set, Result, Ok, refl, ap, sym, ◌∙◌, subst, arith}
+use Rattle.std.proofs.Common.{◌≡◌, ◌≢◌, ℕ, ◌+◌, ◌<◌, ◌≤◌, ◌⊎◌, inl, inr, Bool, true, false, ◌==◌, List, [], ◌∷◌, ◌++◌, length, get_or, set, Result, Ok, IsTrue, refl, ap, sym, ◌∙◌, subst, arith}
+use Rattle.std.proofs.lemmas.Bool.Decides.{eqb_tells}
+use Rattle.promise_store.specs.declared.disk.Disk.{Ghosts}
 use Rattle.slot_log.specs.declared.command.Command.{Command}
 use Rattle.protocol_model.specs.Sets.{In, put}
 use Rattle.protocol_model.specs.Stores.{empty_store}
@@ -14,13 +16,23 @@ use Rattle.node_rules.specs.Calm.{Event}
 use Rattle.node_rules.specs.CalmRound.{node_of, call_of, AreKnown, HasMovedOn}
 use Rattle.node_rules.specs.Ways.{Movable, IsWay, HasShortWay}
 use Rattle.node_rules.proofs.Members.{above_all}
-use Rattle.node_rules.proofs.WayMembers.{way_in, movable_same, way_same}
+use Rattle.node_rules.proofs.WayMembers.{AllIn, way_in, movable_same, way_same}
+use Rattle.dealer_node.specs.Nodes.{Node}
+use Rattle.dealer_node.specs.Members.{place_at}
+use Rattle.dealer_node.specs.Seeing.{member_in, runs, front_in, IsSeen}
+use Rattle.dealer_world.specs.declared.event.Event.{Event as Given}
+use Rattle.dealer_world.specs.Events.{node_of as given_to}
+use Rattle.dealer_world.specs.Stepping.{IsGiven}
+use Rattle.dealer_world.specs.CalmCluster.{AreEvents}
+use Rattle.dealer_world.specs.TakenEvents.{SoundEventsAreTaken}
+use Rattle.dealer_world.proofs.CalmCluster.{same_node}
 use Rattle.dealer_world.specs.Unforged.{IsUnforged}
 use Rattle.dealer_world.specs.RuleRuns.{State, plan_of}
 use Rattle.dealer_world.specs.CalmRun.{standing_at, TakesEvents, IsNextTaken, NoDeadEnd}
 use Rattle.stations.specs.Deeds.{Deed, Doing, deeds_of, record_of}
 use Rattle.stations.specs.Joining.{DidAt, IsTrueOrder, AreProcesses}
-use Rattle.stations.specs.Moving.{DoEvents, IsNextDone, ProcessesHaveNoDeadEnd}
+use Rattle.stations.specs.Stations.{deed_by, Look}
+use Rattle.stations.specs.Moving.{DoEvents, IsNextDone, ProcessesHaveNoDeadEnd, LooksDo, AreSeenAs, StationsHaveNoDeadEnd}
 use Rattle.stations.proofs.Joining.{from, length_from, at_place, set_place, run_of}
 
 abbrev state : List Source → (ℕ → Standing) → List Doing → State
@@ -115,3 +127,62 @@ processes_have_no_dead_end law setting sources histories all s i members command
               (subst (λ (f : ℕ). (f + length commands ≤ front_of (standing_at (plan_of setting sources) (state sources t later) i))
               × AreKnown (standing_at (plan_of setting sources) (state sources t later) i).learned.log f commands) (ap (λ (x : Standing). front_of x) (sym (same i movable.member))) (moved.2 none)),
         )
+
+-- ---- stations as they are seen
+
+module _ {D : Type 0} (g : Ghosts D) where
+  -- what stations did by events of a way, by the rules
+  record Done (plan : Plan) (s : ℕ → Standing) (all : List Doing) (ys : List Event) (later : List Doing) (new : ℕ → Look (Node D)) (members : List ℕ) : Type 0 where
+    after : ℕ → Standing
+    does : DoEvents plan s all ys after later
+    seen : AreSeenAs g plan new after members
+
+  -- one more, by the member that it was given to
+  seen_more : (plan : Plan) (looks : ℕ → Look (Node D)) (s : ℕ → Standing) (members : List ℕ) (j : ℕ) (next : Look (Node D)) (after : Standing) → AreSeenAs g plan looks s members
+      → IsSeen g next.node after → place_at (member_in next.node) ≡ place_of plan j → AreSeenAs g plan (put looks j next) (put s j after) members
+  seen_more plan looks s members j next after seen now placed k h = by_node (eqb_tells k j)
+    where
+      by_node : ((k == j) ≡ true) × (k ≡ j) ⊎ ((k == j) ≡ false) × (k ≢ j) → IsSeen g (put looks j next k).node (put s j after k) × (place_at (member_in (put looks j next k).node) ≡ place_of plan k)
+      by_node (inl same) =
+          subst (λ (m : ℕ). IsSeen g (put looks j next m).node (put s j after m) × (place_at (member_in (put looks j next m).node) ≡ place_of plan m)) (sym same.1)
+          (subst (λ (look : Look (Node D)). IsSeen g look.node (put s j after j) × (place_at (member_in look.node) ≡ place_of plan j)) (sym (put_same looks j next))
+          (subst (IsSeen g next.node) (sym (put_same s j after)) now, placed))
+      by_node (inr other) =
+          subst (λ (look : Look (Node D)). IsSeen g look.node (put s j after k) × (place_at (member_in look.node) ≡ place_of plan k)) (sym (put_other looks j next k other.1))
+          (subst (λ (x : Standing). IsSeen g (looks k).node x × (place_at (member_in (looks k).node) ≡ place_of plan k)) (sym (put_other s j after k other.1)) (seen k h))
+
+  done_by : SoundEventsAreTaken g → (plan : Plan) (members : List ℕ) (events : List Given) (ys : List Event) (s : ℕ → Standing) (all : List Doing) (looks new : ℕ → Look (Node D)) (later : List Doing)
+      → IsTrue g.is_honest → AreEvents events ys → AllIn members ys → AreSeenAs g plan looks s members → LooksDo g looks all events new later → Done plan s all ys later new members
+  done_by law plan members [] [] s all looks new later honest are inside seen (same, none) = record {
+    after = s;
+    does = (refl, none);
+    seen = subst (λ (l : ℕ → Look (Node D)). AreSeenAs g plan l s members) (sym same) seen;
+  }
+  done_by law plan members [] (y ∷ ys) s all looks new later honest are inside seen did = absurd are
+  done_by law plan members (e ∷ events) [] s all looks new later honest are inside seen did = absurd are
+  done_by law plan members (e ∷ events) (y ∷ ys) s all looks new later honest (is, are) inside seen (told, answer, next, acts, ample, sound, more) =
+      let j : ℕ = node_of y in
+      let here : given_to e ≡ node_of y = same_node e y is in
+      let given : IsGiven g e (looks j).node next.node told answer = subst (λ (k : ℕ). IsGiven g e (looks k).node next.node told answer) here acts.given in
+      let at = seen j (inside y (inl refl)) in
+      let taken = law (place_of plan j) e y (s j) (looks j).node next.node told answer at.1 here is honest at.0 given ample sound in
+      let deed : Deed = deed_by (runs (looks j).node) (front_in (looks j).node) e told answer in
+      let placed : place_at (member_in next.node) ≡ place_of plan j = ap place_at given.stays.member ∙ at.1 in
+      let rest : LooksDo g (put looks j next) (record { node = j; deed = deed } ∷ all) events new later =
+      subst (λ (k : ℕ). LooksDo g (put looks k next) (record { node = k; deed = deed_by (runs (looks k).node) (front_in (looks k).node) e told answer } ∷ all) events new later) here more in
+      let later_on = done_by law plan members events ys (put s j taken.after) (record { node = j; deed = deed } ∷ all) (put looks j next) new later honest are (λ z h. inside z (inr h))
+      (seen_more plan looks s members j next taken.after seen taken.now placed) rest in
+      record {
+        after = later_on.after;
+        does = (deed, taken.after, record { ruled = taken.ruled; untroubled = taken.untroubled }, later_on.does);
+        seen = later_on.seen;
+      }
+
+  pub stations_have_no_dead_end : NoDeadEnd → SoundEventsAreTaken g → StationsHaveNoDeadEnd g
+  stations_have_no_dead_end law taken setting sources histories all s looks new i members commands first rest events later honest processes did seen movable way are looks_do =
+      let inside : AllIn members first = (λ y h. way_in s i members commands (first ++ rest) movable.member way y (in_first first rest y h)) in
+      let d = done_by taken (plan_of setting sources) members events first s all looks new later honest are inside seen looks_do in
+      let moved = (processes_have_no_dead_end law setting sources histories all s i members commands processes did movable).1 first rest d.after later way d.does in (
+        moved.0,
+        λ none. let passed = moved.2 none in (d.after i, (d.seen i movable.member).0, passed.0, passed.1),
+      )

@@ -2,7 +2,7 @@
 
 ghost use Rattle.std.specs.Prelude.{map, option_map};
 ghost use Rattle.stations.specs.Joining.{ProcessesShowOneList, ProcessesAreBacked, ProcessesSendToNodes, ProcessesNeverConflict, ProcessesApplyTheChosen, ProcessesChooseOneList};
-ghost use Rattle.stations.specs.Moving.{ProcessesHaveNoDeadEnd};
+ghost use Rattle.stations.specs.Moving.{ProcessesHaveNoDeadEnd, StationsHaveNoDeadEnd};
 ghost use Rattle.stations.specs.Stations.{DeathsAtRestAreDeeds, DeathsInsideAreDeeds};
 ghost use Rattle.stations.specs.Incarnations.{IncarnationsAreDeeds};
 ghost use Rattle.stations.specs.Together.{StationsArePromised, ListsOfStationsArePromised};
@@ -13,7 +13,7 @@ use crate::station::Station;
 use dealer_node::laws::{images_are_seen, moments_pass, seen_as_one};
 use dealer_world::laws::{
     events_are_calls, no_dead_end, runs_apply_the_chosen, runs_are_backed, runs_choose_one_list,
-    runs_never_conflict, runs_send_to_nodes, runs_show_one_list,
+    runs_never_conflict, runs_send_to_nodes, runs_show_one_list, sound_events_are_taken,
 };
 use promise_store::Disk;
 
@@ -72,6 +72,16 @@ pub fn processes_have_no_dead_end()
     ensures { ProcessesHaveNoDeadEnd }
 {
     no_dead_end();
+}
+
+/// The same of stations, as they are seen, whose nodes' disks are honest: what they do by the events of a way, each given to
+/// its own, none answered 91 because its disk failed or 92, is in a true order behind all that was done, and at the end of
+/// the way that node's front has passed the commands.
+pub fn stations_have_no_dead_end<D: Disk + Drop>()
+    ensures { StationsHaveNoDeadEnd D.Disk }
+{
+    no_dead_end();
+    sound_events_are_taken::<D>();
 }
 
 /// So the tables that nodes had, of whatever processes of theirs and at whatever moments, are tables of one match: there is one
