@@ -46,6 +46,11 @@ FIRST, SOON = 75, ROUND + 10
 # In rounds: the gap between commands in the median, and each. Ballots, and connections that open behind the first command.
 MEDIAN, LONGEST, BALLOTS, JOINED = 1.5, 8, 10, 4
 
+# One slow disk of three: how long a sync takes; so many commands are played before a quick node is lost, and so soon the next one comes.
+ONE_SYNC, PLAYED, CALLS, BESIDE = 0.3, 1000, 5, 5
+# A test waits so long for commands that may not come at all.
+PATIENT = 60
+
 
 def slower_in(folder):
     """The library, made in a folder."""
@@ -56,16 +61,20 @@ def slower_in(folder):
 
 
 class SlowMatch(Match):
-    """A match in which the disks of nodes 0 and 1 are slow while a file is there."""
+    """A match in which the disks of some nodes are slow while a file is there: a sync takes so many seconds longer."""
+
+    def __init__(self, slow=(0, 1), sync=SYNC, **options):
+        super().__init__(**options)
+        self.slow, self.sync = slow, sync
 
     def set_up(self, *nodes):
         self.library, self.file = slower_in(self.folder), self.folder / "slow"
-        self.file.write_text(str(int(SYNC * 1_000_000)))
+        self.file.write_text(str(int(self.sync * 1_000_000)))
         super().set_up(*nodes)
 
     def start(self, *nodes, before=None):
         for node in nodes:
-            super().start(node, before=self.load if node < 2 else before)
+            super().start(node, before=self.load if node in self.slow else before)
 
     def load(self):
         """In a process that is to become the program."""
@@ -101,6 +110,25 @@ def two_slow_disks(seed, is_long):
     match.comes_to(len(match.seen) + 3, SOON)
     match.ends()
     return f"F {ROUND:g} s, first command after {first:.0f} s, median {median:.2f} F, longest {longest:.2f} F, {ballots} ballots"
+
+
+@test()
+def one_slow_disk(seed, is_long):
+    """Each sync of node 2 takes 0.3 s longer. The other two play a thousand commands; then node 0 is killed, and node 2 takes its place:
+    the next commands come within five calls of two syncs, and five seconds. Once its disk is quick all go on to the end."""
+    call = 2 * ONE_SYNC
+    match = SlowMatch(slow=(2,), sync=ONE_SYNC, hands=200).begin()
+    match.comes_to(PLAYED, PATIENT)
+    match.kill(0)
+    lost, before = time.monotonic(), len(match.seen)
+    # The first may have been chosen before.
+    match.comes_to(before + 2, PATIENT)
+    passed = time.monotonic() - lost
+    in_time(passed <= CALLS * call + BESIDE, f"{passed:.1f} s to the next command")
+    match.file.unlink()
+    match.start(0)
+    match.ends()
+    return f"the next command {passed:.1f} s behind the loss of a quick node"
 
 
 @test(seeds=3)

@@ -7,25 +7,9 @@ A process does one thing at a time: it reads all that came, calls its node for a
 what is due, and waits. A connection is as TCP's: in order, nothing lost while it stands, what a cut holds up comes once it
 heals, and what is under way when it ends is lost.
 """
-import importlib.machinery
-import importlib.util
-import sys
-from pathlib import Path
-
+from processes_aside import Aside
+from processes_nodes import TOP, nodes
 from processes_seats import Seating
-
-TOP = Path(__file__).resolve().parent.parent
-sys.dont_write_bytecode = True
-
-
-def module_of(name):
-    loader = importlib.machinery.SourceFileLoader(name, str(TOP / "tests" / name))
-    module = importlib.util.module_from_spec(importlib.util.spec_from_loader(name, loader))
-    loader.exec_module(module)
-    return module
-
-
-nodes = module_of("nodes")
 
 # What a process does and waits for, in milliseconds.
 BEAT, HANGUP, REPEAT, TURN = 50.0, 300.0, 100.0, 20.0
@@ -238,7 +222,8 @@ class Process:
         self.was_led, self.unquorate, self.over_since, self.silence = False, None, None, 1000.0
         self.quorate_since, self.replays, self.seating, self.ordered = now, False, Seating(self), None
         self.has_caught_up = False
-        self.next_beat, self.turn_began = now, now
+        self.next_beat, self.turn_began, self.aside = now, now, Aside(self)
+        self.has_kept_time = self.has_taken_aside = False
         self.log = []
         self.logs.append(self.log)
         self.until = now
@@ -296,7 +281,7 @@ class Process:
     def turn(self, life):
         if not self.up or life != self.life or self.busy or self.paused:
             return
-        self.turn_began = self.world.now
+        self.turn_began, self.has_kept_time, self.has_taken_aside = self.world.now, False, False
         self.read()
         self.tend()
         self.step()
@@ -307,25 +292,48 @@ class Process:
         new = [wire for _, wire, what in inbox if what[0] == "hello"]
         for sender, wire, what in sorted(inbox, key=lambda item: item[1] in new):
             if sender is None:
-                self.backlog.append(what[1])
+                self.backlog.append((None, None, what[1]))
             else:
                 getattr(self, "on_" + what[0])(self.peers[sender], wire, *what[1:])
 
     def step(self):
-        """Calls the node with what came, for a while; then does what is due."""
-        if self.backlog and self.world.now - self.turn_began < TURN:
-            self.call(self.backlog.pop(0))
-        elif not self.tick_if_due():
+        """Calls the node with what came, for a while; then does what is due; and then takes one frame that was set aside."""
+        if not self.take_next() and not self.keep_time() and not self.take_aside():
             self.rest()
+
+    def take_next(self):
+        """Calls the node with the next thing that came, unless the turn's calls have taken their time; whether it does."""
+        while self.backlog and self.world.now - self.turn_began < TURN:
+            sender, message, body = self.backlog.pop(0)
+            if sender is None or self.aside.lets(sender, message):
+                self.call(body)
+                return True
+        return False
+
+    def keep_time(self):
+        """Does what is due, once in a turn; whether the node is called for it."""
+        if self.has_kept_time:
+            return False
+        self.has_kept_time = True
+        return self.tick_if_due()
+
+    def take_aside(self):
+        """Calls the node with one frame that was set aside, once in a turn in which all that came was taken; whether it does."""
+        found = None if self.backlog or self.has_taken_aside else self.aside.next()
+        if found is None:
+            return False
+        self.has_taken_aside = True
+        self.call(self.frame_body(*found))
+        return True
 
     def rest(self):
         """Waits for what comes, or until a moment."""
-        if self.backlog or self.inbox:
+        if self.backlog or self.inbox or self.has_taken_aside:
             self.wake = self.world.now
             self.world.at(self.world.now, self.turn, self.life)
         else:
             self.seating.read_all()
-            self.wake = max(min(self.until, self.next_beat, self.next_forward()), self.world.now + 0.05)
+            self.wake = max(min(self.until, self.next_beat, self.next_forward(), self.aside.until()), self.world.now + 0.05)
             self.world.at(self.wake, self.awake, self.life, self.wake)
 
     def awake(self, life, when):
@@ -367,10 +375,7 @@ class Process:
         self.hand_on(answer)
         self.world.progressed(node.front)
         self.beat_all() if has_ended else self.beat_if_due()
-        if self.inbox and now - self.turn_began >= TURN:
-            self.turn(life)
-        else:
-            self.step()
+        self.step()
 
     def note_leader(self, leader):
         """A promise to a ballot tells that its node campaigns."""
@@ -565,7 +570,12 @@ class Process:
         if peer.owed is not None and message[0] in (nodes.PROMISE, nodes.ACCEPTED, nodes.REFUSE):
             if message[1:3] == peer.owed[1:3]:
                 peer.owed = peer.unanswered = None
-        self.backlog.append(lambda: self.node.call(lambda: self.node.frame(peer.number, message)))
+        self.aside.read(peer.number, message)
+        self.backlog.append((peer.number, message, self.frame_body(peer.number, message)))
+
+    def frame_body(self, sender, message):
+        """The call of the node by a frame."""
+        return lambda: self.node.call(lambda: self.node.frame(sender, message))
 
     def hear(self, peer):
         """Something came of a peer. No way is measured over a long silence, which is measured itself."""

@@ -6,6 +6,7 @@
 //!   of a wire failing once.
 //! - `caller_tests`: who dials node 0, byte for byte: taken, refused, counted, replaced.
 //! - `again_tests`: what is sent again, and what is owed.
+//! - `aside_tests`: which Prepares and Accepts of peers are told, and when.
 //! - `lives_tests`: what is said behind Hellos of the second version, and which lives are known by it.
 //! - `turn_tests`: in which version a peer is dialled, and when.
 //! - `coded_tests`: what is said over connections with codes: each byte of it changed, said again, and dropped in part.
@@ -15,6 +16,8 @@
 
 #[cfg(test)]
 mod again_tests;
+#[cfg(test)]
+mod aside_tests;
 #[cfg(test)]
 mod caller_tests;
 #[cfg(test)]

@@ -183,7 +183,7 @@ impl Side {
         self.wire.set_now(now);
         self.hear(now);
         for _ in 0..64 {
-            if !self.is_told() {
+            if !self.is_told(now) {
                 break;
             }
         }
@@ -195,9 +195,13 @@ impl Side {
         self.peers.hear(&mut self.wire, now);
     }
 
-    /// Whether something is told, which is then counted.
-    fn is_told(&mut self) -> bool {
-        match self.peers.next() {
+    /// Whether something is told, which is then counted: what came, and then what was set aside.
+    fn is_told(&mut self, now: u64) -> bool {
+        let notice = match self.peers.next() {
+            Some(notice) => Some(notice),
+            None => self.peers.next_aside(now),
+        };
+        match notice {
             Some(notice) => {
                 self.seen = and_notice(self.seen, &notice);
                 true

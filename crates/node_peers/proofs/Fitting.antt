@@ -1,10 +1,10 @@
 -- What the connections go by, as more passes and as connections are put in their places.
 use Rattle.std.proofs.Common.{◌≡◌, inl, inr, ◌⊎◌, ◌≢◌, ℕ, ◌+◌, ◌-◌, ◌<◌, ◌≤◌, Bool, true, false, if◌then◌else◌, cond, nat_lt, eqb, List, [], ◌∷◌, ◌++◌, append_assoc, append-nil, Option, Some, None, IfSome, Result, Ok, Err, refl, sym, ap, subst, ◌∙◌, get_or, set, length, take, arith}
 use Rattle.std.proofs.Math.Logic.{∥∥₁_map}
-use Rattle.std.proofs.lemmas.Bool.{eq-eqb, ne_eqb, ltb-false, le-ltb, lt-ltb}
+use Rattle.std.proofs.lemmas.Bool.{cases_lt, eq-eqb, ne_eqb, ltb-false, le-ltb, lt-ltb}
 use Rattle.std.proofs.Math.ListN.{get_or-eq_default}
 use Rattle.std.proofs.lemmas.Bool.Decides.{eqb_tells}
-use Rattle.std.proofs.lemmas.List.{get_or-set_same, get_or-set_other}
+use Rattle.std.proofs.lemmas.List.{get_or-set_same, get_or-set_other, length-set}
 use Rattle.node_wires.specs.declared.limits.TheConstants.{NODES}
 use Rattle.node_wires.specs.declared.line.Line.{Line}
 use Rattle.node_wires.specs.declared.line.Line.TheVariants.{Peer, Caller, Seat, Guest, Asker}
@@ -27,7 +27,7 @@ use Rattle.node_peers.specs.declared.notice.Notice.{Notice}
 use Rattle.node_peers.specs.declared.notice.Notice.TheVariants as notices
 use Rattle.node_peers.specs.Lines.{line_at, dialled_over}
 use Rattle.node_peers.specs.Adding.{Adds}
-use Rattle.node_peers.specs.Hearing.{talk_over, IsKept, IsOf, FitsBy, Fits, OpenedBy, IsOpened, IsTold, AreTold, OpensIn, OpensAt, KeepsOn, FitsOn, Moves, FitsThrough, TakesIn, SaysFrame, IsFresh}
+use Rattle.node_peers.specs.Hearing.{talk_over, IsKept, IsOf, FitsBy, Fits, OpenedBy, IsOpened, IsTold, AreTold, IsAside, AreAside, OpensIn, OpensAt, KeepsOn, FitsOn, Moves, FitsThrough, TakesIn, SaysFrame, IsFresh}
 use Rattle.node_peers.specs.declared.saying.Saying.{Saying}
 use Rattle.node_peers.specs.declared.saying.Saying.TheVariants as sayings
 use Rattle.node_peers.specs.Saying.{saying_of, SaidBy, SaidAt}
@@ -169,6 +169,40 @@ are_told_on own passed more (notice ∷ told) are = (told_on own passed more not
 pub one_told : (own : Own) (passed : List Passage) (told : List Notice) (notice : Notice) → AreTold own passed told → IsTold own passed notice → AreTold own passed (told ++ notice ∷ [])
 one_told own passed [] notice are is = (is, tt)
 one_told own passed (n ∷ told) notice are is = (are.0, one_told own passed told notice are.1 is)
+
+aside_on : (own : Own) (passed more : List Passage) (from : ℕ) (frame : Option Frame) → IsAside own passed from frame → IsAside own (passed ++ more) from frame
+aside_on own passed more from None is = tt
+aside_on own passed more from (Some frame) is = told_on own passed more (notices.Frame from frame) is
+
+pub are_aside_on : (own : Own) (passed more : List Passage) (frames : List (Option Frame)) → AreAside own passed frames → AreAside own (passed ++ more) frames
+are_aside_on own passed more frames are number = aside_on own passed more number (get_or frames number None) (are number)
+
+pub none_aside : (own : Own) (passed : List Passage) (frames : List (Option Frame)) → ((number : ℕ) → get_or frames number None ≡ None) → AreAside own passed frames
+none_aside own passed frames none number = subst (λ (f : Option Frame). IsAside own passed number f) (sym (none number)) tt
+
+-- another one is at a place, if there is such a place
+aside_here : (own : Own) (passed : List Passage) (frames : List (Option Frame)) (place : ℕ) (frame : Option Frame) → IsAside own passed place frame → (place < length frames) ⊎ (length frames ≤ place) → IsAside own passed place (get_or (set frames place frame) place None)
+aside_here own passed frames place frame is (inl within) = subst (λ (f : Option Frame). IsAside own passed place f) (sym (get_or-set_same frames place frame None within)) is
+aside_here own passed frames place frame is (inr beyond) =
+    let none : get_or (set frames place frame) place None ≡ None = get_or-eq_default (set frames place frame) None (let same = length-set frames place frame in omega (arith, beyond, same)) in
+    subst (λ (f : Option Frame). IsAside own passed place f) (sym none) tt
+
+aside_at : (own : Own) (passed : List Passage) (frames : List (Option Frame)) (place : ℕ) (frame : Option Frame) → AreAside own passed frames → IsAside own passed place frame → (number : ℕ)
+    → ((eqb number place ≡ true) × (number ≡ place)) ⊎ ((eqb number place ≡ false) × (number ≢ place)) → IsAside own passed number (get_or (set frames place frame) number None)
+aside_at own passed frames place frame are is number (inl here) =
+    subst (λ (n : ℕ). IsAside own passed n (get_or (set frames place frame) n None)) (sym here.1) (aside_here own passed frames place frame is (cases_lt place (length frames)))
+aside_at own passed frames place frame are is number (inr elsewhere) =
+    subst (λ (f : Option Frame). IsAside own passed number f) (sym (get_or-set_other frames place number frame None elsewhere.1)) (are number)
+
+pub aside_set : (own : Own) (passed : List Passage) (frames : List (Option Frame)) (place : ℕ) (frame : Option Frame) → AreAside own passed frames → IsAside own passed place frame → AreAside own passed (set frames place frame)
+aside_set own passed frames place frame are is number = aside_at own passed frames place frame are is number (eqb_tells number place)
+
+aside_taken_is : (own : Own) (passed : List Passage) (from : ℕ) (frame : Option Frame) → IsAside own passed from frame → IfSome frame (λ f. IsTold own passed (notices.Frame from f))
+aside_taken_is own passed from None is = tt
+aside_taken_is own passed from (Some frame) is = is
+
+pub aside_taken : (own : Own) (passed : List Passage) (frames : List (Option Frame)) (from : ℕ) (frame : Option Frame) → frame ≡ get_or frames from None → AreAside own passed frames → IfSome frame (λ f. IsTold own passed (notices.Frame from f))
+aside_taken own passed frames from frame at are = aside_taken_is own passed from frame (subst (λ (f : Option Frame). IsAside own passed from f) (sym at) (are from))
 
 pub told_now : (own : Own) (passed : List Passage) (place from : ℕ) (frame : Frame) → ∥ Says own from frame (talk_over passed (line_at place)) ∥₁ → IsTold own passed (notices.Frame from frame)
 told_now own passed place from frame says = ∥∥₁_map says (λ s. record { place = place; before = passed; since = []; passed_is = sym (append-nil passed); says = s })
@@ -368,6 +402,9 @@ said_at saying frame links place old at said = said_in saying frame links place 
 
 pub are_told_through : (own : Own) (old new wired_old wired_new : List Passage) (told : List Notice) → Adds old new wired_old wired_new → AreTold own old told → AreTold own new told
 are_told_through own old new wired_old wired_new told adds are = subst (λ (ps : List Passage). AreTold own ps told) (sym adds.put_down) (are_told_on own old adds.more told are)
+
+pub are_aside_through : (own : Own) (old new wired_old wired_new : List Passage) (frames : List (Option Frame)) → Adds old new wired_old wired_new → AreAside own old frames → AreAside own new frames
+are_aside_through own old new wired_old wired_new frames adds are = subst (λ (ps : List Passage). AreAside own ps frames) (sym adds.put_down) (are_aside_on own old adds.more frames are)
 
 by_place : (low : Bool) (place number : ℕ) → low ≡ false → number ≡ place - NODES → Caller number ≡ (if low then Peer place else Caller (place - NODES))
 by_place true place number e f = absurd cc

@@ -1,4 +1,5 @@
 pub mod Adding
+pub mod Questions
 pub mod Growing
 pub mod Fitting
 pub mod Sending
@@ -6,6 +7,8 @@ pub mod Handing
 pub mod Keyed
 pub mod Meeting
 mod Examples
+mod AskingExamples
 pub mod Lives
 pub mod Fading
 pub mod Reporting
+pub mod Leaving

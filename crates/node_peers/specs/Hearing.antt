@@ -82,6 +82,14 @@ abbrev pub AreTold : Own → List Passage → List Notice → Type 0
 AreTold own passed [] = Unit {0}
 AreTold own passed (notice ∷ more) = IsTold own passed notice × AreTold own passed more
 
+-- a frame that is set aside of a node, at the place of its number
+abbrev pub IsAside : Own → List Passage → ℕ → Option Frame → Type 0
+IsAside own passed from None = Unit {0}
+IsAside own passed from (Some frame) = IsTold own passed (notices.Frame from frame)
+
+abbrev pub AreAside : Own → List Passage → List (Option Frame) → Type 0
+AreAside own passed frames = (number : ℕ) → IsAside own passed number (get_or frames number None)
+
 -- ---- there is one proof of each at most
 
 kept_prop : (lost : Bool) (own : Own) (talk : Talk) (c : Connection) → IsProp (IsKept lost own talk c)
@@ -107,6 +115,13 @@ told_prop own passed (notices.Settings peer settings) = Unit-prop
 pub are_told_prop : (own : Own) (passed : List Passage) (told : List Notice) → IsProp (AreTold own passed told)
 are_told_prop own passed [] = Unit-prop
 are_told_prop own passed (notice ∷ more) = ×_prop (told_prop own passed notice) (are_told_prop own passed more)
+
+aside_prop : (own : Own) (passed : List Passage) (from : ℕ) (frame : Option Frame) → IsProp (IsAside own passed from frame)
+aside_prop own passed from None = Unit-prop
+aside_prop own passed from (Some frame) = told_prop own passed (notices.Frame from frame)
+
+pub are_aside_prop : (own : Own) (passed : List Passage) (frames : List (Option Frame)) → IsProp (AreAside own passed frames)
+are_aside_prop own passed frames = Π_prop (λ number. aside_prop own passed number (get_or frames number None))
 
 -- ---- calls
 

@@ -1,5 +1,6 @@
 pub mod Lines
 pub mod Adding
+pub mod Asking
 pub mod Hearing
 pub mod Saying
 pub mod Growing
@@ -14,3 +15,4 @@ pub mod Replacing
 pub mod Meeting
 pub mod Turning
 pub mod Reporting
+pub mod Leaving

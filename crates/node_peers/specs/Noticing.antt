@@ -19,3 +19,12 @@ heard_of (notices.Settings peer settings) = []
 abbrev pub heard_by : Option Notice → List Passage
 heard_by None = []
 heard_by (Some notice) = heard_of notice
+
+abbrev pub IsFrame : Notice → Type 0
+IsFrame (notices.Frame from frame) = Unit {0}
+IsFrame (notices.Joined peer life) = ⊥
+IsFrame (notices.Gone peer) = ⊥
+IsFrame (notices.Refused peer fault source) = ⊥
+IsFrame (notices.Unreached peer refuses) = ⊥
+IsFrame (notices.Strangers peer count fault) = ⊥
+IsFrame (notices.Settings peer settings) = ⊥

@@ -8,12 +8,15 @@
 //! Hello (`Peers::next`). Whatever wires give, what is promised of nodes holds. Peers tell each other the lives of stores that
 //! they know (`Lives` of `node_links`): of a node of which two are known no frame is told any more, and it is let go.
 //!
-//! `peers` has the public calls, `greeting`, `dialling`, `hearing`, `replacing`, `ending` and `writing` the rules, `knowing`
-//! which lives are known; `peer` what is known of one, with `measures`, what is measured of it; `lines` the connections by
-//! their lines and what waits to be told, over `links`, the connections of all places, and `link`, one of them; `saying` what
-//! one says. Of a peer `dials` has how it is dialled, `frames` what goes to it, and `reports` what it is told of this node.
+//! `peers` has the public calls, `greeting`, `dialling`, `hearing`, `asking`, `replacing`, `ending` and `writing` the rules,
+//! `knowing` which lives are known; `peer` what is known of one, with `measures`, what is measured of it; `lines` the connections by
+//! their lines and what waits to be told, over `links`, the connections of all places, `link`, one of them, and `aside`, the
+//! frames that are set aside; `saying` what
+//! one says. `own_front` has the front of this node. Of a peer `dials` has how it is dialled, `frames` what goes to it, and `reports` what it is told of this node.
 #![tactic(auto)]
 
+mod aside;
+mod asking;
 mod dialling;
 mod ending;
 mod greeting;
@@ -26,6 +29,7 @@ mod links;
 mod measures;
 mod node_address;
 mod notice;
+mod own_front;
 mod peer;
 mod peers;
 mod replacing;

@@ -19,3 +19,6 @@ pub const STRANGER: u64 = 2_000_000;
 
 /// Once dials of a peer have come to nothing for so long that is told, and again each time that so long has passed.
 pub const UNREACHED: u64 = 60_000_000;
+
+/// A frame that is set aside waits for the front to come to its slot for so long behind the last time that the front moved, at most.
+pub const HOLD: u64 = 200_000;

@@ -1,18 +1,21 @@
 //! The connections over which nodes speak, by the places of their lines, and what is told of them.
 
-ghost use Rattle.std.specs.Prelude.{◌≡◌, ◌<◌, ◌++◌, ◌∷◌, [], true, IfOk, IfSome, Some};
+ghost use Rattle.std.specs.Prelude.{◌≡◌, ◌⊎◌, ◌<◌, ◌++◌, ◌∷◌, [], true, get_or, set, IfOk, IfSome, None, Some};
 ghost use Rattle.node_peers.specs.declared.notice.Notice.TheVariants as notices;
 ghost use Rattle.node_wires.specs.Passages.{Began, Wrote};
 ghost use Rattle.node_wires.specs.declared.line.Line.TheVariants.{Peer, Caller};
 ghost use Rattle.node_links.specs.Going.{IsOfKey};
+ghost use Rattle.node_links.specs.Owing.{question_in};
 ghost use Rattle.node_links.specs.Waiting.{IsBegun};
+ghost use Rattle.node_peers.specs.Asking.{marked, unread_in};
 ghost use Rattle.node_peers.specs.Greeting.{IsOurs};
 ghost use Rattle.node_peers.specs.Handing.{AreFor, peer_at};
 ghost use Rattle.node_peers.specs.Lines.{line_at};
 ghost use Rattle.node_peers.specs.Meeting.{IsKnownBy};
 ghost use Rattle.node_peers.specs.Noticing.{heard_of, heard_by};
-ghost use Rattle.node_peers.specs.Hearing.{Fits, fits_prop, IsTold, AreTold, are_told_prop, IsFresh, IsOpened};
+ghost use Rattle.node_peers.specs.Hearing.{Fits, fits_prop, IsTold, AreTold, are_told_prop, IsAside, AreAside, are_aside_prop, IsFresh, IsOpened};
 
+use crate::aside::Aside;
 use crate::limits::{BACKLOG, LINKS, PIECE};
 use crate::link::{Link, Written, line_at};
 use crate::links::{
@@ -42,12 +45,15 @@ pub(crate) struct Lines {
     piece: Vec<u8>,
     frame: Frame,
     notices: VecDeque<Notice>,
+    /// The Prepares and Accepts that are told once nothing else waits.
+    pub(crate) aside: Aside,
     /// What passed over these lines, which frames were handed to the peers, and what was told of them, for clauses alone.
     passed: Passages,
     sent: Passages,
     heard: Passages,
     ghost fits: { Fits own passed.items links.items } by { fits_prop own passed.items links.items },
     ghost told: { AreTold own passed.items notices.items } by { are_told_prop own passed.items notices.items },
+    ghost late: { AreAside own passed.items aside.frames.items } by { are_aside_prop own passed.items aside.frames.items },
 }
 
 /// What came over a connection.
@@ -108,6 +114,7 @@ impl Lines {
         let links = no_links(alloc)?;
         let piece = vec![in alloc; 0; PIECE]?;
         let notices = VecDeque::new(alloc);
+        let aside = Aside::new(alloc)?;
         let passed = Passages::new();
         Ok(Lines {
             alloc,
@@ -118,6 +125,7 @@ impl Lines {
                 bytes: ArrayVec::new(),
             },
             notices,
+            aside,
             passed,
             sent: Passages::new(),
             heard: Passages::new(),
@@ -128,6 +136,9 @@ impl Lines {
     /// Hello of that node.
     pub(crate) fn pop(&mut self) -> Option<Notice>
         ensures stays { Stays self.old self.new }
+        ensures aside { self.new.aside ≡ self.old.aside }
+        ensures next { IfSome result (λ notice. self.old.notices.items ≡ notice ∷ self.new.notices.items) }
+        ensures none { result ≡ None → (self.old.notices.items ≡ []) × (self.new.notices.items ≡ []) }
         ensures told { IfSome result (λ notice. IsTold self.old.own self.old.passed.items notice) }
     {
         self.notices.pop_front()
@@ -136,6 +147,8 @@ impl Lines {
     /// This is told now, if anything is.
     pub(crate) fn note_told(&mut self, notice: &Option<Notice>)
         ensures keeps { Keeps self.old self.new }
+        ensures notices { self.new.notices.items ≡ self.old.notices.items }
+        ensures aside { self.new.aside ≡ self.old.aside }
         ensures sent { self.new.sent ≡ self.old.sent }
         ensures heard { self.new.heard.items ≡ self.old.heard.items ++ heard_by notice.now }
     {
@@ -156,9 +169,16 @@ impl Lines {
         self.notices.len() >= BACKLOG
     }
 
+    /// Whether anything waits to be told.
+    pub(crate) fn waits(&self) -> bool
+        ensures { result ≡ true → self.now.notices.items ≡ [] → ⊥ }
+    {
+        !self.notices.is_empty()
+    }
+
     /// Whether anything waits to be told, or may be there to be read.
     pub(crate) fn has_more(&self) -> bool {
-        if !self.notices.is_empty() {
+        if self.waits() {
             return true;
         }
         for link in &self.links {
@@ -171,11 +191,46 @@ impl Lines {
         false
     }
 
+    /// Whether more may have come over the line at a place than was read.
+    pub(crate) fn has_unread(&self, place: usize) -> bool
+        ensures { result ≡ unread_in (get_or self.now.links.items place None) }
+    {
+        match self.links.get(place) {
+            Some(Some(link)) => link.has_more,
+            _ => false,
+        }
+    }
+
+    /// A frame of this node that waited is set aside, in place of one that was.
+    pub(crate) fn set_aside(&mut self, from: u8, frame: KeptFrame)
+        requires { IsTold self.old.own self.old.passed.items (notices.Frame from frame) }
+        ensures stays { Stays self.old self.new }
+        ensures notices { self.new.notices.items ≡ self.old.notices.items }
+        ensures newest { self.new.aside.newest ≡ self.old.aside.newest }
+        ensures frames { self.new.aside.frames.items ≡ set self.old.aside.frames.items from (Some frame) }
+    {
+        self.aside.put(from, frame);
+    }
+
+    /// The frame of this node that is set aside; it is no longer, and isn't told yet.
+    pub(crate) fn take_aside(&mut self, from: u8) -> Option<KeptFrame>
+        ensures stays { Stays self.old self.new }
+        ensures notices { self.new.notices.items ≡ self.old.notices.items }
+        ensures newest { self.new.aside.newest ≡ self.old.aside.newest }
+        ensures taken { result ≡ get_or self.old.aside.frames.items from None }
+        ensures frames { self.new.aside.frames.items ≡ set self.old.aside.frames.items from None }
+        ensures told { IfSome result (λ frame. IsTold self.old.own self.old.passed.items (notices.Frame from frame)) }
+    {
+        self.aside.take(from)
+    }
+
     /// Puts a notice behind the others. False without memory: then it is lost.
     #[tactic(auto, using(crate::proofs::Fitting::one_told))]
     fn note(&mut self, notice: Notice) -> bool
         requires { IsTold self.old.own self.old.passed.items notice }
         ensures stays { Stays self.old self.new }
+        ensures aside { self.new.aside ≡ self.old.aside }
+        ensures frame { self.new.frame ≡ self.old.frame }
         ensures waits { result ≡ true → self.new.notices.items ≡ self.old.notices.items ++ notice ∷ [] }
     {
         self.notices.push_back(notice).is_ok()
@@ -312,13 +367,18 @@ impl Lines {
         write_at(&mut self.links, &mut self.passed, wire, place)
     }
 
-    /// The frame that came last, of this node, waits to be told. Without memory it is lost.
+    /// The frame that came last, of this node, waits to be told, and is its newest Prepare or Accept unless a newer one came. Without
+    /// memory it is lost.
     fn note_frame(&mut self, from: u8)
         requires { IsTold self.old.own self.old.passed.items (notices.Frame from self.old.frame) }
-        ensures { Stays self.old self.new }
+        ensures stays { Stays self.old self.new }
+        ensures marks { (self.new.aside.newest ≡ self.old.aside.newest) ⊎ ((self.new.aside.newest ≡ marked from (question_in self.old.frame.bytes.items) self.old.aside.newest) × (self.new.notices.items ≡ self.old.notices.items ++ notices.Frame from self.old.frame ∷ [])) }
     {
-        if let Ok(frame) = KeptFrame::new(self.alloc, self.frame.bytes.as_slice()) {
-            let _ = self.note(Notice::Frame { from, frame });
+        let Ok(frame) = KeptFrame::new(self.alloc, self.frame.bytes.as_slice()) else {
+            return;
+        };
+        if self.note(Notice::Frame { from, frame }) {
+            self.aside.mark(from, self.frame.bytes.as_slice());
         }
     }
 

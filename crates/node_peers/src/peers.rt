@@ -1,6 +1,7 @@
 //! A process's connections to its peers.
 
-ghost use Rattle.std.specs.Prelude.{◌≡◌, ◌<◌, true, ℕ, [], ◌∷◌, ◌++◌, length, get_or, Some, IfOk, IfSome};
+ghost use Rattle.std.specs.Prelude.{◌≡◌, ◌≤◌, ◌<◌, ◌+◌, true, ℕ, [], ◌∷◌, ◌++◌, length, get_or, None, Some, IfOk, IfSome};
+ghost use Rattle.node_peers.specs.declared.limits.TheConstants.{HOLD as LONG};
 ghost use Rattle.node_peers.specs.Hearing.{IsTold};
 ghost use Rattle.node_peers.specs.Handing.{frames_for, GoBack, AreHanded, are_handed_prop};
 ghost use Rattle.node_peers.specs.Knowing.{IsOfOne};
@@ -11,10 +12,11 @@ ghost use Rattle.node_peers.specs.Reporting.{Informed, AreInformed};
 ghost use Rattle.node_wires.specs.Passages.{Wrote, seats_in, wrote_over, logged_in};
 ghost use Rattle.node_wires.specs.declared.line.Line.TheVariants.{Seat, Peer as ToPeer};
 
-use crate::knowing::{is_replaced, lives_told};
+use crate::knowing::lives_told;
 use crate::lines::Lines;
 use crate::node_address::NodeAddress;
 use crate::notice::Notice;
+use crate::own_front::OwnFront;
 use crate::peer::Peer;
 use crate::view::View;
 use node_links::limits::{LOOK, NODES};
@@ -44,6 +46,8 @@ pub struct Peers {
     settings: Option<Settings>,
     /// When what came was last taken, or was to be.
     pub(crate) looked: u64,
+    /// This node's front, as it was told last.
+    pub(crate) own_front: OwnFront,
     ghost handed: { AreHanded lines.sent.items peers.items } by { are_handed_prop lines.sent.items peers.items },
 }
 
@@ -59,6 +63,7 @@ impl Drop for Peers {
             addresses: _,
             settings: _,
             looked: _,
+            own_front: _,
         } = self;
     }
 }
@@ -81,7 +86,8 @@ fn unmet(alloc: Global, nodes: u8, kept: &[Option<Life>]) -> Result<Vec<Peer>, A
 
 impl Peers {
     ghost use Rattle.node_peers.specs.Peering.{own_of, passed_of, frames_of, heard_of, Grew, Keeps, Stays};
-    ghost use Rattle.node_peers.specs.Noticing.{heard_by};
+    ghost use Rattle.node_peers.specs.Leaving.{IsQuiet, NoneIsNeeded, Passes, TakesAside, aside_of, newest_of, waits_of};
+    ghost use Rattle.node_peers.specs.Noticing.{heard_by, IsFrame};
     ghost use Rattle.node_peers.specs.Sending.{Sends};
     ghost use Rattle.node_peers.specs.Viewing.{view_of};
 
@@ -107,6 +113,7 @@ impl Peers {
             addresses: Vec::new(alloc),
             settings: None,
             looked: 0,
+            own_front: OwnFront::new(),
         })
     }
 
@@ -156,6 +163,9 @@ impl Peers {
     /// proof under the key, over it and this node's own, which is the first that was written to the line. A node is told to be
     /// there, and its life to be kept, only by a Hello that opened a connection: with a key behind its proof. No frame is told
     /// of a node of which two lives are known by then, whenever it came.
+    ///
+    /// Of the Prepares and Accepts of a peer only the newest that was read is told, here or by `next_aside`. What waited in front of
+    /// what is told was left out because of a newer one or of two lives, or is set aside.
     #[tactic(auto, using(crate::proofs::Handing::handed_on, crate::proofs::Handing::handed_stays, crate::proofs::Handing::handed_grew))]
     pub fn next(&mut self) -> Option<Notice>
         ensures keeps { Keeps self.old self.new }
@@ -163,45 +173,50 @@ impl Peers {
         ensures heard { heard_of self.new ≡ heard_of self.old ++ heard_by result }
         ensures told { IfSome result (λ notice. IsTold (own_of self.old) (passed_of self.old) notice) }
         ensures one { IfSome result (λ notice. IsOfOne (own_of self.old) self.old.peers.items notice) }
+        ensures passes { Passes (own_of self.old) self.old.peers.items (newest_of self.old) self.old.own_front.front (waits_of self.old) (aside_of self.old) result (waits_of self.new) (aside_of self.new) }
     {
         let notice = self.take_next();
         self.lines.note_told(&notice);
         notice
     }
 
-    /// The next notice that is told; frames of nodes of which two lives are known are dropped.
+    /// The next notice that is told of those that wait.
     #[tactic(auto, using(crate::proofs::Growing::stays_on, crate::proofs::Handing::handed_stays, crate::proofs::Lives::told_same, crate::proofs::Lives::one_same))]
     fn take_next(&mut self) -> Option<Notice>
         ensures stays { Stays self.old self.new }
         ensures peers { self.new.peers ≡ self.old.peers }
         ensures told { IfSome result (λ notice. IsTold (own_of self.old) (passed_of self.old) notice) }
         ensures one { IfSome result (λ notice. IsOfOne (own_of self.old) self.old.peers.items notice) }
+        ensures passes { Passes (own_of self.old) self.old.peers.items (newest_of self.old) self.old.own_front.front (waits_of self.old) (aside_of self.old) result (waits_of self.new) (aside_of self.new) }
     {
         for _ in 0..u64::MAX {
-            let notice = self.lines.pop()?;
-            if self.is_told(&notice) {
+            let waited = self.lines.pop()?;
+            if let Some(notice) = self.pass(waited) {
                 return Some(notice);
             }
         }
         None
     }
 
-    /// Whether this notice is told: not a frame of a node of which two lives are known.
-    fn is_told(&self, notice: &Notice) -> bool
-        ensures { result ≡ true → IsOfOne (own_of self.now) self.now.peers.items notice.now }
+    /// The next frame that was set aside, once nothing else waits to be told or read: of each peer its newest Prepare or Accept, which
+    /// may cost syncs. Prepares come first, by falling ballots. An Accept waits for the front to come to its slot, until the front
+    /// has stood for `HOLD`. One is left out where a newer one of its peer was read, or its peer has told a front behind its slots.
+    ///
+    /// What is told is as `next` says. Where nothing waits and the front has stood so long, none is told only where none is needed.
+    #[tactic(auto, using(crate::proofs::Handing::handed_on, crate::proofs::Handing::handed_stays, crate::proofs::Handing::handed_grew))]
+    pub fn next_aside(&mut self, now: u64) -> Option<Notice>
+        ensures keeps { Keeps self.old self.new }
+        ensures frames { frames_of self.new ≡ frames_of self.old }
+        ensures heard { heard_of self.new ≡ heard_of self.old ++ heard_by result }
+        ensures frame { IfSome result IsFrame }
+        ensures told { IfSome result (λ notice. IsTold (own_of self.old) (passed_of self.old) notice) }
+        ensures one { IfSome result (λ notice. IsOfOne (own_of self.old) self.old.peers.items notice) }
+        ensures takes { TakesAside result (aside_of self.old) (aside_of self.new) }
+        ensures needed { IsQuiet (waits_of self.old) self.old.lines.links.items → self.old.own_front.moved + LONG ≤ now → result ≡ None → NoneIsNeeded (own_of self.old) self.old.peers.items (newest_of self.old) (aside_of self.old) }
     {
-        match notice {
-            Notice::Frame { from, frame: _ } => {
-                let lines = &self.lines;
-                !is_replaced(&lines.own, *from as usize, &self.peers)
-            }
-            Notice::Joined { .. }
-            | Notice::Gone { .. }
-            | Notice::Refused { .. }
-            | Notice::Unreached { .. }
-            | Notice::Strangers { .. }
-            | Notice::Settings { .. } => true,
-        }
+        let notice = self.take_aside(now);
+        self.lines.note_told(&notice);
+        notice
     }
 
     /// Takes what came: who dialled, what was said, and which connections ended. Ends are taken before new Hellos. Peers
@@ -303,6 +318,7 @@ impl Peers {
         ensures stays { Stays self.old self.new }
         ensures told { AreInformed (lives_told (own_of self.old) self.old.peers.items) self.old.settings self.old.peers.items self.new.peers.items }
     {
+        self.own_front.see(told.front, now);
         let lines = &self.lines;
         let lives = lives_told(&lines.own, &self.peers);
         tell_all(&mut self.peers, told, now);
@@ -337,12 +353,13 @@ impl Peers {
         forgive_all(&mut self.peers, lost, now);
     }
 
-    /// How long it is until a peer is to be dialled or a beat is due, at most; 0 where something waits to be told or read.
+    /// How long it is until a peer is to be dialled, a beat is due or a frame that is set aside may be told, at most; 0 where something
+    /// waits to be told or read.
     pub fn wait(&self, now: u64) -> u64 {
         if self.lines.has_more() {
             return 0;
         }
-        let mut most = LOOK;
+        let mut most = LOOK.min(self.wait_of_aside(now));
         for number in 0..NODES {
             most = most.min(self.wait_of(number as u8, now));
         }

@@ -17,8 +17,11 @@ use Rattle.node_seats.specs.declared.seat_notice.SeatNotice.TheVariants as notic
 use Rattle.node_seats.specs.Pieces.{IsPieceOf}
 use Rattle.node_service.specs.Arriving.{Incoming, OfSeat, seats_of, peers_of}
 use Rattle.node_service.specs.Crossing.{HasNoLife, EndsAtLife}
-use Rattle.node_service.specs.Telling.{incoming_by}
-use Rattle.node_service.specs.Turns.{piece_over, pieces_of, IsOnePiece, AreFrames, ComeOfPeers, ComeOfSeats, IsNextOf, IsTurn, begins_at, things_at, Counts, IsFirstOf, Spares, IsNextBut, ComeOfSeatsBut, IsTurnBut, IsTurnOf}
+use Rattle.node_peers.specs.Noticing.{IsFrame}
+use Rattle.node_peers.specs.declared.notice.Notice.{Notice}
+use Rattle.node_peers.specs.declared.notice.Notice.TheVariants as peer_notices
+use Rattle.node_service.specs.Telling.{told_of, incoming_by}
+use Rattle.node_service.specs.Turns.{piece_over, pieces_of, IsOnePiece, AreFrames, ComeOfPeers, ComeOfSeats, IsNextOf, AreRead, IsLate, ComeInTurn, IsTurn, begins_at, things_at, Counts, IsFirstOf, Spares, IsNextBut, ComeOfSeatsBut, IsTurnBut, IsBegunOf, IsTurnOf}
 use Rattle.node_service.proofs.Crossing.{no_life_both, ends_both, no_life_ends}
 use Rattle.node_service.proofs.Showing.{seats_of_more, peers_of_more}
 
@@ -263,44 +266,83 @@ come_is_all at closed taken xs come = (below_is_all at xs come.below (one_of tak
 pub nothing_of_seats : ComeOfSeats []
 nothing_of_seats = record { peers = refl; pieces = λ seat. tt; one = λ seat within. omega arith }
 
-pub then_seats : (xs ys : List Incoming) → ComeOfPeers xs → ComeOfSeats ys → IsTurn (xs ++ ys)
-then_seats xs ys peers seats = record { first = xs; last = ys; all = refl; peers = peers; seats = seats }
+pub all_read : (xs : List Incoming) → AreFrames xs → AreRead true xs
+all_read xs are = record { peers = frames_are xs are; frames = λ all. are }
 
-pub peers_alone : (xs : List Incoming) → ComeOfPeers xs → IsTurn xs
-peers_alone xs peers = record { first = xs; last = []; all = sym (append-nil xs); peers = peers; seats = nothing_of_seats }
+pub some_read : (xs : List Incoming) → ComeOfPeers xs → AreRead false xs
+some_read xs come = record { peers = come; frames = λ all. absurd cc }
+
+pub read_by : (all : Bool) (xs : List Incoming) → AreFrames xs → AreRead all xs
+read_by all xs are = record { peers = frames_are xs are; frames = λ is. are }
+
+pub then_seats : (read : Bool) (xs ys : List Incoming) → AreRead read xs → ComeOfSeats ys → ComeInTurn read (xs ++ ys)
+then_seats read xs ys peers seats = record { first = xs; last = ys; all = refl; peers = peers; seats = seats }
+
+pub peers_alone : (read : Bool) (xs : List Incoming) → AreRead read xs → ComeInTurn read xs
+peers_alone read xs peers = record { first = xs; last = []; all = sym (append-nil xs); peers = peers; seats = nothing_of_seats }
+
+pub nothing_late : (read : Bool) → IsLate read []
+nothing_late read = record { frames = no_frames; most = omega arith; none = λ some. refl }
+
+pub one_late : (read : Bool) (notice : Notice) → read ≡ true → IsFrame notice → IsLate read (told_of notice)
+one_late true (peer_notices.Frame from frame) is one = record { frames = record { seats = refl; lives = tt }; most = omega arith; none = λ some. absurd cc }
+one_late true (peer_notices.Joined peer life) is one = absurd one
+one_late true (peer_notices.Gone peer) is one = absurd one
+one_late true (peer_notices.Refused peer fault source) is one = absurd one
+one_late true (peer_notices.Unreached peer refuses) is one = absurd one
+one_late true (peer_notices.Strangers peer count fault) is one = absurd one
+one_late true (peer_notices.Settings peer settings) is one = absurd one
+one_late false notice is one = absurd cc
 
 pub nothing_in_turn : IsTurn []
-nothing_in_turn = peers_alone [] nothing_of_peers
+nothing_in_turn = record { read = true; early = []; late = []; all = refl; first = peers_alone true [] (all_read [] no_frames); then_on = nothing_late true }
+
+-- of what came first and then of seats nothing stands behind a life
+begun_to_life : (read : Bool) (xs : List Incoming) → ComeInTurn read xs → EndsAtLife (peers_of xs)
+begun_to_life read xs turn =
+    let none : peers_of (turn.first ++ turn.last) ≡ peers_of turn.first = peers_of_more turn.first turn.last ∙ (ap (λ (m : List Passage). peers_of turn.first ++ m) turn.seats.peers ∙ append-nil (peers_of turn.first)) in
+    subst (λ (m : List Incoming). EndsAtLife (peers_of m)) (sym turn.all) (subst (λ (m : List Passage). EndsAtLife m) (sym none) turn.peers.peers.lives)
+
+-- and where all of peers was taken none of it is a life
+begun_without_life : (xs : List Incoming) → ComeInTurn true xs → HasNoLife (peers_of xs)
+begun_without_life xs turn =
+    let none : peers_of (turn.first ++ turn.last) ≡ peers_of turn.first = peers_of_more turn.first turn.last ∙ (ap (λ (m : List Passage). peers_of turn.first ++ m) turn.seats.peers ∙ append-nil (peers_of turn.first)) in
+    let frames = turn.peers.frames refl in
+    subst (λ (m : List Incoming). HasNoLife (peers_of m)) (sym turn.all) (subst (λ (m : List Passage). HasNoLife m) (sym none) frames.lives)
+
+late_to_life : (read : Bool) (xs ys : List Incoming) → ComeInTurn read xs → IsLate read ys → EndsAtLife (peers_of (xs ++ ys))
+late_to_life true xs ys turn late =
+    subst (λ (m : List Passage). EndsAtLife m) (sym (peers_of_more xs ys)) (no_life_ends (peers_of xs ++ peers_of ys) (no_life_both (peers_of xs) (peers_of ys) (begun_without_life xs turn) late.frames.lives))
+late_to_life false xs ys turn late =
+    subst (λ (m : List Incoming). EndsAtLife (peers_of (xs ++ m))) (sym (late.none refl)) (subst (λ (m : List Incoming). EndsAtLife (peers_of m)) (sym (append-nil xs)) (begun_to_life false xs turn))
 
 pub turn_to_life : (xs : List Incoming) → IsTurn xs → EndsAtLife (peers_of xs)
-turn_to_life xs turn =
-    let none : peers_of (turn.first ++ turn.last) ≡ peers_of turn.first = peers_of_more turn.first turn.last ∙ (ap (λ (m : List Passage). peers_of turn.first ++ m) turn.seats.peers ∙ append-nil (peers_of turn.first)) in
-    subst (λ (m : List Incoming). EndsAtLife (peers_of m)) (sym turn.all) (subst (λ (m : List Passage). EndsAtLife m) (sym none) turn.peers.lives)
+turn_to_life xs turn = subst (λ (m : List Incoming). EndsAtLife (peers_of m)) (sym turn.all) (late_to_life turn.read turn.early turn.late turn.first turn.then_on)
 
-pub then_seats_but : (closed : ℕ) (xs ys : List Incoming) → ComeOfPeers xs → ComeOfSeatsBut closed ys → IsTurnBut closed (xs ++ ys)
-then_seats_but closed xs ys peers seats = (then_seats xs ys peers seats.0, spares_on closed xs ys (spares_peers closed xs peers.seats) seats.1)
+pub then_seats_but : (closed : ℕ) (read : Bool) (xs ys : List Incoming) → AreRead read xs → ComeOfSeatsBut closed ys → IsTurnBut closed read (xs ++ ys)
+then_seats_but closed read xs ys peers seats = (then_seats read xs ys peers seats.0, spares_on closed xs ys (spares_peers closed xs peers.peers.seats) seats.1)
 
-pub peers_but : (closed : ℕ) (xs : List Incoming) → ComeOfPeers xs → IsTurnBut closed xs
-peers_but closed xs peers = (peers_alone xs peers, spares_peers closed xs peers.seats)
+pub peers_but : (closed : ℕ) (read : Bool) (xs : List Incoming) → AreRead read xs → IsTurnBut closed read xs
+peers_but closed read xs peers = (peers_alone read xs peers, spares_peers closed xs peers.peers.seats)
 
 -- the closed seats are those at which these bots sit
 one_at : (sits : Bool) (bit begins : ℕ) → bit ≡ bit_of sits → begins ≤ 1 → (bit ≡ 1 → begins ≡ 0) → begins + bit_of sits ≤ 1
 one_at true bit begins is most spares = let none = spares is in omega (arith, none)
 one_at false bit begins is most spares = omega (arith, most)
 
-one_in_turn : (xs : List Incoming) → IsTurn xs → (seat : ℕ) → seat < SEATS → begins_at seat (seats_of xs) ≤ 1
-one_in_turn xs turn seat within =
+one_in_turn : (read : Bool) (xs : List Incoming) → ComeInTurn read xs → (seat : ℕ) → seat < SEATS → begins_at seat (seats_of xs) ≤ 1
+one_in_turn read xs turn seat within =
     let all = ap (λ (m : List Incoming). begins_at seat (seats_of m)) turn.all in
     let both = begin_both seat turn.first turn.last in
-    let none = ap (λ (m : List Passage). begins_at seat m) turn.peers.seats in
+    let none = ap (λ (m : List Passage). begins_at seat m) turn.peers.peers.seats in
     let one = turn.seats.one seat within in
     omega (arith, all, both, none, one)
 
-pub turn_of : (closed : ℕ) (bots : List Place) → ((seat : ℕ) → seat < 16 → bit_at closed seat ≡ bit_of (sits_at bots seat)) → (xs : List Incoming) → IsTurnBut closed xs → IsTurnOf bots xs
-turn_of closed bots are xs turn = (
+pub turn_of : (closed : ℕ) (read : Bool) (bots : List Place) → ((seat : ℕ) → seat < 16 → bit_at closed seat ≡ bit_of (sits_at bots seat)) → (xs : List Incoming) → IsTurnBut closed read xs → IsBegunOf bots read xs
+turn_of closed read bots are xs turn = (
   turn.0,
   λ seat within.
-      one_at (sits_at bots seat) (bit_at closed seat) (begins_at seat (seats_of xs)) (are seat (omega (arith, within))) (one_in_turn xs turn.0 seat within) (turn.1 seat within),
+      one_at (sits_at bots seat) (bit_at closed seat) (begins_at seat (seats_of xs)) (are seat (omega (arith, within))) (one_in_turn read xs turn.0 seat within) (turn.1 seat within),
 )
 
 one_or_none : (b : Bool) → 0 + bit_of b ≤ 1
@@ -309,6 +351,21 @@ one_or_none false = omega arith
 
 pub no_turn_of : (bots : List Place) → IsTurnOf bots []
 no_turn_of bots = (nothing_in_turn, λ seat within. one_or_none (sits_at bots seat))
+
+-- a turn without a frame behind it
+pub turn_alone : (bots : List Place) (read : Bool) (xs : List Incoming) → IsBegunOf bots read xs → IsTurnOf bots xs
+turn_alone bots read xs begun = (record { read = read; early = xs; late = []; all = sym (append-nil xs); first = begun.0; then_on = nothing_late read }, begun.1)
+
+-- and with one
+pub then_late : (bots : List Place) (read : Bool) (xs ys : List Incoming) → IsBegunOf bots read xs → IsLate read ys → IsTurnOf bots (xs ++ ys)
+then_late bots read xs ys begun late = (
+  record { read = read; early = xs; late = ys; all = refl; first = begun.0; then_on = late },
+  λ seat within.
+      let both = begin_both seat xs ys in
+      let none = ap (λ (m : List Passage). begins_at seat m) late.frames.seats in
+      let one = begun.1 seat within in
+      omega (arith, both, none, one),
+)
 
 pub turn_of_to_life : (bots : List Place) (xs : List Incoming) → IsTurnOf bots xs → EndsAtLife (peers_of xs)
 turn_of_to_life bots xs turn = turn_to_life xs turn.0

@@ -1,5 +1,5 @@
--- What one turn takes: what peers told, and then of each seat one thing at most.
-use Rattle.std.specs.Prelude.{◌≡◌, ℕ, ◌+◌, ◌<◌, ◌≤◌, ◌==◌, if◌then◌else◌, List, [], ◌∷◌, ◌++◌, length, Option}
+-- What one turn takes: what peers told, then of each seat one thing at most, and then one frame of a peer at most.
+use Rattle.std.specs.Prelude.{◌≡◌, ℕ, ◌+◌, ◌<◌, ◌≤◌, ◌==◌, Bool, true, false, if◌then◌else◌, List, [], ◌∷◌, ◌++◌, length, Option}
 use Rattle.std.specs.Int.{bit_at}
 use Rattle.node_wires.specs.declared.line.Line.{Line}
 use Rattle.node_wires.specs.declared.line.Line.TheVariants.{Peer, Caller, Seat, Guest, Asker}
@@ -101,13 +101,33 @@ pub record ComeOfSeats (things : List Incoming) : Type 0 where
 abbrev pub IsNextOf : ℕ → List Incoming → Type 0
 IsNextOf at things = (notice : Option SeatNotice) × ((things ≡ incoming_by notice) × IsPieceOf at PIECE notice)
 
+-- of peers what was told, where that is all of it frames alone
+pub record AreRead (all : Bool) (things : List Incoming) : Type 0 where
+  pub peers : ComeOfPeers things
+  pub frames : all ≡ true → AreFrames things
+
+-- one frame of a peer at most, and none where not all of peers was read
+pub record IsLate (read : Bool) (things : List Incoming) : Type 0 where
+  pub frames : AreFrames things
+  pub most : length things ≤ 1
+  pub none : read ≡ false → things ≡ []
+
 -- of peers first, and then of seats
-pub record IsTurn (things : List Incoming) : Type 0 where
+pub record ComeInTurn (read : Bool) (things : List Incoming) : Type 0 where
   pub first : List Incoming
   pub last : List Incoming
   pub all : things ≡ first ++ last
-  pub peers : ComeOfPeers first
+  pub peers : AreRead read first
   pub seats : ComeOfSeats last
+
+-- of peers first, then of seats, and then one frame of a peer at most
+pub record IsTurn (things : List Incoming) : Type 0 where
+  pub read : Bool
+  pub early : List Incoming
+  pub late : List Incoming
+  pub all : things ≡ early ++ late
+  pub first : ComeInTurn read early
+  pub then_on : IsLate read late
 
 -- the next of a seat is the first of it, and at none of the closed ones did a connection begin
 pub record IsNextBut (at closed before after : ℕ) (things : List Incoming) : Type 0 where
@@ -118,9 +138,14 @@ pub record IsNextBut (at closed before after : ℕ) (things : List Incoming) : T
 abbrev pub ComeOfSeatsBut : ℕ → List Incoming → Type 0
 ComeOfSeatsBut closed things = ComeOfSeats things × Spares closed things
 
-abbrev pub IsTurnBut : ℕ → List Incoming → Type 0
-IsTurnBut closed things = IsTurn things × Spares closed things
+-- a turn so far, by which nobody was taken in at a closed seat
+abbrev pub IsTurnBut : ℕ → Bool → List Incoming → Type 0
+IsTurnBut closed read things = ComeInTurn read things × Spares closed things
 
--- a turn, before which these bots sat at the seats
+-- a turn so far, before which these bots sat at the seats
+abbrev pub IsBegunOf : List Place → Bool → List Incoming → Type 0
+IsBegunOf bots read things = ComeInTurn read things × IsOneAt bots things
+
+-- a turn, before which these bots sat there
 abbrev pub IsTurnOf : List Place → List Incoming → Type 0
 IsTurnOf bots things = IsTurn things × IsOneAt bots things

@@ -4,7 +4,7 @@ ghost use Rattle.std.specs.Prelude.{◌≡◌, ◌⊎◌, ℕ, true, false, ◌�
 ghost use Rattle.peer_codes.specs.declared.hello.Life.{Life as OfLife};
 ghost use Rattle.node_service.specs.declared.server_notice.ServerNotice.TheVariants.{Joined};
 ghost use Rattle.node_peers.specs.Hearing.{IsTold, are_told_prop};
-ghost use Rattle.node_peers.specs.Noticing.{heard_by};
+ghost use Rattle.node_peers.specs.Noticing.{heard_by, IsFrame};
 ghost use Rattle.node_peers.specs.Peering.{own_of, passed_of, frames_of, heard_of, Grew, Keeps, Stays};
 ghost use Rattle.node_peers.specs.Sending.{Sends};
 ghost use Rattle.node_wires.specs.declared.line.Line.TheVariants.{Peer, Seat};
@@ -153,6 +153,20 @@ impl Company {
             self.is_replaced = true;
         }
         notice
+    }
+
+    /// The next frame that was set aside and is told now, if one is.
+    #[tactic(auto, using(crate::proofs::Hearing::heard_keeping, crate::proofs::Hearing::shown_keeping, crate::proofs::Hearing::told_keeping))]
+    pub(crate) fn next_aside(&mut self, now: u64) -> Option<Notice>
+        ensures hears { HearsOn self.old.peers self.new.peers }
+        ensures keeps { Keeps self.old.peers self.new.peers }
+        ensures frames { frames_of self.new.peers ≡ frames_of self.old.peers }
+        ensures heard { heard_of self.new.peers ≡ heard_of self.old.peers ++ heard_by result }
+        ensures told { IfSome result (λ notice. IsTold (own_of self.new.peers) (passed_of self.new.peers) notice) }
+        ensures frame { IfSome result IsFrame }
+        ensures flags { KeepsFlags self.old self.new }
+    {
+        self.peers.next_aside(now)
     }
 
     /// Takes what peers sent, and dials those that are to be dialled.

@@ -5,6 +5,7 @@ ghost use Rattle.dealer_world.specs.Calls.{added_by};
 ghost use Rattle.dealer_world.specs.KeptShown.{reader_by};
 ghost use Rattle.dealer_world.specs.Recordings.{text_by};
 ghost use Rattle.node_peers.specs.Hearing.{IsTold};
+ghost use Rattle.node_peers.specs.Noticing.{IsFrame};
 ghost use Rattle.node_peers.specs.Peering.{own_of, passed_of, frames_of, heard_of, Keeps};
 ghost use Rattle.node_peers.specs.Sending.{Sends};
 ghost use Rattle.node_seats.specs.Pieces.{IsPieceOf};
@@ -250,6 +251,15 @@ impl<D: Disk + Drop, W: Wire + Drop> Desk<D, W> {
         ensures told { IfSome result (λ notice. IsTold (own_of self.new.company.peers) (passed_of self.new.company.peers) notice) }
     {
         self.company.next()
+    }
+
+    /// The next frame of a peer that was set aside and is told now, if one is.
+    pub(crate) fn next_aside(&mut self, now: u64) -> Option<Notice>
+        ensures takes { Takes D.Disk (told_by result) (served_by W.Wire self.old) (served_by W.Wire self.new) }
+        ensures told { IfSome result (λ notice. IsTold (own_of self.new.company.peers) (passed_of self.new.company.peers) notice) }
+        ensures frame { IfSome result IsFrame }
+    {
+        self.company.next_aside(now)
     }
 
     /// What came next of a seat, or of a guest, by its number. At closed seats, a bit each, nobody is taken in.

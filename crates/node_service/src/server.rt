@@ -467,7 +467,8 @@ impl<D: Disk + Drop, W: Wire + Drop> NodeServer<D, W> {
     /// One turn: waits for so many microseconds at most, takes what came, and does what is due. It answers what is left to
     /// do, and how long the next turn may wait. Once the process is to end nothing is done.
     ///
-    /// What peers told is taken first, and then of each seat one thing at most: a bot that comes, or a piece of 512 bytes at most.
+    /// What peers told is taken first, and then of each seat one thing at most: a bot that comes, or a piece of 512 bytes at most. Behind
+    /// what is due, where all of peers was taken, one frame of a peer at most that was set aside: it may cost syncs.
     /// Nobody comes to a seat at which somebody sat when the turn began: who is there meanwhile waits. Where such a seat is free
     /// at the end of the turn, the next one doesn't rest.
     ///
@@ -511,13 +512,14 @@ impl<D: Disk + Drop, W: Wire + Drop> NodeServer<D, W> {
         self.desk.hear(begun);
         // What beats told is older than what the frames behind them say.
         self.look(begun);
-        let is_all = self.take_all(alloc, closed, begun);
+        let (is_read, is_all) = self.take_all(alloc, closed, begun);
         self.note_wrong_tokens(begun);
         if self.ending() != Outcome::GoesOn {
             self.part();
             return (false, 0);
         }
         let until_due = self.keep_time();
+        let is_late = self.take_aside(alloc, is_read);
         let now = self.desk.now();
         self.note_waiting(now);
         self.note_missing(now);
@@ -531,9 +533,8 @@ impl<D: Disk + Drop, W: Wire + Drop> NodeServer<D, W> {
         self.note_read(is_all, now);
         self.left = now;
         let is_over = self.is_done(over, now);
-        (
-            is_over,
-            self.rest(is_all & !is_asked & !owes_lines, until_due, now),
-        )
+        // Behind a frame that was set aside something else may be due.
+        let is_rest = is_all & !is_asked & !owes_lines & !is_late;
+        (is_over, self.rest(is_rest, until_due, now))
     }
 }

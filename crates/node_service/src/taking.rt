@@ -75,24 +75,26 @@ impl<D: Disk + Drop, W: Wire + Drop> NodeServer<D, W> {
     ghost use Rattle.node_service.specs.Desks.{IsKept};
     ghost use Rattle.node_service.specs.Going.{Does, GoesOnWith};
     ghost use Rattle.node_service.specs.Taking.{StopsAtLife, TakesNext};
-    ghost use Rattle.node_service.specs.Turns.{ComeOfPeers, ComeOfSeatsBut, IsNextBut, IsTurnBut};
+    ghost use Rattle.node_service.specs.Turns.{AreRead, ComeOfSeatsBut, IsLate, IsNextBut, IsTurnBut};
     ghost use Rattle.node_service.specs.Serving.{served_of};
 
     /// Takes what came: first what peers told, and then of each seat one thing at most, so that none that sends without end
-    /// holds up the others. At closed seats, a bit each, nobody is taken in. It says whether nothing is left.
-    pub(crate) fn take_all(&mut self, alloc: Global, closed: u16, begun: u64) -> bool
-        ensures { GoesOnWith D.Disk (IsTurnBut closed) (served_of self.old) (served_of self.new) }
+    /// holds up the others. At closed seats, a bit each, nobody is taken in. It says whether nothing is left of peers, and whether
+    /// nothing is left at all.
+    pub(crate) fn take_all(&mut self, alloc: Global, closed: u16, begun: u64) -> (bool, bool)
+        ensures { GoesOnWith D.Disk (IsTurnBut closed result.0) (served_of self.old) (served_of self.new) }
     {
-        self.has_read_seats = self.take_all_of_peers(alloc, begun);
-        if !self.has_read_seats {
-            return false;
+        let is_read = self.take_all_of_peers(alloc, begun);
+        self.has_read_seats = is_read;
+        if !is_read {
+            return (is_read, false);
         }
-        self.take_all_of_seats(closed)
+        (is_read, self.take_all_of_seats(closed))
     }
 
     /// Takes what peers told, one thing after another, until calls have taken their time. It says whether nothing is left.
     fn take_all_of_peers(&mut self, alloc: Global, begun: u64) -> bool
-        ensures { GoesOnWith D.Disk ComeOfPeers (served_of self.old) (served_of self.new) }
+        ensures { GoesOnWith D.Disk (AreRead result) (served_of self.old) (served_of self.new) }
     {
         for _ in 0..u64::MAX {
             let now = self.desk.now();
@@ -119,6 +121,27 @@ impl<D: Disk + Drop, W: Wire + Drop> NodeServer<D, W> {
         match self.desk.next_of_peers() {
             Some(notice) => self.take_notice(alloc, notice),
             None => Taken::Nothing,
+        }
+    }
+
+    /// Takes one frame of a peer that was set aside, if one is told now, where all that peers told was taken. It says whether it
+    /// does.
+    pub(crate) fn take_aside(&mut self, alloc: Global, is_read: bool) -> bool
+        ensures { GoesOnWith D.Disk (IsLate is_read) (served_of self.old) (served_of self.new) }
+    {
+        if !is_read {
+            return false;
+        }
+        if self.ending() != Outcome::GoesOn {
+            return false;
+        }
+        let now = self.desk.now();
+        match self.desk.next_aside(now) {
+            Some(notice) => {
+                let _ = self.take_notice(alloc, notice);
+                true
+            }
+            None => false,
         }
     }
 

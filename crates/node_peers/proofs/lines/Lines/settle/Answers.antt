@@ -4,4 +4,4 @@ use Rattle.node_peers.specs.Lines.{line_at}
 use Rattle.node_peers.proofs.lines.Lines.settle.Goals as goal
 
 pub invariant_of-self : goal.invariant_of-self
-invariant_of-self c = record { fits = c.settle_at.ensures.fits (λ place. talk_over c.args.self.now.passed.items (line_at place)) refl c.args.self.now.fits; told = c.args.self.now.told }
+invariant_of-self c = record { fits = c.settle_at.ensures.fits (λ place. talk_over c.args.self.now.passed.items (line_at place)) refl c.args.self.now.fits; told = c.args.self.now.told; late = c.args.self.now.late }

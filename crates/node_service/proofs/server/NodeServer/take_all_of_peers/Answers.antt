@@ -1,9 +1,9 @@
-use Rattle.std.proofs.Common.{refl}
+use Rattle.std.proofs.Common.{◌++◌, true, false, refl}
 use Rattle.node_service.specs.Desks.{IsKept}
-use Rattle.node_service.specs.Turns.{AreFrames, ComeOfPeers}
+use Rattle.node_service.specs.Turns.{AreFrames, AreRead, ComeOfPeers}
 use Rattle.node_service.proofs.Going.{with_on, with_so, with_does, frame_does}
 use Rattle.node_service.proofs.Keeping.{goes_kept, as_it_was}
-use Rattle.node_service.proofs.Turns.{frames_on, frames_to_life, frames_are}
+use Rattle.node_service.proofs.Turns.{frames_on, frames_to_life, all_read, some_read, read_by}
 use Rattle.node_service.proofs.server.NodeServer.take_all_of_peers.Goals as goal
 
 pub loop-init : goal.loop-init
@@ -13,16 +13,16 @@ loop-init g c =
     frame_does (goes_kept g.W.Wire kept)
 
 pub returns-in-Nothing : goal.returns-in-Nothing
-returns-in-Nothing g c = with_so AreFrames ComeOfPeers frames_are (with_on AreFrames AreFrames AreFrames frames_on (with_does AreFrames c.loop.invariant (goes_kept g.W.Wire c.now-now.ensures)) c.in-Nothing.ensures)
+returns-in-Nothing g c = with_so AreFrames (AreRead true) all_read (with_on AreFrames AreFrames AreFrames frames_on (with_does AreFrames c.loop.invariant (goes_kept g.W.Wire c.now-now.ensures)) c.in-Nothing.ensures)
 
 pub returns-in-Last : goal.returns-in-Last
-returns-in-Last g c = with_on AreFrames ComeOfPeers ComeOfPeers frames_to_life (with_does AreFrames c.loop.invariant (goes_kept g.W.Wire c.now-now.ensures)) c.in-Last.ensures
+returns-in-Last g c = with_on AreFrames ComeOfPeers (AreRead false) (λ xs ys first then_on. some_read (xs ++ ys) (frames_to_life xs ys first then_on)) (with_does AreFrames c.loop.invariant (goes_kept g.W.Wire c.now-now.ensures)) c.in-Last.ensures
 
 pub loop-preserved : goal.loop-preserved
 loop-preserved g c = with_on AreFrames AreFrames AreFrames frames_on (with_does AreFrames c.loop.invariant (goes_kept g.W.Wire c.now-now.ensures)) c.in-One.ensures
 
 pub returns-then-ne : goal.returns-then-ne
-returns-then-ne g c = with_so AreFrames ComeOfPeers frames_are (with_does AreFrames c.loop.invariant (goes_kept g.W.Wire c.now-now.ensures))
+returns-then-ne g c = with_so AreFrames (AreRead false) (read_by false) (with_does AreFrames c.loop.invariant (goes_kept g.W.Wire c.now-now.ensures))
 
 pub returns : goal.returns
-returns g c = with_so AreFrames ComeOfPeers frames_are c.loop.invariant
+returns g c = with_so AreFrames (AreRead false) (read_by false) c.loop.invariant

@@ -1,0 +1,174 @@
+"""Batches of tests/processes_sim in which a minority of disks is slow, and then as many quick nodes are lost as a minority may be.
+
+A call of a slow node has two syncs. What is asked: the next command comes within five such calls and five seconds where processes ended,
+and within seven and five where machines fell silent; and a slow node that runs is never further behind than two of its calls. Bots
+answer at once, so that many more than 64 commands are chosen in a call of a slow one. Times are in milliseconds.
+"""
+from processes_batch import batch, both
+from processes_slow import PATIENT, TEN_MINUTES, leaders
+
+CALLS_KILLED, CALLS_SILENT, CALLS_BEHIND, BESIDE = 5, 7, 2, 5000.0
+# Each LOOK it is looked how far slow nodes are behind, once the match goes on.
+LOOK, BEGUN, LITTLE = 50.0, 3000.0, 1000.0
+# The match's processes end so soon once it is over somewhere, and two calls of a slow one.
+ENDED = 10_000.0
+
+
+class Slow:
+    """Which nodes of a world have slow disks, from when on, and how far they fall behind."""
+
+    def __init__(self, world, count, sync, since=0.0, leads=None):
+        """So many nodes are slow by such a sync, from that moment on; bots are at a quick one."""
+        self.world, self.sync, self.since = world, sync, since
+        self.numbers = world.random.sample(range(world.count), count)
+        self.quick = [number for number in range(world.count) if number not in self.numbers]
+        self.reached, self.longest_behind, self.campaigns = {}, 0.0, 0
+        world.sync = self.sync_of
+        for bot in world.bots:
+            bot.at = self.quick[0]
+        world.at(BEGUN, self.look)
+
+    @property
+    def call(self):
+        return 2 * self.sync
+
+    def sync_of(self, number):
+        return self.sync if number in self.numbers and self.world.now >= self.since else self.world.sync_ms
+
+    def progressed(self, front):
+        self.reached[front] = self.world.now
+
+    def look(self):
+        """Since when the slow nodes that run are behind."""
+        world = self.world
+        for number in self.numbers:
+            front = world.processes[number].node.front
+            if world.processes[number].up and front < world.applied:
+                first = min((at for reached, at in self.reached.items() if reached > front), default=world.now)
+                self.longest_behind = max(self.longest_behind, world.now - max(first, BEGUN))
+        oldest = min((world.processes[number].node.front for number in self.numbers), default=0)
+        self.reached = {front: at for front, at in self.reached.items() if front > oldest}
+        world.after(LOOK, self.look)
+
+    def why_behind(self):
+        """What is wrong with how far they fell behind, if anything."""
+        most = CALLS_BEHIND * self.call + LITTLE
+        return f"a slow node {self.longest_behind:.0f} ms behind" if self.longest_behind > most else None
+
+
+def lost_of(world, slow):
+    """As many quick nodes as a minority may be, first who leads, and not the one at which bots are."""
+    able = [number for number in slow.quick if number != slow.quick[0]]
+    first = [number for number in able if number in leaders(world)]
+    return [*first, *[number for number in able if number not in first]][: (world.count - 1) // 2]
+
+
+def lose(world, slow, is_cut):
+    """They are lost now: their processes end, or their machines fall silent."""
+    world.lost_at, world.lost = world.now, lost_of(world, slow)
+    world.tell("lost", world.lost, "fronts", [process.node.front for process in world.processes], "leaders", leaders(world))
+    if is_cut:
+        world.cut({pair for a in world.lost for b in range(world.count) if a != b for pair in both(a, b)})
+    for number in [] if is_cut else world.lost:
+        world.kill(number, spares=False)
+
+
+def setup_loss(world, slow, after, is_cut):
+    """Quick nodes are lost at a moment, and the match goes on."""
+    world.lost_at, world.next_step, world.bound = None, None, BESIDE + slow.call * (CALLS_SILENT if is_cut else CALLS_KILLED)
+    applied = []
+
+    def went_on(front):
+        slow.progressed(front)
+        if world.lost_at is not None:
+            applied.append(front)
+            # The first may have been chosen before.
+            if len(applied) == 2:
+                world.next_step = world.now - world.lost_at
+
+    def why_not():
+        if world.next_step is None:
+            return f"no command in {(world.now - world.lost_at) / 1000:.0f} s behind the loss, of {world.applied}"
+        world.well_after = world.next_step
+        if world.next_step > world.bound:
+            return f"the next command {world.next_step:.0f} ms behind the loss, not {world.bound:.0f}"
+        return slow.why_behind()
+
+    world.on_progress, world.why_not = went_on, why_not
+    world.is_enough = lambda: world.next_step is not None or world.lost_at is not None and world.now - world.lost_at > 4 * world.bound
+    world.at(after, lose, world, slow, is_cut)
+
+
+def loss(count, count_slow, sync, after=10_000.0, is_cut=False, since=0.0, is_long=True, seeds=1, **options):
+    """A batch of so many nodes, some of them slow by such a sync, in which quick ones are lost after so long."""
+
+    def setup(world):
+        setup_loss(world, Slow(world, count_slow, 1000.0 * sync, since), after, is_cut)
+
+    text = f"{sync:g}".replace(".", "_")
+    late = f"_from_{since / 1000:g}_s_on" if since else ""
+    setup.__name__ = f"{count_slow}_of_{count}_slow_by_{text}_s{late}_and_quick_ones_{'cut_off' if is_cut else 'killed'}_after_{after / 1000:g}_s"
+    batch(seeds, most_rounds=None, is_long=is_long, **{**PATIENT, "hands": 100_000, "stays": True, "count": count, "think": 2.0, **options})(setup)
+
+
+for count, count_slow in ((3, 1), (5, 2), (7, 3)):
+    for sync in (0.05, 0.3, 1.2, 5):
+        for is_cut in (False, True):
+            loss(count, count_slow, sync, is_cut=is_cut, is_long=(count, sync, is_cut) not in ((3, 0.3, False), (3, 1.2, True)))
+        loss(count, count_slow, sync, since=10_000.0, after=20_000.0)
+        loss(count, count_slow, sync, after=TEN_MINUTES, think=100.0)
+
+
+def setup_end(world, slow):
+    """The match is played to its end; then all processes end soon."""
+    over = []
+
+    def ends():
+        if not over:
+            over.append(world.now)
+
+    def why_not():
+        late = world.now - over[0]
+        most = ENDED + CALLS_BEHIND * slow.call
+        return f"the last process ended {late:.0f} ms behind the end" if late > most else slow.why_behind()
+
+    world.on_end, world.on_progress, world.why_not = ends, slow.progressed, why_not
+
+
+for count, count_slow in ((3, 1), (5, 1)):
+    def setup(world, count_slow=count_slow):
+        setup_end(world, Slow(world, count_slow, 300.0))
+
+    setup.__name__ = f"{count_slow}_of_{count}_slow_by_0_3_s_and_the_end"
+    batch(2, **{**PATIENT, "hands": 60, "stays": True, "count": count, "think": 1.0})(setup)
+
+
+# A slow node doesn't campaign while a quick one leads; in each start with a slow disk it may in the first second alone.
+FIRST = 1000.0
+
+
+def setup_calm(world, slow, until):
+    """For so long a quick node leads, and a slow one doesn't tick behind its start."""
+    world.ticked = []
+    for number in slow.numbers:
+        process = world.processes[number]
+
+        def call(body, process=process, made=process.call):
+            if process.ticked == world.now and any(number in slow.quick for number in leaders(world)):
+                world.ticked.append((world.now, process.number))
+            made(body)
+
+        process.call = call
+    world.on_progress = slow.progressed
+    world.is_enough = lambda: world.now >= until
+    world.why_not = lambda: f"slow nodes campaigned while a quick one led: {world.ticked[:5]}" if world.ticked else slow.why_behind()
+
+
+@batch(10, **{**PATIENT, "hands": 100_000, "stays": True, "think": 5.0})
+def starts_with_one_of_3_slow_by_0_3_s(world):
+    setup_calm(world, Slow(world, 1, 300.0), 10_000.0)
+
+
+@batch(1, is_long=True, **{**PATIENT, "hands": 100_000, "stays": True, "think": 20.0})
+def ten_minutes_with_one_of_3_slow_by_0_3_s(world):
+    setup_calm(world, Slow(world, 1, 300.0), TEN_MINUTES)
