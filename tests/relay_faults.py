@@ -1,6 +1,5 @@
 """What tests/relay tries of matches whose nodes are lost, while stock bots sit behind relays."""
 import os
-import random
 import signal
 import socket
 import subprocess

@@ -7,6 +7,7 @@ import subprocess
 import time
 from pathlib import Path
 
+import measuring
 from measuring import clock, in_time, measured, pause, want
 from refuser import refuser_in
 from serving import TOP, WAIT, free_ports, is_free, patience, waited
@@ -515,7 +516,7 @@ def one_bot_at_a_time(folder, seed, is_long):
 
 def status_of(*words):
     """The status of a relay that is started so, and what it printed."""
-    ran = subprocess.run([Match.program, "relay", *map(str, words)], stdin=subprocess.DEVNULL, capture_output=True, timeout=60)
+    ran = measuring.run([Match.program, "relay", *map(str, words)], stdin=subprocess.DEVNULL, capture_output=True)
     return ran.returncode, ran.stdout, ran.stderr
 
 
@@ -664,52 +665,6 @@ def nodes_that_are_away(folder, seed, is_long):
     waited(lambda: again.asked[0] == lines[4], "the bot's last line to be asked for", lambda: str(again.asked))
     bot.close()
     relay.ends(1, "the bot ended its connection")
-
-
-# How often nodes are looked at while they mustn't be dialled, at least.
-LEAST_LOOKS = 10
-
-
-@test()
-def turned_away(folder, seed, is_long):
-    """Nodes that close before any line: a note, and none is dialled for five seconds, then ten."""
-    nodes = [Node(stays=False) for _ in range(3)]
-    relay = relayed(folder, nodes)
-    bot = Dialler(relay)
-    relay.await_note("turned away: no quorum yet, or a wrong token? dials again in 5 s")
-    # (the file was written when the note was: a busy machine may have it read late)
-    told, counts = relay.notes_file.stat().st_mtime, []
-    while time.time() < told + 4.5:
-        time.sleep(0.1)
-        count = [len(node.connections) for node in nodes]
-        if told + 1 < time.time() < told + 4.5:
-            counts.append(count)
-    # (a test that had no processor meanwhile has seen nothing)
-    in_time(len(counts) >= LEAST_LOOKS, f"the nodes were looked at {len(counts)} times")
-    want(counts[:1] * len(counts) == counts, f"nodes are dialled meanwhile: {counts}")
-    relay.await_note("turned away: no quorum yet, or a wrong token? dials again in 10 s")
-    bot.close()
-    relay.ends(1)
-
-
-@test()
-def another_client(folder, seed, is_long):
-    """Nodes that close as soon as they have told a line: another has the seat. One that closes alone says nothing of that."""
-    nodes = [Node(LINE + END, stays=False) for _ in range(3)]
-    relay = relayed(folder, nodes)
-    bot = Dialler(relay)
-    want(bot.line() == LINE + END, "the line")
-    relay.await_note("another client has this seat: dials again in 5 s")
-    bot.close()
-    relay.ends(1)
-    nodes = [Node(LINE + END, stays=False), Node(LINE + END), Node(LINE + END)]
-    relay = relayed(folder, nodes, name="other")
-    bot = Dialler(relay)
-    pause(3)
-    waited(lambda: len(nodes[0].connections) > 5, "it is dialled again and again")
-    want(not [note for note in relay.notes() if "another client" in note], f"{relay.notes()}")
-    bot.close()
-    relay.ends(1)
 
 
 @test()

@@ -31,11 +31,13 @@ LOOK = 0.05
 # The most bytes of a dealer's line, and its form.
 LONGEST = 4096
 LINE = re.compile(rb"MATCHSTATE:[0-9]{1,9}:[0-9]{1,9}:[!-9;-~]*:[!-9;-~]*")
-# What a node of `node` says behind the last line of a match, and if it has another match than the bot.
-OVER, OTHER = "#OVER", "#OTHER"
+# What a node of `node` says behind the last line of a match, if it has another match than the bot, and if it has no quorum.
+OVER, OTHER, NO_QUORUM = "#OVER", "#OTHER", "#WAIT"
 # For how long all nodes that are reached say that they have another match until a bot gives up, in seconds; and how long it
 # then pauses before it dials.
 OTHER_TIME, OTHER_PAUSE = 10.0, 1.0
+# How long a bot pauses before it dials a node that has no quorum, in seconds.
+NO_QUORUM_PAUSE = 0.5
 
 
 class Address(NamedTuple):
@@ -161,32 +163,39 @@ class Node(threading.Thread):
 
     def run(self):
         while True:
-            connection = dial(self.address, REACHED)
+            pause, connection = PAUSE, dial(self.address, REACHED)
             if connection is None:
                 self.other_since = None
             else:
                 with connection:
-                    self.hand_on(connection)
-            time.sleep(PAUSE if self.other_since is None else OTHER_PAUSE)
+                    pause = self.hand_on(connection)
+            time.sleep(pause)
 
     def hand_on(self, connection):
-        """Hands on the lines of a connection, with whether they are its first ones, and at last that it has ended.
+        """Hands on the lines of a connection, with whether they are its first ones, and at last that it has ended. Returns how
+        long the bot pauses before it dials again.
 
-        The node is asked for the bot's newest line and all behind it. If the bot has none, it is asked for the newest one."""
-        since, self.since = self.since, None
+        The node is asked for the bot's newest line and all behind it. If the bot has none, it is asked for the newest one. A node
+        that has no quorum says nothing of its match, and doesn't turn the bot away."""
+        since, self.since, newest, has_quorum = self.since, None, None, True
         asked = "NEWEST" if self.seat.line is None else self.seat.line
         send(connection, *([f"#TOKEN {self.token}"] if self.token else []), f"#RESUME {asked}", "VERSION:2.0.0")
-        for words in batches(connection, (OVER, OTHER)):
-            lines = [word for word in words if word not in (OVER, OTHER)]
+        for words in batches(connection, (OVER, OTHER, NO_QUORUM)):
+            lines = [word for word in words if word not in (OVER, OTHER, NO_QUORUM)]
             if lines:
-                self.came.put((connection, lines, since is not None))
+                self.came.put((connection, lines, newest is None))
                 since, self.other_since, newest = None, None, lines[-1]
-            if OVER in words and since is None:
+            if OVER in words and newest is not None:
                 self.last = newest
             if OTHER in words and self.other_since is None:
                 self.other_since = time.monotonic()
+            if NO_QUORUM in words:
+                since, self.other_since, has_quorum = None, None, False
         self.came.put((connection, [], False))
         self.since = time.monotonic() if since is None else since
+        if not has_quorum:
+            return NO_QUORUM_PAUSE
+        return PAUSE if self.other_since is None else OTHER_PAUSE
 
     def turns_away(self, seconds):
         """Whether the node has turned the bot away for so long, by refusing it or closing its connections before any line."""
@@ -409,7 +418,12 @@ def arguments(about, *more):
         "--give-up", type=float, metavar="S",
         help="ends when all nodes have turned the bot away for so many seconds: 10 for PORT; HOST:PORT is dialled without end",
     )
+    words.add_argument(
+        "--room", metavar="NAME", help="HOST:PORT is that of a room, to which the bot says this name and its token; more words may follow: 'alice against house'",
+    )
     found = words.parse_args(sys.argv[1:])
+    if found.room and (len(found.places) > 1 or not isinstance(found.places[0], Address) or not (found.token_file or found.token)):
+        words.error("--room goes with one HOST:PORT, and with a token")
     if len({isinstance(one, Address) for one in found.places}) > 1:
         words.error("PORT is for `serve` and HOST:PORT for `node`: give the one or the other")
     return found
@@ -417,5 +431,12 @@ def arguments(about, *more):
 
 def run(words, choose, see=ignore):
     """Plays a match by the words of the command line. Exits with status 1 if no line came at all."""
+    if words.room:
+        from room import play_in_room
+
+        token = words.token_file or words.token
+        if not play_in_room(words.places[0], words.room, token, choose, see, words.give_up, words.record):
+            sys.exit("the room sent no line")
+        return
     if not play(words.places, choose, see, words.token_file or words.token, words.give_up, words.record):
         sys.exit("no node sent a line: see whether the nodes run, and whether places and token are right")

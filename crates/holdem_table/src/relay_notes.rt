@@ -16,6 +16,9 @@ const AHEAD: &str = "disconnected, it began with a line that wasn't asked for";
 /// A node has another match than the bot.
 const OTHER_MATCH: &str = "it has another match: the bot's last line isn't one of it";
 
+/// A node seats nobody yet.
+const NO_QUORUM: &str = "it has no quorum (dialled again each half second)";
+
 /// The bot's first line that is passed over.
 const UNFIT: &str =
     "bot: passed over a line that is no answer to the newest line (further ones are counted)";
@@ -98,6 +101,7 @@ fn put_text(alloc: Global, line: &mut Vec<u8>, notice: &RelayNotice) -> Result<(
         RelayNotice::Ahead { node } => put_node(alloc, line, *node, AHEAD),
         RelayNotice::Over { node } => put_node(alloc, line, *node, "the match is over"),
         RelayNotice::OtherMatch { node } => put_node(alloc, line, *node, OTHER_MATCH),
+        RelayNotice::NoQuorum { node } => put_node(alloc, line, *node, NO_QUORUM),
         RelayNotice::NotLine { node } => put_node(alloc, line, *node, NO_LINE),
         RelayNotice::TooLong { node } => put_node(alloc, line, *node, LONG_LINE),
         RelayNotice::Unfit => put(line, UNFIT),

@@ -10,7 +10,10 @@ use Rattle.node_wires.specs.Passages.{Passage, Began, Came, Wrote, came_over}
 use Rattle.relay_runs.specs.declared.desk.Desk.{Desk}
 use Rattle.relay_runs.specs.Since.{since_bot, bots_in, begun_over}
 use Rattle.relay_runs.specs.Said.{bytes_of_lines, token_line, greeting, asks, asked_behind, asked_over, over_behind, said_over, waits_at}
-use Rattle.relay_runs.specs.Heard.{with_feeds, IsTextOf, IsLineOf, Adds, AreHeard, IsHeardOf, is_comment, IsPassedOver, IsVersion, IsMendedBy, IsSaidFor, AddsSaid, AreSaid, IsSaidOf, sayings_in}
+use Rattle.relay_runs.specs.declared.holding.Holding.{Holding}
+use Rattle.relay_runs.specs.declared.node_state.NodeState.{NodeState}
+use Rattle.relay_runs.specs.Holds.{Holds, HoldsOn, IsLeft}
+use Rattle.relay_runs.specs.Heard.{with_feeds, IsTextOf, IsLineOf, Adds, AreHeard, IsHeardOf, is_comment, IsPassedOver, IsVersion, IsNoQuorumText, IsMendedBy, IsSaidFor, AddsSaid, AreSaid, IsSaidOf, sayings_in}
 use Rattle.relay_runs.specs.Few.{last_said, IsTail, IsFew}
 use Rattle.relay_runs.specs.Course.{Explains, ComesBehind, IsNext, CameFrom}
 use Rattle.relay_runs.specs.Told.{CameFromBot, WasCurrent}
@@ -352,3 +355,35 @@ without_a_game_each_text_is_right last text = λ game line field other none give
 -- a text that is mended to another, and not to itself, isn't
 what_is_mended_to_another_is_not_right : (game : Game) (other : List ℕ) → IsMendedAnswer game [] (120 ∷ []) other → (IsMendedAnswer game [] (120 ∷ []) (58 ∷ 120 ∷ []) → ⊥) → IsRight (Some game) (Some []) (58 ∷ 120 ∷ []) → ⊥
 what_is_mended_to_another_is_not_right game other is isnt right = isnt (right game [] (120 ∷ []) other refl refl refl is)
+
+-- ---- how long nobody is dialled
+
+who_has_no_quorum_says_so : IsNoQuorumText (codes "#WAIT")
+who_has_no_quorum_says_so = refl
+
+who_says_more_says_something_else : IsNoQuorumText (codes "#WAIT:") → ⊥
+who_says_more_says_something_else said = cc
+
+abbrev held : (nodes pause until : ℕ) → Holding
+held nodes pause until = record { nodes = nodes; pause = pause; until = until }
+
+a_hold_begins : Holds (held 3 5_000_000 0) (held 0 10_000_000 5_020_000) 5_000_000 20_000
+a_hold_begins = record { length = refl; until = refl; next = refl }
+
+none_is_longer_than_a_minute : Holds (held 3 40_000_000 0) (held 0 60_000_000 40_000_001) 40_000_000 1
+none_is_longer_than_a_minute = record { length = refl; until = refl; next = refl }
+
+five_is_not_ten : (pause : ℕ) → pause ≡ 5_000_000 → pause ≡ 10_000_000 → ⊥
+five_is_not_ten pause five ten = omega arith
+
+the_next_one_is_twice_as_long : Holds (held 3 5_000_000 0) (held 0 5_000_000 5_020_000) 5_000_000 20_000 → ⊥
+the_next_one_is_twice_as_long holds = five_is_not_ten 5_000_000 refl holds.next
+
+where_none_begins_the_next_is_no_longer : HoldsOn (held 1 5_000_000 0) (held 3 10_000_000 0) → ⊥
+where_none_begins_the_next_is_no_longer on = five_is_not_ten 10_000_000 on.next refl
+
+no_sooner : (moment : ℕ) → moment ≡ 1_200_000 → moment ≡ 1_500_000 → ⊥
+no_sooner moment soon then = omega arith
+
+it_is_not_dialled_sooner : (state : NodeState) → state.dial_at ≡ 1_200_000 → IsLeft state 500_000 1_000_000 → ⊥
+it_is_not_dialled_sooner state soon left = no_sooner state.dial_at soon left.dial_at

@@ -1,5 +1,5 @@
 -- What came over the connections of a relay, cut into lines: of a node each dealer's line is told to the relay's machine, and of the bot what it says, or what is said for it.
-use Rattle.std.specs.Prelude.{◌≡◌, ◌⊎◌, ℕ, ◌+◌, ◌≤◌, ◌<◌, ◌==◌, ◌||◌, Bool, true, false, if◌then◌else◌, List, [], ◌∷◌, ◌++◌, length, codes, Option, Some}
+use Rattle.std.specs.Prelude.{◌≡◌, ◌⊎◌, ℕ, ◌+◌, ◌≤◌, ◌<◌, ◌==◌, ◌||◌, Bool, true, false, List, [], ◌∷◌, ◌++◌, length, codes, Option, Some}
 use Rattle.std.specs.Char.{is_ascii_digit}
 use Rattle.std.specs.List.{list_all}
 use Rattle.game_def.specs.Game.{Game}
@@ -40,6 +40,10 @@ pub record IsLineOf (raw : List ℕ) (line : Line) : Type 0 where
 -- by this a node says that the match is over
 abbrev pub IsOverText : List ℕ → Type 0
 IsOverText text = text ≡ codes "#OVER"
+
+-- by this a node says that it has no quorum: it seats nobody until it has one, and is to be dialled again
+abbrev pub IsNoQuorumText : List ℕ → Type 0
+IsNoQuorumText text = text ≡ codes "#WAIT"
 
 -- what a node tells by what stood before a line feed: a dealer's line, that the match is over, or nothing
 pub data Adds (raw : List ℕ) : List Word → Type 0 where

@@ -9,3 +9,4 @@ pub mod Course
 pub mod Told
 pub mod Kept
 pub mod Ending
+pub mod Holds

@@ -1,18 +1,19 @@
 //! What a relay knows, and what waits to be written over each connection.
 
-ghost use Rattle.std.specs.Prelude.{◌≡◌, true, false, ◌+◌, ◌≤◌, ◌++◌, [], length, option_map, IfOk};
+ghost use Rattle.std.specs.Prelude.{◌≡◌, true, false, ◌+◌, ◌≤◌, ◌++◌, [], length, option_map, IfOk, ◌↔◌};
 ghost use Rattle.matchstate.specs.Free.{IsFreeOf};
 ghost use Rattle.seat_relay.specs.Relaying.{with_event, Ends};
 ghost use Rattle.relay_runs.specs.Said.{ended, token_line, AreEmpty, Reads, Writes};
 ghost use Rattle.relay_runs.specs.Course.{Course};
 ghost use Rattle.relay_runs.specs.Own.{was_dialled, IsNoneDialled};
 ghost use Rattle.relay_runs.specs.SaidAs.{IsSaidAs};
+ghost use Rattle.relay_runs.specs.Heard.{IsNoQuorumText};
 ghost use Rattle.relay_runs.specs.Kept.{are_mended, FirstStands, Keeps, Stays};
 ghost use Rattle.relay_runs.specs.Ending.{IsOver};
 
 use crate::limits::{BACKLOG, LONGEST_LINE};
 use crate::line_reader::{
-    begins_too_long, is_comment, is_over, is_version, says_other_match, text_of,
+    begins_too_long, is_comment, is_over, is_version, says_no_quorum, says_other_match, text_of,
 };
 use crate::opening::{Opening, asked_of, greeting_of};
 use crate::pieces::{Unread, read_into, write_some};
@@ -39,6 +40,8 @@ pub(crate) enum Taken {
     Over,
     /// The node has another match's line at the place of the one that it was asked for.
     OtherMatch,
+    /// The node has no quorum: it is to be dialled again.
+    NoQuorum,
     /// A dealer's line that the bot isn't given.
     Told,
     /// A dealer's line that the bot is given.
@@ -86,6 +89,19 @@ fn mode_of(newest: bool, mended: &Option<GameDef>) -> Mode
     Mode {
         newest,
         first_stands: mended.is_some(),
+    }
+}
+
+/// What a comment of a node comes to that doesn't end the match.
+fn taken_of(comment: &[u8]) -> Taken
+    ensures { (result ≡ Taken.NoQuorum) ↔ IsNoQuorumText comment.now }
+{
+    if says_no_quorum(comment) {
+        Taken::NoQuorum
+    } else if says_other_match(comment) {
+        Taken::OtherMatch
+    } else {
+        Taken::Comment
     }
 }
 
@@ -247,13 +263,9 @@ impl Desk {
                 self.relay.closes(node as usize);
                 return Ok(Taken::Over);
             }
-            let is_other = says_other_match(text);
+            let taken = taken_of(text);
             came.skip(count);
-            return Ok(if is_other {
-                Taken::OtherMatch
-            } else {
-                Taken::Comment
-            });
+            return Ok(taken);
         };
         if self.to_bot.waiting().len() >= BACKLOG {
             return Ok(Taken::Held);

@@ -1,5 +1,7 @@
 //! Who is turned away everywhere holds back.
 
+ghost use Rattle.std.specs.Prelude.{◌≡◌, ◌<◌, None, IfSome, IsNone};
+
 use crate::limits::{FIRST_HOLD, MOST_HOLD, SHORT_COUNT};
 
 /// Which nodes ended connections soon, one behind the other, and until when none is dialled.
@@ -18,6 +20,8 @@ fn count(bits: u8) -> u32 {
 }
 
 impl Holding {
+    ghost use Rattle.relay_runs.specs.Holds.{Holds, HoldsOn};
+
     /// Nobody turned it away.
     pub(crate) fn new() -> Holding {
         Holding {
@@ -27,9 +31,17 @@ impl Holding {
         }
     }
 
-    /// A node of so many ended a connection soon, and is there. Once each of three did, or all that there are, the hold begins: it answers
-    /// for how many microseconds.
-    pub(crate) fn note(&mut self, node: u8, all: u8, now: u64) -> Option<u64> {
+    /// A node of so many is there, and a connection to it had ended soon, at this moment. Once each of three did so, or all that
+    /// there are, the hold begins: it answers for how many microseconds. A connection that ended before the last hold was over
+    /// counts for nothing.
+    pub(crate) fn note(&mut self, node: u8, all: u8, ended: u64, now: u64) -> Option<u64>
+        ensures early { ended < self.old.until → (self.new ≡ self.old) × (result ≡ None) }
+        ensures begins { IfSome result (λ pause. Holds self.old self.new pause now) }
+        ensures none { IsNone result → HoldsOn self.old self.new }
+    {
+        if ended < self.until {
+            return None;
+        }
         self.nodes |= if node < 8 { 1u8 << node } else { 0 };
         if count(self.nodes) < SHORT_COUNT.min(all as u32) {
             return None;
@@ -41,14 +53,16 @@ impl Holding {
         Some(pause)
     }
 
-    /// A connection lasts.
+    /// A connection lasts: the next hold is the first one again.
     pub(crate) fn settle(&mut self) {
         self.nodes = 0;
         self.pause = FIRST_HOLD;
     }
 
     /// Until when no node is dialled.
-    pub(crate) fn until(&self) -> u64 {
+    pub(crate) fn until(&self) -> u64
+        ensures { result ≡ self.now.until }
+    {
         self.until
     }
 }

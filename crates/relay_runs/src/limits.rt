@@ -33,6 +33,9 @@ pub(crate) const OTHER_TIME: u64 = 10_000_000;
 /// A node that said that the match is over, or that it has another one, is dialled anew so long after.
 pub(crate) const OTHER_PAUSE: u64 = 1_000_000;
 
+/// A node that has no quorum is dialled anew so long after it said so.
+pub(crate) const NO_QUORUM_PAUSE: u64 = 500_000;
+
 /// The first line of a connection that is ahead of the bot waits so long for what other nodes tell before it.
 pub(crate) const AHEAD_TIME: u64 = 200_000;
 
@@ -42,7 +45,7 @@ pub(crate) const SHORT_TIME: u64 = 1_000_000;
 /// After so many short connections in a row at different nodes no node is dialled for a while.
 pub(crate) const SHORT_COUNT: u32 = 3;
 
-/// That while at first; it is doubled each time.
+/// That while at first; each further pause is twice as long.
 pub(crate) const FIRST_HOLD: u64 = 5_000_000;
 
 /// It is doubled up to this.

@@ -2,7 +2,7 @@
 
 ghost use Rattle.std.specs.Prelude.{◌≡◌, ◌<◌, ◌≤◌, length, true, false};
 ghost use Rattle.relay_runs.specs.Said.{IsBeginning};
-ghost use Rattle.relay_runs.specs.Heard.{IsTextOf, IsVersion, is_comment, IsOverText};
+ghost use Rattle.relay_runs.specs.Heard.{IsTextOf, IsVersion, is_comment, IsOverText, IsNoQuorumText};
 
 use crate::limits::LONGEST_LINE;
 use matchstate::{are_digits, cut};
@@ -50,6 +50,14 @@ pub(crate) fn is_over(text: &[u8]) -> bool
 /// Whether a node says by this line that it has another match's line at the place of the one that it was asked for.
 pub(crate) fn says_other_match(text: &[u8]) -> bool {
     text == b"#OTHER".as_slice()
+}
+
+/// Whether a node says by this line that it has no quorum.
+pub(crate) fn says_no_quorum(text: &[u8]) -> bool
+    ensures yes { result ≡ true → IsNoQuorumText text.now }
+    ensures no { result ≡ false → ¬ IsNoQuorumText text.now }
+{
+    text == b"#WAIT".as_slice()
 }
 
 /// Whether a line names version 2.0 of the protocol: `VERSION:2.0.` and a revision of 1 to 9 digits.

@@ -1,6 +1,17 @@
 //! How it stands with a node.
 
-use crate::limits::{AHEAD_TIME, DIAL_PAUSE, OTHER_TIME, SHORT_PAUSE, SHORT_TIME};
+ghost use Rattle.std.specs.Prelude.{◌≡◌, ℕ, Some, None, IfSome};
+
+use crate::limits::{AHEAD_TIME, DIAL_PAUSE, NO_QUORUM_PAUSE, OTHER_TIME, SHORT_PAUSE, SHORT_TIME};
+
+/// A connection that a node ended soon after it was taken, and said nothing of why.
+#[derive(Clone, Copy)]
+pub(crate) struct ShortConnection {
+    /// Whether a dealer's line had come over it.
+    pub(crate) told: bool,
+    /// When it ended.
+    pub(crate) ended: u64,
+}
 
 /// How it stands with a node.
 #[derive(Drop)]
@@ -14,8 +25,8 @@ pub(crate) struct NodeState {
     /// Until when the connection's first line waits, since it is ahead of what the bot was given: 0 once it has waited; none where
     /// none did.
     pub(crate) ahead_until: Option<u64>,
-    /// Where the last connection was a short one, whether a line had come over it; none once the next one was taken, or refused.
-    pub(crate) was_short: Option<bool>,
+    /// The last connection, where it was a short one; none once the next one was taken, or refused.
+    pub(crate) was_short: Option<ShortConnection>,
     /// Whether the connection that was taken last came behind a short one.
     pub(crate) follows_short: bool,
     /// When it is to be dialled.
@@ -28,6 +39,8 @@ pub(crate) struct NodeState {
     other_since: Option<u64>,
     /// Whether it was noted that it began ahead of the bot, and it told no line since.
     noted_ahead: bool,
+    /// Whether it was noted that it has no quorum, and it told no line since.
+    noted_no_quorum: bool,
     /// How many lines came from it that the bot was given, so far.
     pub(crate) given: u64,
 }
@@ -46,6 +59,8 @@ pub(crate) enum Parting {
 }
 
 impl NodeState {
+    ghost use Rattle.relay_runs.specs.Holds.{IsLeft};
+
     /// No connection yet, and none is dialled before there is a bot.
     pub(crate) fn new() -> NodeState {
         NodeState {
@@ -60,6 +75,7 @@ impl NodeState {
             unreached_since: None,
             other_since: None,
             noted_ahead: false,
+            noted_no_quorum: false,
             given: 0,
         }
     }
@@ -85,8 +101,10 @@ impl NodeState {
     }
 
     /// Something could be written to it, or came. Where so its connection was taken, and the one before was a short one, it
-    /// answers whether a line had come over that: the node is there, and ended that one.
-    pub(crate) fn take(&mut self, now: u64) -> Option<bool> {
+    /// answers with that one: the node is there, and ended it.
+    pub(crate) fn take(&mut self, now: u64) -> Option<ShortConnection>
+        ensures { IfSome result (λ short. self.old.was_short ≡ Some short) }
+    {
         if self.taken_at.is_some() {
             return None;
         }
@@ -110,12 +128,19 @@ impl NodeState {
     }
 
     /// Its connection ended, or couldn't be dialled.
-    pub(crate) fn end(&mut self, now: u64) -> Parting {
+    pub(crate) fn end(&mut self, now: u64) -> Parting
+        ensures { (pause : ℕ) → self.old.pause ≡ Some pause → IsLeft self.new pause now }
+    {
         let parting = self.parting(now);
         let (was_short, pause) = match (self.pause, parting) {
             (Some(pause), _) => (None, pause),
-            (None, Parting::Short) => (Some(true), self.short_pause()),
-            (None, Parting::TurnedAway) => (Some(false), self.short_pause()),
+            (None, Parting::Short | Parting::TurnedAway) => (
+                Some(ShortConnection {
+                    told: self.told,
+                    ended: now,
+                }),
+                self.short_pause(),
+            ),
             (None, Parting::Refused | Parting::Lasted) => (None, DIAL_PAUSE),
         };
         if parting == Parting::Refused {
@@ -161,6 +186,20 @@ impl NodeState {
         self.told = true;
         self.other_since = None;
         self.noted_ahead = false;
+        self.noted_no_quorum = false;
+        is_first
+    }
+
+    /// It says that it has no quorum, so nothing of which match it has: its connection counts for nothing, and it is dialled half a
+    /// second behind its end. Whether that is to be noted.
+    pub(crate) fn say_no_quorum(&mut self) -> bool
+        ensures pause { self.new.pause ≡ Some NO_QUORUM_PAUSE }
+        ensures other { self.new.other_since ≡ None }
+    {
+        self.pause = Some(NO_QUORUM_PAUSE);
+        self.other_since = None;
+        let is_first = !self.noted_no_quorum;
+        self.noted_no_quorum = true;
         is_first
     }
 

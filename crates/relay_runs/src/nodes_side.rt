@@ -5,7 +5,7 @@ ghost use Rattle.relay_runs.specs.Kept.{Keeps, Stays};
 
 use crate::desk::Taken;
 use crate::limits::{BACKLOG, OTHER_PAUSE, PIECES};
-use crate::node_state::Parting;
+use crate::node_state::{Parting, ShortConnection};
 use crate::notice::RelayNotice;
 use crate::pieces::Unread;
 use crate::server::RelayServer;
@@ -59,18 +59,18 @@ impl RelayServer {
     }
 
     /// A node ended a connection soon and took the next one: where all do, none is dialled for a while.
-    fn hold(&mut self, node: u8, now: u64, told: bool)
+    fn hold(&mut self, node: u8, now: u64, short: ShortConnection)
         ensures { self.new.desk ≡ self.old.desk }
     {
         if self.is_settled(now) {
             self.holding.settle();
             return;
         }
-        let Some(pause) = self.holding.note(node, self.count, now) else {
+        let Some(pause) = self.holding.note(node, self.count, short.ended, now) else {
             return;
         };
         let seconds = pause / 1_000_000;
-        self.note(if told {
+        self.note(if short.told {
             RelayNotice::AnotherClient { seconds }
         } else {
             RelayNotice::TurnedAway { seconds }
@@ -161,8 +161,8 @@ impl RelayServer {
         let Some(state) = self.nodes.get_mut(node as usize) else {
             return;
         };
-        if let Some(told) = state.take(now) {
-            self.hold(node, now, told);
+        if let Some(short) = state.take(now) {
+            self.hold(node, now, short);
         }
     }
 
@@ -220,6 +220,27 @@ impl RelayServer {
         }
     }
 
+    /// A node said that it has no quorum: it is dialled again half a second later, and that counts for nothing. It says whether that
+    /// is to be noted.
+    fn take_no_quorum(&mut self, node: u8) -> bool
+        ensures desk { self.new.desk ≡ self.old.desk }
+        ensures holding { self.new.holding ≡ self.old.holding }
+    {
+        match self.nodes.get_mut(node as usize) {
+            Some(state) => state.say_no_quorum(),
+            None => false,
+        }
+    }
+
+    /// A node said that it has no quorum.
+    fn note_no_quorum(&mut self, node: u8)
+        ensures { self.new.desk ≡ self.old.desk }
+    {
+        if self.take_no_quorum(node) {
+            self.note(RelayNotice::NoQuorum { node });
+        }
+    }
+
     /// A node that has nothing to tell is dialled a second later.
     fn pause(&mut self, node: u8)
         ensures { self.new.desk ≡ self.old.desk }
@@ -252,6 +273,10 @@ impl RelayServer {
             }
             Taken::OtherMatch => {
                 self.note_other(node, now);
+                return Some(false);
+            }
+            Taken::NoQuorum => {
+                self.note_no_quorum(node);
                 return Some(false);
             }
             Taken::Ahead => return Some(self.note_ahead(node, now)),

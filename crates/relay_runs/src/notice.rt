@@ -19,6 +19,8 @@ pub enum RelayNotice {
     Over { node: u8 },
     /// A node said that it has another match's line at the place of the bot's last one.
     OtherMatch { node: u8 },
+    /// A node said that it has no quorum: it is dialled again each half second. Noted once until it tells a line.
+    NoQuorum { node: u8 },
     /// A node said what is neither a dealer's line nor a comment: its connection was ended.
     NotLine { node: u8 },
     /// A node said a line that is too long: its connection was ended.

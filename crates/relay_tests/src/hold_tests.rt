@@ -1,6 +1,6 @@
 //! When nodes aren't dialled, and when a relay gives up.
 
-use crate::table::{BEFORE, Table, assert_number, assert_that, at};
+use crate::table::{BEFORE, LINE, NO_QUORUM, OTHER, Table, assert_number, assert_that, at};
 use relay_runs::RelayEnd;
 use std::alloc::{AllocError, Global};
 use std::process::Abort;
@@ -32,23 +32,26 @@ fn end_all(
     let _ = table.turn(now);
     let _ = table.turn(due.saturating_sub(1));
     assert_number(rt, count_up(table), 0);
-    assert_number(rt, table.hold(), 0);
+    assert_number(rt, table.holds().count, 0);
     let _ = table.turn(due);
     assert_number(rt, count_up(table), 3);
     Ok(())
 }
 
-/// Three nodes end each connection behind this text, again and again. After the first time, a fiftieth of a second later, they
-/// are dialled, to see whether they are lost; then none is dialled for 5 seconds, and behind the next ones for 10, 20, 40, 60 and
-/// 60. The notes are these, above `kind`.
+/// Three nodes end each connection behind this text, again and again. They are dialled once more, first a fiftieth of a second
+/// later, to see whether they are lost; then none is dialled for 5 seconds, and behind the next ones for 10, 20, 40, 60 and 60. The
+/// connections that end as a hold begins count for nothing. The notes are these, above `kind`.
 fn holds(rt: &impl Abort, alloc: Global, text: &[u8], kind: u64) -> Result<(), AllocError> {
     let mut table = Table::with_bot(alloc, 3)?;
-    let (mut now, mut due) = (at(0), at(20_000));
+    let (mut now, mut soon) = (at(0), 20_000);
     for seconds in [5u64, 10, 20, 40, 60, 60] {
-        end_all(rt, &mut table, text, now, due)?;
-        assert_number(rt, table.hold(), seconds.saturating_add(kind));
-        now = due;
-        due = due.saturating_add(seconds.saturating_mul(1_000_000));
+        let held = now.saturating_add(soon);
+        end_all(rt, &mut table, text, now, held)?;
+        assert_number(rt, table.holds().seconds, seconds.saturating_add(kind));
+        now = held.saturating_add(seconds.saturating_mul(1_000_000));
+        end_all(rt, &mut table, text, held, now)?;
+        assert_number(rt, table.holds().count, 0);
+        soon = 200_000;
     }
     Ok(())
 }
@@ -57,6 +60,80 @@ fn holds(rt: &impl Abort, alloc: Global, text: &[u8], kind: u64) -> Result<(), A
 #[test]
 fn two_at_one_seat_hold_back(rt: HostRuntime) -> Result<(), Fail> {
     Ok(holds(&rt, rt.alloc(), BEFORE, 100)?)
+}
+
+/// Seven nodes take the seat from a relay at once, and again as soon as it is back: that is one hold of 5 seconds. What ended
+/// before it was over makes the next one no longer: 10 seconds.
+#[test]
+fn one_round_of_hang_ups_is_one_hold(rt: HostRuntime) -> Result<(), Fail> {
+    let mut table = Table::with_bot(rt.alloc(), 7)?;
+    for (now, dialled, seconds) in [
+        (0, 20_000, 105),
+        (20_000, 5_020_000, 0),
+        (5_020_000, 5_220_000, 110),
+    ] {
+        for node in 0..7 {
+            table.tells(node, BEFORE)?;
+            table.ends(node);
+        }
+        let _ = table.turn(at(now));
+        let _ = table.turn(at(dialled));
+        let holds = table.holds();
+        assert_number(&rt, holds.count, if seconds > 0 { 1 } else { 0 });
+        assert_number(&rt, holds.seconds, seconds);
+        assert_that(&rt, table.is_up(6));
+    }
+    Ok(())
+}
+
+/// All of three nodes say that they have no quorum, at this moment.
+fn have_no_quorum(table: &mut Table, now: u64) -> Result<(), AllocError> {
+    table.all_tell(3, NO_QUORUM)?;
+    let _ = table.turn(now);
+    Ok(())
+}
+
+/// Nodes that have no quorum are dialled again each half second, whether they told lines before or not, and that counts for
+/// nothing: one note each, no hold, and the line comes over the connection at which they have one.
+#[test]
+fn nodes_without_a_quorum_are_dialled_each_half_second(rt: HostRuntime) -> Result<(), Fail> {
+    for text in [b"".as_slice(), BEFORE] {
+        let mut table = Table::with_bot(rt.alloc(), 3)?;
+        table.all_tell(3, text)?;
+        let mut now = at(300_000);
+        for round in 0..100 {
+            have_no_quorum(&mut table, now)?;
+            assert_number(&rt, count_up(&table), 0);
+            let noted = table.holds().without_quorum;
+            assert_number(&rt, noted, if round == 0 { 3 } else { 0 });
+            let _ = table.turn(now.saturating_add(499_999));
+            assert_number(&rt, count_up(&table), 0);
+            now = now.saturating_add(500_000);
+            let _ = table.turn(now);
+            assert_number(&rt, count_up(&table), 3);
+            assert_number(&rt, table.holds().count, 0);
+        }
+        table.all_tell(3, BEFORE)?;
+        table.all_tell(3, LINE)?;
+        assert_that(&rt, table.turn(now).is_none());
+        assert_that(&rt, table.at_bot().ends_with(LINE));
+    }
+    Ok(())
+}
+
+/// A node that had another match, and now has no quorum, says nothing of its match: the relay goes on.
+#[test]
+fn who_has_no_quorum_has_no_other_match(rt: HostRuntime) -> Result<(), Fail> {
+    let mut table = Table::with_bot(rt.alloc(), 1)?;
+    table.tells(0, OTHER)?;
+    let _ = table.turn(at(0));
+    for half in 2..60u64 {
+        let now = at(half.saturating_mul(500_000));
+        let _ = table.turn(now);
+        table.tells(0, NO_QUORUM)?;
+        assert_that(&rt, table.turn(now).is_none());
+    }
+    Ok(())
 }
 
 /// Nodes that end each connection before any line.

@@ -25,12 +25,34 @@ pub(crate) const OVER: &[u8] = b"#OVER\r\n";
 /// What a node says that has another match.
 pub(crate) const OTHER: &[u8] = b"#OTHER\r\n";
 
+/// What a node says that has no quorum.
+pub(crate) const NO_QUORUM: &[u8] = b"#WAIT\r\n";
+
 /// When the bot comes.
 const START: u64 = 1_000_000_000;
 
 /// So many microseconds later.
 pub(crate) fn at(later: u64) -> u64 {
     START.saturating_add(later)
+}
+
+/// What notes say of holds.
+#[derive(Clone, Copy)]
+pub(crate) struct Holds {
+    /// How many began.
+    pub(crate) count: u64,
+    /// For how many seconds no node is dialled by the last one, and 100 more where the seat is another's; 0 where none began.
+    pub(crate) seconds: u64,
+    /// Of how many nodes it is noted that they have no quorum.
+    pub(crate) without_quorum: u64,
+}
+
+impl Holds {
+    /// One more began.
+    fn add(&mut self, seconds: u64) {
+        self.count = self.count.saturating_add(1);
+        self.seconds = seconds;
+    }
 }
 
 /// A relay, and its wires.
@@ -167,13 +189,20 @@ impl Table {
         self.wire.inner.is_open(Line::Peer(node))
     }
 
-    /// For how many seconds no node is dialled by the notes since they were taken, and 100 more where the seat is another's.
-    pub(crate) fn hold(&mut self) -> u64 {
-        let mut found = 0;
+    /// What the notes since they were taken say of holds.
+    pub(crate) fn holds(&mut self) -> Holds {
+        let mut found = Holds {
+            count: 0,
+            seconds: 0,
+            without_quorum: 0,
+        };
         for notice in self.server.take_notices() {
             match notice {
-                RelayNotice::AnotherClient { seconds } => found = seconds.saturating_add(100),
-                RelayNotice::TurnedAway { seconds } => found = seconds,
+                RelayNotice::AnotherClient { seconds } => found.add(seconds.saturating_add(100)),
+                RelayNotice::TurnedAway { seconds } => found.add(seconds),
+                RelayNotice::NoQuorum { .. } => {
+                    found.without_quorum = found.without_quorum.saturating_add(1);
+                }
                 _ => {}
             }
         }

@@ -23,20 +23,8 @@ returns-then-is_over c = record {
       c.in-Some-cut.ensures.found.1 c.text_of-text.ensures (c.is_over.ensures.yes c.if-is_over.true) refl refl refl);
 }
 
-pub returns-then-is_other : goal.returns-then-is_other
-returns-then-is_other c = record {
-  kept = λ passed.
-      let within : c.args.node < length c.args.self.now.from_nodes.items = grind (arith, common_steps) in
-      let slot : c.in-Some.came.now ≡ get_or c.args.self.now.from_nodes.items c.args.node nothing_waits = c.in-Some.ensures.value ∙ get_or_default c.args.self.now.from_nodes.items c.args.node c.in-Some.came.now nothing_waits within in
-      let whole : c.in-Some.came.now.waiting ≡ c.in-Some-cut.raw.now ++ 10 ∷ c.in-Some-cut.field-0-1.now = sym c.waiting.ensures ∙ c.in-Some-cut.ensures.found.0 in
-      kept_quiet _ _ passed refl refl refl refl refl refl (λ off. off)
-      (heard_passed _ _ _ c.args.node c.skip-in_default-place_of.new.self c.in-Some-cut.raw.now c.in-Some-cut.field-0-1.now c.text_of-text.result.now refl refl refl within (ap (λ (q : Queued). q.waiting) (sym slot) ∙ whole)
-      (c.skip-in_default-place_of.ensures.waiting ∙ (ap (λ (l : List ℕ). drop (length c.in-Some-cut.raw.now + 1) l) whole ∙ behind_line c.in-Some-cut.raw.now c.in-Some-cut.field-0-1.now))
-      c.in-Some-cut.ensures.found.1 c.text_of-text.ensures (no_line _ _ _ c.text_of-text.ensures c.in_default-place_of.is c.place_of.ensures.only) (c.is_over.ensures.no c.if-is_over.false) refl refl refl);
-}
-
-pub returns-else-is_other : goal.returns-else-is_other
-returns-else-is_other c = record {
+pub returns-in_default-place_of : goal.returns-in_default-place_of
+returns-in_default-place_of c = record {
   kept = λ passed.
       let within : c.args.node < length c.args.self.now.from_nodes.items = grind (arith, common_steps) in
       let slot : c.in-Some.came.now ≡ get_or c.args.self.now.from_nodes.items c.args.node nothing_waits = c.in-Some.ensures.value ∙ get_or_default c.args.self.now.from_nodes.items c.args.node c.in-Some.came.now nothing_waits within in
