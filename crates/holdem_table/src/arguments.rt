@@ -14,7 +14,8 @@ use streamed::{Ending, GameWord, WrongWords};
 #[derive(Drop)]
 pub(crate) enum Task<'a> {
     Hand(HandArguments<'a>),
-    Check(CheckArguments<'a>),
+    Check(LogArguments<'a>),
+    Luck(LogArguments<'a>),
     /// The word that names the match file.
     Play(&'a str),
     Init(InitArguments<'a>),
@@ -37,9 +38,9 @@ pub(crate) struct HandArguments<'a> {
     ghost most: { hands ≤ 10000 },
 }
 
-/// What `check` is asked for.
+/// What `check` and `luck` are asked for.
 #[derive(Clone, Copy)]
-pub(crate) struct CheckArguments<'a> {
+pub(crate) struct LogArguments<'a> {
     /// The word that names the game file.
     pub(crate) game: &'a str,
     /// The word that names the log.
@@ -116,7 +117,8 @@ pub(crate) fn requested<'a>(matches: &ArgMatches<'a>) -> Result<Task<'a>, Ending
 fn named<'a>(name: &str, matches: &ArgMatches<'a>) -> Result<Task<'a>, Ending> {
     match name {
         "hand" => hand_task(matches),
-        "check" => check_task(matches),
+        "check" => Ok(Task::Check(log_words(matches)?)),
+        "luck" => Ok(Task::Luck(log_words(matches)?)),
         "play" => Ok(Task::Play(word(matches, "match")?)),
         "init" => init_task(matches),
         SERVE => serve_task(matches),
@@ -173,12 +175,12 @@ fn node(matches: &ArgMatches<'_>) -> Option<u8> {
     }
 }
 
-/// GAME and LOG of `check`.
-fn check_task<'a>(matches: &ArgMatches<'a>) -> Result<Task<'a>, Ending> {
-    Ok(Task::Check(CheckArguments {
+/// GAME and LOG of `check` or `luck`.
+fn log_words<'a>(matches: &ArgMatches<'a>) -> Result<LogArguments<'a>, Ending> {
+    Ok(LogArguments {
         game: word(matches, "game")?,
         log: word(matches, "log")?,
-    }))
+    })
 }
 
 /// MATCH of `serve`, and what is chosen.

@@ -77,6 +77,36 @@ Example:
   sed -n 's/^L //p' played > match.log
   holdem_table check examples/l2.game match.log";
 
+/// Of `luck`: the lines, what luck is, the exit statuses, an example.
+pub(crate) const AFTER_LUCK_HELP: &str = "\
+A log is text in lines, as `check --help` tells. The answer on standard output
+is a line for each hand and player, hands and positions in the log's order:
+  HAND NAME PAYOFF LUCK/PARTS
+PAYOFF is what the log says, in whole chips, and LUCK how far the cards of the
+flop, the turn and the river moved what the player could expect, in parts of a
+chip: with n players a chip has (49 - 2n)(48 - 2n) PARTS. LUCK is 0 in a hand
+without a flop, and the luck of all players of a hand adds up to 0. Whatever
+the players do, luck is 0 on average, so PAYOFF less LUCK tells skill with
+fewer hands.
+
+What a player can expect is the mean of the pots over all ways to complete the
+board from the cards that nobody holds or held, with the chips that were in
+and the players that were left when the street was dealt. Before the flop the
+mean is taken over as many boards as there are PARTS; ChaCha20 draws them
+under the SHA-256 of the whole log, at the stream of the hand's number.
+Luck in hole cards isn't counted.
+
+Exit status:
+  0  all lines were written
+  1  no: the log isn't right; then the only line is that of `check`
+  2  no answer: the command line is wrong, GAME is refused, GAME or LOG
+     can't be read, memory was refused, or standard output failed; standard
+     error says which
+docs/FAULTS.md says of each number what it means and what to do about it.
+
+Example:
+  holdem_table luck examples/l2.game match.log";
+
 /// Of `init`: the match file's keys, what is made and may be thrown away, the exit statuses, an example.
 pub(crate) const AFTER_INIT_HELP: &str = "\
 MATCH is a match file: TOML with name, game, hands, names, a node table for

@@ -1,6 +1,7 @@
 //! The program `holdem_table`: `hand` runs one dealer over a script, `play` all nodes of a match, `check` checks the log
-//! of a match, `init` makes the stores of a match's nodes, its key, tokens or seeds, `serve` deals it to seats over TCP, `node` runs one of its
-//! nodes in a process of its own, and `relay` stands between these and a bot that dials once.
+//! of a match, `luck` tells how far its cards favoured each player, `init` makes the stores of a match's nodes, its key,
+//! tokens or seeds, `serve` deals it to seats over TCP, `node` runs one of its nodes in a process of its own, and `relay`
+//! stands between these and a bot that dials once.
 #![tactic(auto)]
 
 mod arguments;
@@ -15,6 +16,7 @@ mod late_file;
 mod life_files;
 mod locking;
 mod log_files;
+mod luck_lines;
 mod made_files;
 mod node;
 mod notes;
@@ -30,13 +32,14 @@ mod utc;
 mod whole_file;
 
 use crate::arguments::{
-    CheckArguments, HandArguments, InitArguments, Made, NODE, NodeArguments, SERVE, Task, command,
+    HandArguments, InitArguments, LogArguments, Made, NODE, NodeArguments, SERVE, Task, command,
     requested,
 };
 use crate::init::init;
 use crate::init_node::init_node;
 use crate::key_file::init_key;
 use crate::late_file::LateFile;
+use crate::luck_lines::luck;
 use crate::node::node;
 use crate::relay::relay;
 use crate::seeds::init_seeds;
@@ -131,6 +134,7 @@ fn run_requested(rt: &HostRuntime, matches: &ArgMatches<'_>) -> ExitCode {
     match requested(matches) {
         Ok(Task::Hand(arguments)) => end(rt, hand(rt, arguments)),
         Ok(Task::Check(arguments)) => end(rt, check(rt, arguments)),
+        Ok(Task::Luck(arguments)) => end(rt, luck(rt, arguments)),
         Ok(Task::Play(path)) => end(rt, play(rt, path)),
         Ok(Task::Init(arguments)) => end(rt, make(rt, arguments)),
         Ok(Task::Serve(arguments)) => conclude(rt, serve(rt, arguments)),
@@ -240,7 +244,7 @@ fn read_game_of(rt: &HostRuntime, file: &MatchFile) -> Result<Option<Vec<u8>>, E
 }
 
 /// Runs `check` over a log file and standard output. The log is opened once the game is read.
-fn check(rt: &HostRuntime, arguments: CheckArguments<'_>) -> Ending {
+fn check(rt: &HostRuntime, arguments: LogArguments<'_>) -> Ending {
     match read_file(rt, arguments.game) {
         Ok(game) => check_run(
             rt.alloc(),

@@ -3,8 +3,8 @@
 use super::options::{Place, add_arguments};
 use super::{NODE, RELAY, SERVE};
 use crate::help::{
-    AFTER_CHECK_HELP, AFTER_HAND_HELP, AFTER_HELP, AFTER_INIT_HELP, AFTER_NODE_HELP,
-    AFTER_PLAY_HELP, AFTER_RELAY_HELP, AFTER_SERVE_HELP,
+    AFTER_CHECK_HELP, AFTER_HAND_HELP, AFTER_HELP, AFTER_INIT_HELP, AFTER_LUCK_HELP,
+    AFTER_NODE_HELP, AFTER_PLAY_HELP, AFTER_RELAY_HELP, AFTER_SERVE_HELP,
 };
 use clap::Command;
 use std::alloc::{AllocError, Global};
@@ -15,6 +15,7 @@ enum Verb {
     Hand,
     Play,
     Check,
+    Luck,
     Init,
     Serve,
     Node,
@@ -22,10 +23,11 @@ enum Verb {
 }
 
 /// The program's commands, in the order of help.
-const VERBS: [Verb; 7] = [
+const VERBS: [Verb; 8] = [
     Verb::Hand,
     Verb::Play,
     Verb::Check,
+    Verb::Luck,
     Verb::Init,
     Verb::Serve,
     Verb::Node,
@@ -39,6 +41,7 @@ impl Verb {
             Verb::Hand => "hand",
             Verb::Play => "play",
             Verb::Check => "check",
+            Verb::Luck => "luck",
             Verb::Init => "init",
             Verb::Serve => SERVE,
             Verb::Node => NODE,
@@ -52,6 +55,7 @@ impl Verb {
             Verb::Hand => "Plays a script of deals and actions, and prints each seat's lines",
             Verb::Play => "Simulates a match's nodes from a script; prints all frames and lines",
             Verb::Check => "Checks the log of a match against the rules of its game",
+            Verb::Luck => "Prints how far the cards of a match's log favoured each player",
             Verb::Init => "Makes the empty stores of a match's nodes, its key, tokens or seeds",
             Verb::Serve => "Runs a match over TCP, with all its nodes in one process",
             Verb::Node => "Runs one node of a match in a process of its own",
@@ -65,6 +69,7 @@ impl Verb {
             Verb::Hand => AFTER_HAND_HELP,
             Verb::Play => AFTER_PLAY_HELP,
             Verb::Check => AFTER_CHECK_HELP,
+            Verb::Luck => AFTER_LUCK_HELP,
             Verb::Init => AFTER_INIT_HELP,
             Verb::Serve => AFTER_SERVE_HELP,
             Verb::Node => AFTER_NODE_HELP,
@@ -76,7 +81,7 @@ impl Verb {
     fn places(self) -> &'static [Place] {
         match self {
             Verb::Hand => &[Place::Hands, Place::LogFlag, Place::Game],
-            Verb::Check => &[Place::Game, Place::Log],
+            Verb::Check | Verb::Luck => &[Place::Game, Place::Log],
             Verb::Play => &[Place::Match],
             Verb::Init => &[
                 Place::Key,

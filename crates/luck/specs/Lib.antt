@@ -1,0 +1,12 @@
+pub mod Left
+pub mod Deals
+pub mod Draws
+pub mod Means
+pub mod Streets
+pub mod Lucks
+pub mod Lines
+pub mod Laws
+pub mod CardList
+pub mod Stakes
+pub mod StakesInside
+pub mod Sums
