@@ -1,0 +1,1 @@
+"""The hands of a log in formats that other programs read: tools/hands."""

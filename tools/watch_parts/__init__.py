@@ -1,0 +1,1 @@
+"""A page that follows matches: tools/watch."""

@@ -1,0 +1,119 @@
+"""What is followed: a match by its file, or the matches of a league or of a room."""
+import contextlib
+import re
+import tomllib
+from pathlib import Path
+
+import replay_tool
+from hand_formats.played import Game
+
+from .follower import Follower
+from .leagues import LeagueSource
+from .wrong import Wrong
+
+# The first line of a log: the match's name, and the path of its game.
+HEAD = re.compile(rb"# name/game/hands ([\w.-]{1,32}) ([!-~]{1,200}) [1-9][0-9]*\n")
+
+
+def hiding_of(text, is_revealed):
+    """What takes the cards out of a hand's line that the table wasn't shown; where all are revealed, it takes none."""
+    if is_revealed:
+        return lambda line: line
+    game = replay_tool.loaded().Game(text)
+    return lambda line: game.without_hidden(line, None)
+
+
+class MatchSource:
+    """A match of `serve` or `node`, by the logs of its nodes in the folder of logs, and by copies of logs elsewhere."""
+
+    kind = "match"
+
+    def __init__(self, name, game, paths, words):
+        """`game` is the path of the game file."""
+        self.title, text = name, read(game, "game file").decode("latin-1")
+        hide = hiding_of(text, words.reveal)
+        self.follower = Follower(name, name, game_of(text, game), [*paths, *words.logs], words.delay, hide)
+
+    def look(self):
+        """Whether the standings have changed; and the matches that have, each with its new hands."""
+        hands, has_changed = self.follower.look()
+        return False, [(self.follower, hands)] if hands or has_changed else []
+
+    def matches(self):
+        return [self.follower]
+
+    def standings(self):
+        return []
+
+
+class RoomSource:
+    """A room: a league for each number of hands that its matches may have."""
+
+    kind = "room"
+
+    def __init__(self, path, entries, words):
+        self.title, self.folder, self.words = text_of(entries, "name"), path.parent / text_of(entries, "folder"), words
+        self.leagues = {}
+        self.find()
+
+    def find(self):
+        """Finds the leagues that are there; one that can't be read yet is tried again."""
+        for path in sorted(self.folder.glob("hands*.toml")):
+            if path.name not in self.leagues:
+                with contextlib.suppress(Wrong):
+                    self.leagues[path.name] = LeagueSource(path, self.words, hiding_of)
+
+    def look(self):
+        self.find()
+        looked = [league.look() for league in self.leagues.values()]
+        return any(has for has, _ in looked), [it for _, changed in looked for it in changed]
+
+    def matches(self):
+        return [it for league in self.leagues.values() for it in league.matches()]
+
+    def standings(self):
+        return [it for league in self.leagues.values() for it in league.standings()]
+
+
+def read(path, what):
+    try:
+        return Path(path).read_bytes()
+    except OSError as why:
+        raise Wrong(f"the {what} {path} can't be read: {why.strerror}") from why
+
+
+def text_of(entries, key):
+    """The text of a key; a KeyError where there is none."""
+    if not isinstance(entries.get(key), str):
+        raise KeyError(key)
+    return entries[key]
+
+
+def game_of(text, path):
+    try:
+        return Game(text)
+    except (KeyError, IndexError, ValueError) as why:
+        raise Wrong(f"{path} isn't a game file") from why
+
+
+def source_of(words):
+    """What a file describes: it is a match's with nodes, a room's with a port, else a league's. A log is followed by itself."""
+    text = read(words.file, "file")
+    if head := HEAD.match(text):
+        name, game = (word.decode() for word in head.groups())
+        return MatchSource(name, game, [Path(words.file)], words)
+    try:
+        entries = tomllib.loads(text.decode())
+    except (UnicodeDecodeError, tomllib.TOMLDecodeError) as why:
+        raise Wrong(f"{words.file} isn't a TOML file: {why}") from why
+    try:
+        if isinstance(entries.get("node"), list):
+            logs = [Path(text_of(entries, "logs")) / f"node{number}.log" for number in range(len(entries["node"]))]
+            return MatchSource(text_of(entries, "name"), text_of(entries, "game"), logs, words)
+        if words.logs:
+            raise Wrong("--log goes with the file of a match")
+        if "player" in entries and "port" in entries:
+            return RoomSource(Path(words.file).resolve(), entries, words)
+        return LeagueSource(Path(words.file).resolve(), words, hiding_of)
+    except KeyError as why:
+        raise Wrong(f"{words.file}: {why.args[0]} is missing, or is no text") from why
