@@ -13,6 +13,7 @@ from dealer_runs import (
     IS_LONG, OPTIONS, PROGRAM, WAIT, Bot, Run, are_ended, are_killed, at_turn, calls, children, compiled, goes, hangs, here, memory_of, rows,
     rows_with_nodes, slow, test, waits,
 )
+from measuring import wait
 from serving import size_of, want, waited
 
 from match_engine import AGAIN, DEFAULT, Limits, Match, Settings, Watcher
@@ -45,7 +46,7 @@ def killed_and_resumed(number, nodes):
     program = compiled(calm.folder)
     bots = bots_in_c(calm, program, 1, 2)
     calm.ends(0, 3 * WAIT)
-    want([bot.wait(WAIT) for bot in bots] == [0, 0], "a bot ended otherwise than by 0")
+    want([wait(bot, WAIT) for bot in bots] == [0, 0], "a bot ended otherwise than by 0")
     actions = [line.split()[0] for line in calm.transactions().splitlines()]
     first, done, kills = None, 0, int(OPTIONS["--kills"]) // KILLED
     for kill in range(kills + 1):
@@ -66,7 +67,7 @@ def killed_and_resumed(number, nodes):
             time.sleep(0.01)
         want(are_killed(started) and len(started) <= (5 if nodes else 2), f"processes of it are alive a second later: {started}")
         waited(lambda: are_ended(started), "the end of its processes")
-        [bot.wait(WAIT) for bot in bots]
+        [wait(bot, WAIT) for bot in bots]
         if nodes and not memory_of(run).exists():
             # It was over: nothing can be resumed, and nothing has to be.
             want(run.log() == calm.log(), "the log is another one")
@@ -168,7 +169,7 @@ def sixteen_play_at_once():
     for run in runs:
         run.ends(0, 3 * WAIT)
         run.is_right()
-    want([bot.wait(WAIT) for bot in bots] == [0] * 2 * AT_ONCE, "a bot ended otherwise than by 0")
+    want([wait(bot, WAIT) for bot in bots] == [0] * 2 * AT_ONCE, "a bot ended otherwise than by 0")
 
 
 @rows("children end with the tool", [(name, getattr(signal, name)) for name in ("SIGTERM", "SIGINT", "SIGKILL")])
@@ -180,7 +181,7 @@ def children_end_with_the_tool(number):
     for child, _ in started:
         os.kill(int(child), signal.SIGSTOP)
     run.process.send_signal(number)
-    want(run.process.wait(WAIT) in (1, -number), f"status {run.process.returncode}")
+    want(wait(run.process, WAIT) in (1, -number), f"status {run.process.returncode}")
     want(len(started) == 2, f"children: {started}")
     waited(lambda: are_ended(started), f"the end of {started}")
 

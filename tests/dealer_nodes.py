@@ -20,6 +20,7 @@ from dealer_runs import (
     IS_LONG, MEMORY, NODES, NOLIMIT_2P, TOP, WAIT, Bot, Run, are_killed, at_turn, calls, children, compiled, game_of, goes, here, memory_of, rows,
     slow, test,
 )
+from measuring import wait
 from serving import Wrong, free_ports, want, waited
 
 from match_engine import node_files
@@ -160,7 +161,7 @@ def nodes_are_killed(number):
     """A random node is killed each 300 ms: score, log and actions are those without nodes."""
     calm, bots = script_match(linked_folder(), "-qT", hands=HANDS, seed=number)
     calm.ends(0, 3 * WAIT)
-    want([bot.wait(WAIT) for bot in bots] == [0, 0], "a bot ended otherwise than by 0")
+    want([wait(bot, WAIT) for bot in bots] == [0, 0], "a bot ended otherwise than by 0")
     run, bots = script_match(linked_folder(), "-qT", *NODES, hands=HANDS, seed=number)
     dice, kills, until = random.Random(number), 0, time.monotonic() + 3 * WAIT
     # (a quick machine may play all hands in less time than passes from kill to kill)
@@ -171,7 +172,7 @@ def nodes_are_killed(number):
             kills += 1
         time.sleep(KILL_EACH)
     run.ends(0)
-    want(kills > 0 and [bot.wait(WAIT) for bot in bots] == [0, 0], f"a bot ended otherwise than by 0; {kills} nodes were killed")
+    want(kills > 0 and [wait(bot, WAIT) for bot in bots] == [0, 0], f"a bot ended otherwise than by 0; {kills} nodes were killed")
     want(run.is_right() == calm.log(), "the log is another one")
     want(run.printed == calm.printed, "the score is another one")
     actions = [[line.split()[0] for line in it.transactions().splitlines()] for it in (calm, run)]
@@ -410,7 +411,7 @@ def several_with_nodes_play_at_once():
     for run in runs:
         run.ends(0, 3 * WAIT)
         run.is_right()
-    want([bot.wait(WAIT) for bot in bots] == [0] * 2 * AT_ONCE, "a bot ended otherwise than by 0")
+    want([wait(bot, WAIT) for bot in bots] == [0] * 2 * AT_ONCE, "a bot ended otherwise than by 0")
 
 
 @rows("nodes and relays end with the tool", [(name, getattr(signal, name)) for name in ("SIGTERM", "SIGINT", "SIGKILL")])
@@ -423,7 +424,7 @@ def nodes_and_relays_end_with_the_tool(number):
     for child, _ in started:
         os.kill(int(child), signal.SIGSTOP)
     run.process.send_signal(number)
-    want(run.process.wait(WAIT) in (1, -number), f"status {run.process.returncode}")
+    want(wait(run.process, WAIT) in (1, -number), f"status {run.process.returncode}")
     want(len(started) == 5, f"children: {started}")
     waited(lambda: are_killed(started), f"the end of {started}")
 
@@ -567,7 +568,7 @@ def the_dealer_stands_still_while_a_match_is_played():
     bots_of_whom_one_goes(run, 4 * 151 - 1, stop_relay)
     waited(lambda: len(run.log().splitlines()) > 1, "a hand")
     run.process.send_signal(signal.SIGSTOP)
-    want(done.wait(WAIT), "the match isn't played")
+    waited(done.is_set, "the end of the match", most=WAIT)
     time.sleep(1)
     run.process.send_signal(signal.SIGCONT)
     time.sleep(2)

@@ -14,6 +14,7 @@ from pathlib import Path
 
 sys.dont_write_bytecode = True
 
+from measuring import communicate, run
 from serving import FAST, NAMES, TOP, Game, Wrong, turn_of, want
 
 sys.path.insert(0, str(TOP / "tools"))
@@ -114,7 +115,7 @@ class Run:
     def ends(self, status, seconds=WAIT):
         """It ends with a status; the rest of what it printed behind the ports."""
         try:
-            rest = self.process.communicate(timeout=seconds)[0].decode()
+            rest = communicate(self.process, seconds)[0].decode()
         except subprocess.TimeoutExpired:
             raise Wrong(f"it goes on: {self.said()[-3:]}") from None
         want(self.process.returncode == status, f"status {self.process.returncode}: {self.said()[-3:]}")
@@ -146,7 +147,7 @@ class Run:
     def is_right(self):
         """`check` accepts the log, and the score is its last line; the log."""
         words = [PROGRAM, "check", self.word, f"{self.name}.log"]
-        ran = subprocess.run(words, cwd=self.folder, capture_output=True, timeout=WAIT)
+        ran = run(words, cwd=self.folder, capture_output=True)
         want(ran.stdout == b"yes\n", f"check says {ran.stdout!r}")
         want(self.log().endswith("\n" + self.printed), "the score isn't the log's last line")
         return self.log()
@@ -264,7 +265,7 @@ def compiled(folder):
     """The bot in C as a program."""
     path = folder / "dealer_bot"
     words = [os.environ.get("CC", "cc"), "-O1", "-Wall", "-Werror", "-o", path, TOP / "tests/dealer_bot.c"]
-    subprocess.run(words, check=True, timeout=WAIT)
+    run(words, check=True)
     return path
 
 

@@ -2,15 +2,17 @@
 what ended dealers have left."""
 import re
 import signal
-import subprocess
 import sys
+import tempfile
 import time
+from pathlib import Path
 
 sys.dont_write_bytecode = True
 
+import measuring
 from dealer_nodes import kill_node
-from dealer_runs import NODES, NOLIMIT_2P, TOP, WAIT, Bot, Run, calls, here, memory_of, rows, rows_with_nodes, slow, test
-from serving import free_ports, turn_of, waited, want
+from dealer_runs import NODES, NOLIMIT_2P, TOP, Bot, Run, calls, here, memory_of, rows, rows_with_nodes, slow, test
+from serving import FAST, free_ports, turn_of, waited, want
 
 from match_engine import left
 
@@ -166,6 +168,22 @@ def words_of(commands):
 
 
 @test
+def the_first_match_of_the_readme_is_as_typed():
+    """Its lines are typed in a folder that has what the project's has, but with three hands. They print ports and score, and write the log."""
+    blocks = re.findall(r"(?m)(?:^    \S.*\n)+", (TOP / "README.md").read_text())
+    typed = next(block for block in blocks if "tools/dealer" in block)
+    want(" 100 " in typed, f"the lines are {typed!r}")
+    folder = Path(tempfile.mkdtemp(prefix="dealer.", dir=FAST))
+    Run.folders.append(folder)
+    for part in ("examples", "tools"):
+        (folder / part).symlink_to(TOP / part)
+    ran = measuring.run(["sh", "-ec", typed.replace(" 100 ", " 3 ")], cwd=folder, capture_output=True, text=True)
+    found = re.fullmatch(r"\d+ \d+\n(SCORE:-?\d+\|-?\d+:alice\|bob\n)", ran.stdout)
+    want(ran.returncode == 0 and found, f"status {ran.returncode}: {ran.stdout!r}, {ran.stderr!r}")
+    want((folder / "tonight.log").read_text().endswith(found[1]), "the log doesn't end with the score")
+
+
+@test
 def what_ended_dealers_left_is_listed_and_removed():
     """One match runs, one was killed and can go on, one was killed and can't. --clean names all, and --yes removes two."""
     runs = [Run(option, *NODES, *here(), hands=1000, names=["alice", "bob"]) for option in ("-T", "-T", "-t")]
@@ -185,4 +203,4 @@ def what_ended_dealers_left_is_listed_and_removed():
 
 
 def cleaned():
-    return subprocess.run([TOP / "tools/dealer", "--clean"], capture_output=True, text=True, timeout=WAIT).stdout.splitlines()
+    return measuring.run([TOP / "tools/dealer", "--clean"], capture_output=True, text=True).stdout.splitlines()

@@ -11,6 +11,7 @@ sys.dont_write_bytecode = True
 
 from dealer_runs import are_ended
 from league_runs import OPTIONS, WAIT, Bots, League, awaited, command, descendants, kill, test
+from measuring import communicate
 from serving import TOP, loaded, want
 
 SEED = 67
@@ -105,7 +106,7 @@ def end_by_nine(run, with_children):
     below = descendants(run.pid) if with_children else []
     run.kill()
     kill(below)
-    run.communicate(timeout=WAIT)
+    communicate(run, WAIT)
 
 
 @test
@@ -114,7 +115,7 @@ def a_run_that_is_killed_takes_its_matches_along():
     run = league.start("run", "--jobs", "2")
     below = played_now(league, run)
     run.kill()
-    run.communicate(timeout=WAIT)
+    communicate(run, WAIT)
     awaited(lambda: are_ended(below), f"the end of {below}")
     want(not league.logs(), "a match is finished")
 
@@ -127,7 +128,7 @@ def a_match_that_is_killed_takes_its_bots_along():
     awaited(lambda: sum("league_bot" in words_of(number) for number, _ in descendants(match.pid)) == 3, "both bots and one's child")
     below = descendants(match.pid)
     match.kill()
-    match.communicate(timeout=WAIT)
+    communicate(match, WAIT)
     awaited(lambda: are_ended(below), f"the end of {below}")
 
 
@@ -149,7 +150,7 @@ def an_interrupt_ends_all_and_leaves_all_to_go_on():
     os.killpg(run.pid, signal.SIGINT)
     time.sleep(0.05)
     os.killpg(run.pid, signal.SIGINT)
-    said = run.communicate(timeout=WAIT)[1]
+    said = communicate(run, WAIT)[1]
     want(run.returncode == 1 and "interrupted; the same command resumes it" in said, f"status {run.returncode}: {said}")
     want(are_ended(below), "a process outlived the run")
     kept = {path: path.read_bytes() for path in league.kept.glob("running/*/*.tlog")}
@@ -170,7 +171,7 @@ def an_interrupt_ends_a_match_that_stands_still():
     below = played_now(league, run)
     os.kill(below[0][0], signal.SIGSTOP)
     run.send_signal(signal.SIGINT)
-    said = run.communicate(timeout=WAIT)[1]
+    said = communicate(run, WAIT)[1]
     want(run.returncode == 1 and "interrupted" in said and are_ended(below), f"status {run.returncode}: {said}")
 
 
@@ -189,7 +190,7 @@ def an_interrupt_at_a_look_at_a_match_ends_it():
     below = played_now(league, run)
     (league.folder / "interrupt").touch()
     try:
-        said = run.communicate(timeout=WAIT)[1]
+        said = communicate(run, WAIT)[1]
     finally:
         run.kill()
     want(run.returncode == 1 and "interrupted" in said and are_ended(below), f"status {run.returncode}: {said}")
@@ -261,7 +262,7 @@ def a_match_that_another_one_plays():
     want("another process runs this league" in league.does("run", status=4)[1], "the second run says something else")
     match.send_signal(signal.SIGCONT)
     want(match.wait(WAIT) == 0, "the match failed")
-    said = run.communicate(timeout=WAIT)[1]
+    said = communicate(run, WAIT)[1]
     want(run.returncode == 0 and len(league.logs()) == 2, f"the run ended with {run.returncode}: {said}")
     notes = {name: (league.kept / "matches" / name / "notes").read_text()[-600:] for name in league.logs()}
     want(all(league.result(name)["restarts"] == [0, 0] for name in league.logs()), f"a bot was started again: {notes}")
@@ -273,7 +274,7 @@ def two_of_the_same_match_at_once():
     league.does("plan")
     both = [league.start("match", "1") for _ in range(2)]
     for it in both:
-        it.communicate(timeout=WAIT)
+        communicate(it, WAIT)
     statuses = sorted(it.returncode for it in both)
     want(statuses in ([0, 4], [0, 0]) and [*league.logs()] == ["a.b.1.0"], f"they ended with {statuses}")
     league.is_right("a.b.1.0")

@@ -7,6 +7,7 @@ import sys
 import tempfile
 from pathlib import Path
 from types import SimpleNamespace
+from unittest import mock
 
 sys.dont_write_bytecode = True
 
@@ -155,7 +156,7 @@ def a_match_in_a_local_folder():
         shutil.rmtree(elsewhere)
     league.is_right("a.b.1.0")
     names = {path.name for path in (league.kept / "matches/a.b.1.0").iterdir()}
-    want(names == {"a.b.1.0.log", "a.b.1.0.tlog", "a.out", "b.out", "notes", "result.json"}, f"it has {names}")
+    want(names == {"a.b.1.0.log", "a.b.1.0.luck", "a.b.1.0.tlog", "a.out", "b.out", "notes", "result.json"}, f"it has {names}")
     want([path.name for path in (league.kept / "matches").iterdir()] == ["a.b.1.0"], "something lies beside it")
 
 
@@ -198,7 +199,9 @@ def a_result_has_the_hands_of_its_log():
     (league.folder / "a.b.1.0.log").write_text("# head\nSTATE:0:f:x:7|-7:a|b\nSTATE:1:f:x:2|-2:b|a\nSCORE:5|-5:a|b\n")
     result, nothing = Result("SCORE:5|-5:a|b", *([0, 0] for _ in range(5))), {}
     planned, table = Planned(1, "a.b.1.0", ("a", "b"), 1, ("a", "b")), SimpleNamespace(passed=[0, 0], at=[None, None])
-    text = one_match.result_text(league_file.read(league.file), planned, result, nothing, 0.0, league.folder, table, SimpleNamespace(nodes=0, hosts=()))
+    # (such a log has no luck: it is as an earlier program would have it, which doesn't tell any)
+    with mock.patch.object(one_match.lucks, "write", return_value=False):
+        text = one_match.result_text(league_file.read(league.file), planned, result, nothing, 0.0, league.folder, table, SimpleNamespace(nodes=0, hosts=()))
     found = json.loads(text)
     want((found["hands"], found["chips"], found["squares"]) == (2, [5, -5], [53, 53]), f"it is {text}")
 

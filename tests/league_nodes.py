@@ -14,7 +14,7 @@ sys.dont_write_bytecode = True
 
 from dealer_runs import are_ended
 from league_runs import OPTIONS, WAIT, Bots, League, awaited, command, descendants, test
-from measuring import NotMeasured
+from measuring import NotMeasured, communicate
 from processes_ways import Hosts, NoHosts
 from serving import TOP, want
 
@@ -97,7 +97,7 @@ def a_league_with_nodes_is_that_without():
     plain.does("run", "--jobs", "2")
     run = kept.start("run", "--jobs", "2")
     killer = Killer(kept, run)
-    said = run.communicate(timeout=5 * WAIT)[1]
+    said = communicate(run, 5 * WAIT)[1]
     want(run.returncode == 0 and killer.killed, f"status {run.returncode}, {killer.killed} nodes were killed: {said}")
     are_alike(plain, kept, 6 * meetings)
     found = {kept.result(name)["nodes"] for name in kept.logs()} | {plain.result(name)["nodes"] - 3 for name in plain.logs()}
@@ -159,12 +159,29 @@ def a_match_whose_stores_are_gone_goes_on_without_nodes():
     want(league.result("a.b.1.0")["nodes"] == 0, "the result tells of nodes")
 
 
+@test
+def a_log_that_is_ahead_of_all_else_is_written_anew():
+    """A machine that restarts may leave a log with a hand where the stores are gone and no action was noted: the match begins anew."""
+    players = {name: Bots.command(seed) for seed, name in enumerate("ab")}
+    calm, league = (League(players, hands=3, nodes=nodes) for nodes in (0, 3))
+    alike(calm, league)
+    calm.does("match", "1")
+    league.does("plan")
+    folder = league.kept / "running/a.b.1.0"
+    folder.mkdir()
+    (folder / "nodes.json").write_text('{"nodes": 3, "hosts": []}')
+    (folder / "a.b.1.0.tlog").touch()
+    (folder / "a.b.1.0.log").write_text("".join(calm.log("a.b.1.0").splitlines(keepends=True)[:2]))
+    league.does("match", "1")
+    want(league.logs() == calm.logs(), f"the log is {league.log('a.b.1.0')!r}")
+
+
 def stopped(league, *words):
     """Interrupts a run of a league once some actions of a match are written."""
     run = league.start(*(words or ("run", "--jobs", "2")))
     awaited(lambda: any(size_of(path) > 400 for path in league.kept.glob("running/*/*.tlog")), "some actions")
     run.send_signal(signal.SIGINT)
-    said = run.communicate(timeout=WAIT)[1]
+    said = communicate(run, WAIT)[1]
     want(run.returncode == 1 and "interrupted" in said, f"status {run.returncode}: {said}")
 
 
@@ -218,10 +235,13 @@ def three_hosts_of_which_one_is_lost():
         run = league.start("run", "--jobs", "2", path=league.folder)
         awaited(lambda: run.poll() is not None or any(size_of(path) > 400 for path in league.kept.glob("running/*c*/*.tlog")), "actions of c")
         want(hosts.lose(2), "nothing ran at the host")
-        said = run.communicate(timeout=5 * WAIT)[1]
+        said = communicate(run, 5 * WAIT)[1]
         want(run.returncode == 0, f"status {run.returncode}: {said}")
         are_alike(plain, league, 6 * meetings)
-        want(list((league.kept / "replaced").iterdir()), "no match began again")
+        replaced = [*(league.kept / "replaced").iterdir()]
+        want(replaced and all(size_of(path / f"{path.name.rpartition('.')[0]}.tlog") for path in replaced), f"what was replaced is {replaced}")
+        again = [name for name in league.logs() if "the match begins again" in (league.kept / "matches" / name / "notes").read_text()]
+        want(all("c" in name.split(".") for name in again), f"matches began again that nobody had begun: {again}")
         want({words.split()[-1] for words in hosts.calls()} <= {"node", "relay", "bot", "sweep", "drop"}, f"ssh was told {hosts.calls()[-3:]}")
         found = [league.result(name) for name in league.logs()]
         want(all(len(set(it["hosts"])) == 3 == it["nodes"] for it in found), f"nodes ran at {[it['hosts'] for it in found]}")

@@ -6,13 +6,13 @@ import signal
 import subprocess
 import sys
 import tempfile
-import time
 from pathlib import Path
 
 sys.dont_write_bytecode = True
 
 from dealer_runs import NOLIMIT_2P, PROGRAM, fields_of
-from serving import FAST, TOP, want
+from measuring import communicate, run
+from serving import FAST, TOP, waited, want
 
 TOOL = TOP / "tools/league"
 # The longest wait for anything that has to happen, in seconds: on a busy machine even a bot's start takes long.
@@ -86,7 +86,7 @@ class League:
     def does(self, *words, status=0, most=WAIT):
         """Gives a command that is to end with a status, within so many seconds; what it printed, and what it said of errors."""
         ran = self.start(*words)
-        printed, said = ran.communicate(timeout=most)
+        printed, said = communicate(ran, most)
         want(ran.returncode == status, f"{' '.join(words)} ended with {ran.returncode}, not {status}: {printed[-300:]}{said[-600:]}")
         return printed, said
 
@@ -113,7 +113,7 @@ class League:
     def is_right(self, name):
         """`check` accepts a match's log; the log."""
         path = self.kept / "matches" / name / f"{name}.log"
-        ran = subprocess.run([PROGRAM, "check", self.entries["game"], path], capture_output=True, timeout=WAIT)
+        ran = run([PROGRAM, "check", self.entries["game"], path], capture_output=True)
         want(ran.stdout == b"yes\n", f"check says {ran.stdout!r} of {name}")
         return self.log(name)
 
@@ -175,10 +175,4 @@ def kill(processes):
 
 def awaited(happened, text):
     """Waits until something has happened; its value."""
-    until = time.monotonic() + WAIT
-    while time.monotonic() < until:
-        value = happened()
-        if value:
-            return value
-        time.sleep(0.01)
-    want(False, f"waited without success: {text}")
+    return waited(happened, text, most=WAIT)

@@ -9,7 +9,10 @@ import sys
 import tempfile
 import time
 
+from measuring import EVERY, Watch
+
 NAMES = ["chromium", "chromium-browser", "google-chrome", "google-chrome-stable"]
+# How long an answer may take, in seconds. Time in which the browser, or the test, waits for a processor doesn't count.
 SECONDS = 30
 # Puts two descriptors in the places of 3 and 4, and becomes the program that is named behind them.
 LAUNCHER = "import os, sys; os.dup2(int(sys.argv[1]), 3); os.dup2(int(sys.argv[2]), 4); os.execv(sys.argv[3], sys.argv[3:])"
@@ -51,7 +54,7 @@ class Browser:
         )
         os.close(inward)
         os.close(outward)
-        self.buffer, self.number, self.session, self.events = b"", 0, None, []
+        self.buffer, self.number, self.session, self.events, self.watch = b"", 0, None, [], Watch.here()
 
     def __enter__(self):
         target = self.call("Target.createTarget", url="about:blank")["targetId"]
@@ -75,7 +78,9 @@ class Browser:
     def message(self, until):
         """The next message; what isn't an answer is an event."""
         while b"\0" not in self.buffer:
-            ready = select.select([self.inward], [], [], max(0, until - time.monotonic()))[0]
+            ready = select.select([self.inward], [], [], EVERY)[0]
+            if not ready and self.watch.fair < until:
+                continue
             piece = os.read(self.inward, 1 << 20) if ready else b""
             if not piece:
                 raise Refused("the browser says nothing" if not ready else "the browser has ended")
@@ -90,7 +95,7 @@ class Browser:
         if self.session:
             asked["sessionId"] = self.session
         os.write(self.outward, json.dumps(asked).encode() + b"\0")
-        until = time.monotonic() + SECONDS
+        until = self.watch.fair + SECONDS
         while True:
             got = self.message(until)
             if got.get("id") == self.number:
@@ -116,8 +121,8 @@ class Browser:
 
     def wait(self, expression):
         """Waits until an expression in the page is so."""
-        until = time.monotonic() + SECONDS
+        until = self.watch.fair + SECONDS
         while not self.value(expression):
-            if time.monotonic() > until:
+            if self.watch.fair > until:
                 raise Refused(f"it never came to {expression}")
             time.sleep(0.02)

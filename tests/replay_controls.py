@@ -4,6 +4,7 @@ import statistics
 import time
 
 from replay_browser import Browser, Refused, program
+from replay_luck import control as luck
 from replay_match import CHIPS, FIGURES, GAME, LISTS, LOG
 from replay_pages import WRONG_HEADER, run, written
 from serving import TOP, Wrong, loaded, want
@@ -458,6 +459,7 @@ def controls(folder):
         yield "controls: pages of the list", lambda: list_pages(screen, largest)
         yield "controls: widths", lambda: widths(screen, largest)
         yield "controls: cards", lambda: cards(screen, log)
+        yield "controls: luck", lambda: luck(screen, url, log)
         yield "controls: matches", lambda: matches(screen, log, other)
         yield "controls: strange header", lambda: strange_header(screen, strange)
         yield "controls: differences", lambda: differences(screen, url, folder)

@@ -7,12 +7,12 @@ import re
 import shutil
 import subprocess
 
+import measuring
 from replay_match import GAME, LOG, shown_lines
 from serving import TOP, loaded, want
 
 TOOL = TOP / "tools/replay"
 WRONG_HEADER = "# name/game/hands twelve </script><script>document.title=1</script><!-- 12"
-SECONDS = 60
 
 
 class Page(html.parser.HTMLParser):
@@ -42,7 +42,7 @@ class Page(html.parser.HTMLParser):
 
 def run(words, tool=TOOL, folder=TOP):
     """Runs the tool: its status, what it printed, and what it said on standard error."""
-    ran = subprocess.run([tool, *words], cwd=folder, stdout=subprocess.PIPE, stderr=subprocess.PIPE, timeout=SECONDS)
+    ran = measuring.run([tool, *words], cwd=folder, stdout=subprocess.PIPE, stderr=subprocess.PIPE)
     return ran.returncode, ran.stdout.decode(), ran.stderr.decode()
 
 

@@ -21,10 +21,12 @@ NODES = (0, 3, 5)
 TIMES = {"t_response": "response", "t_hand": "hand", "t_per_hand": "per_hand", "start_timeout": "start"}
 DEFAULTS = {
     "duplicate": True, "nodes": 0, "t_response": 600000, "t_hand": 600000, "t_per_hand": 7000, "start_timeout": 60000, "restarts": 3, "hosts": [],
-    "ports": 21000, "tables": 0, "swiss": 0,
+    "ports": 21000, "tables": 0, "swiss": 0, "rank_by": "plain", "room": False,
 }
 KEYS = {"name", "folder", "game", "hands", "meetings", "player", *DEFAULTS}
 PLAYER_KEYS = {"name", "command", "folder", "at_once", "at", "withdrawn", "keep", "against"}
+# By what players are ranked and told apart: by what they won, or by that less their luck.
+RANKINGS = ("plain", "luck")
 # Which finished groups of a player count who has withdrawn.
 KEEPS = ("all", "complete", "none")
 # A host as ssh takes it: USER@ADDRESS, or an address or name alone.
@@ -35,9 +37,9 @@ TABLES, ROUNDS = (0, 100000), (0, 1000)
 
 class Player(NamedTuple):
     name: str
-    # The words of the command, in which {host} and {port} aren't filled in yet.
+    # The words of the command, in which {host} and {port} aren't filled in yet. Who dials in to a room has neither command nor folder.
     command: List[str]
-    folder: Path
+    folder: Optional[Path]
     # At most so many of it run at once; none where there is no bound.
     at_once: Optional[int]
     # The hosts at which it runs, the first one as long as that is there; none where it runs with the league.
@@ -74,6 +76,10 @@ class League(NamedTuple):
     # How many tables a meeting has, 0 being all that there can be; and how many rounds are paired by results, 0 being none.
     tables: int
     swiss: int
+    # One of RANKINGS.
+    rank_by: str
+    # Whether a room plans and plays the matches (tools/room).
+    room: bool
     players: Dict[str, Player]
 
     @property
@@ -115,6 +121,8 @@ def read(path):
 class Reader:
     """Reads the entries of a file. Paths in it count from the file's own folder."""
 
+    defaults = DEFAULTS
+
     def __init__(self, path, entries):
         self.path, self.entries = path, entries
 
@@ -129,9 +137,10 @@ class Reader:
             self.path, self.named("name", self.entries, "the league"), self.folder(), self.entries["game"], path, game,
             self.number("hands", *HANDS), self.number("meetings", *MEETINGS), self.truth("duplicate"), limits,
             self.number("restarts", *COUNT), self.nodes(), self.hosts("hosts", self.entries), self.number("ports", *PORTS),
-            self.number("tables", *TABLES), self.number("swiss", *ROUNDS), self.players(),
+            self.number("tables", *TABLES), self.number("swiss", *ROUNDS), self.rank_by(), self.truth("room"), self.players(),
         )
         self.refuse_hosts(league)
+        self.refuse_room(league)
         self.refuse_pairings(league)
         if len(league.players) < league.seats:
             raise self.wrong(f"a match of this game has {league.seats} players, and the file names {len(league.players)}")
@@ -146,7 +155,7 @@ class Reader:
                 raise self.wrong(f"no key is called {key!r}{where}; there are {', '.join(sorted(keys))}")
 
     def value(self, key, kind, what, entries=None):
-        found = (self.entries if entries is None else entries).get(key, DEFAULTS.get(key))
+        found = (self.entries if entries is None else entries).get(key, self.defaults.get(key))
         if found is None:
             raise self.wrong(f"{key} is missing")
         if type(found) is not kind:
@@ -163,6 +172,12 @@ class Reader:
         found = self.value("nodes", int, "0, 3 or 5")
         if found not in NODES:
             raise self.wrong(f"nodes is 0, 3 or 5, not {found}")
+        return found
+
+    def rank_by(self):
+        found = self.value("rank_by", str, "plain or luck")
+        if found not in RANKINGS:
+            raise self.wrong(f"rank_by is plain or luck, not {found!r}")
         return found
 
     def refuse_pairings(self, league):
@@ -200,6 +215,11 @@ class Reader:
         for player in league.players.values():
             if player.at and not league.hosts:
                 raise self.wrong(f"at of {player.name} goes with hosts: nodes of this machine alone can't be reached from there")
+
+    def refuse_room(self, league):
+        """Refuses what a room's league can't have: its players come when they like, and remember cards."""
+        if league.room and (league.duplicate or league.tables or league.swiss or league.hosts):
+            raise self.wrong("room goes with duplicate = false, and without tables, swiss and hosts")
 
     def truth(self, key):
         return self.value(key, bool, "true or false")
@@ -246,6 +266,9 @@ class Reader:
 
     def player(self, entries):
         name = self.named("name", entries, "a player")
+        if self.entries.get("room") is True and "command" not in entries:
+            self.refuse_others(entries, {"name"}, f" in the table of {name}, who dials in")
+            return Player(name, [], None, None)
         for key in ("command", "folder"):
             if key not in entries:
                 raise self.wrong(f"{key} is missing in the table of {name}")

@@ -49,6 +49,9 @@ def added(league, planned, settings, folder, table):
         write_whole(folder / FILE, json.dumps({"nodes": 0, "hosts": []}))
         table.at = [None] * len(table.at)
         return settings._replace(nodes=0, stores=None)
+    if not has_stores(settings):
+        # (a log may be ahead of the transaction file: nothing goes on with it)
+        settings.log.unlink(missing_ok=True)
     if not found["hosts"]:
         return settings
     named = [with_address(host) for host in found["hosts"]]

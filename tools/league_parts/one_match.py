@@ -15,7 +15,7 @@ import which_program
 from match_engine import AGAIN, DEFAULT, PASSED_OVER, InUse, Match, MatchFault, NodeMatch, Settings, Watcher
 from match_engine.hosts import HostLost
 
-from . import deals, nodes
+from . import deals, lucks, nodes
 from .bots import INTERRUPTS, Bot, Keeper, digest, end_all
 from .faults import Busy, Interrupted, Unfinished
 from .files import write_whole
@@ -184,9 +184,9 @@ def settings_of(league, name, names, hands, seed, folder):
 
 
 
-def play_planned(league, planned, local, is_again):
-    """Plays a match of the plan, or resumes it, in a local folder, and puts its result in place. Returns what to say of
-    it."""
+def play_planned(league, planned, local, is_again, seated=Table):
+    """Plays a match of the plan, or resumes it, in a local folder, and puts its result in place. `seated` makes the table at which its
+    players sit. Returns what to say of it."""
     held = lock(league, planned.name)
     if is_again:
         put_away(league, planned, local)
@@ -197,7 +197,7 @@ def play_planned(league, planned, local, is_again):
     try:
         folder.mkdir(mode=0o700, parents=True, exist_ok=True)
         if not (folder / "result.json").exists():
-            to_some_end(league, planned, local)
+            to_some_end(league, planned, local, seated)
         score = json.loads((folder / "result.json").read_text())["score"]
         put_in_place(folder, league.result_of(planned.name))
     except OSError as why:
@@ -205,14 +205,14 @@ def play_planned(league, planned, local, is_again):
     return f"finished, {score}"
 
 
-def to_some_end(league, planned, local):
+def to_some_end(league, planned, local, seated):
     """Plays a match and writes down how it ended. Where a host is lost at which a player runs, the match begins again with the same
-    cards and that player at his next host; what there was of it is kept among what was replaced."""
+    cards and that player at his next host; what there was of it is kept among what was replaced, if anybody had acted."""
     folder, places = local / "running" / planned.name, {name: 0 for name in planned.seats}
     tries = sum(len(league.players[name].at) for name in planned.seats)
     while True:
         try:
-            to_the_end(league, planned, folder, places)
+            to_the_end(league, planned, folder, places, seated)
             return
         except HostLost as why:
             tries -= 1
@@ -221,18 +221,19 @@ def to_some_end(league, planned, local):
             places[planned.seats[why.seat]] += 1
             with open(folder / "notes", "a", encoding="utf-8") as notes:
                 notes.write(f"{time.strftime('%Y-%m-%d %H:%M:%S')} {why}: the match begins again\n")
-            replace(league, planned, folder)
-            folder.mkdir(mode=0o700)
+            if nodes.is_begun(folder / f"{planned.name}.tlog"):
+                replace(league, planned, folder)
+                folder.mkdir(mode=0o700)
 
 
-def to_the_end(league, planned, folder, places):
+def to_the_end(league, planned, folder, places, seated=Table):
     """Plays a match and writes down how it ended. `places` says by a player which of his hosts he runs at."""
     keeper = Keeper()
     try:
         players = [league.players[name] for name in planned.seats]
-        files = {player.name: digest(player.folder) for player in players}
+        files = {player.name: digest(player.folder) for player in players if player.folder is not None}
         seed = deals.seed(deals.secret(league), planned.players, planned.meeting)
-        table = Table(players, league.restarts, folder, keeper)
+        table = seated(players, league.restarts, folder, keeper)
         table.at = [it.at[places[it.name] % len(it.at)] if it.at else None for it in players]
         begun = time.time()
         settings = settings_of(league, planned.name, list(planned.seats), league.hands, seed, folder)
@@ -253,7 +254,7 @@ def result_text(league, planned, result, files, begun, folder, table, settings):
     return json.dumps({
         "match": planned.name, "number": planned.number, "seats": planned.seats, "hands": len(chips[0]),
         "score": result.score, "chips": [sum(hands) for hands in chips], "squares": [sum(it * it for it in hands) for hands in chips],
-        "used": result.used, "worst": result.worst, "restarts": result.restarts, "defaults": result.defaults, "mended": result.mended,
+        **luck_figures(league, planned, folder), "used": result.used, "worst": result.worst, "restarts": result.restarts, "defaults": result.defaults, "mended": result.mended,
         "passed": table.passed, "nodes": settings.nodes, "hosts": list(settings.hosts), "at": dict(zip(planned.seats, table.at)),
         "limits": league.limits._asdict(), "restarts_allowed": league.restarts,
         "host": socket.gethostname(), "processors": os.cpu_count(), "load": [round(it, 2) for it in os.getloadavg()],
@@ -261,6 +262,14 @@ def result_text(league, planned, result, files, begun, folder, table, settings):
         "versions": versions(which_program.chosen()),
         "commands": {name: league.players[name].command for name in planned.seats}, "files": files,
     }, indent=1) + "\n"
+
+
+def luck_figures(league, planned, folder):
+    """What a result says of luck; nothing where an earlier program dealt, which doesn't tell it."""
+    log, path = (folder / f"{planned.name}.{kind}" for kind in ("log", "luck"))
+    if not lucks.write(which_program.chosen(), league.game_path, log, path):
+        return {}
+    return lucks.figures(lucks.read(path, planned.seats), planned.seats)
 
 
 def versions(program):

@@ -9,7 +9,7 @@ from . import deals
 from .elements import graph, link, noted, paragraph, row, scale_of, section, shade, table, valued
 from .estimates import meetings_to_tell
 from .standings import FEWEST_GROUPS, INCIDENTS
-from .table import BY_HANDS, contradiction, half, head, marks, neighbour_marks, place, rating_rows, shown, trust
+from .table import BY_HANDS, LUCK, contradiction, half, head, marks, neighbour_marks, place, rating_rows, shown, trust
 from .words import counted
 
 HERE = Path(__file__).resolve().parent
@@ -47,6 +47,10 @@ SELECTED = (
 WORDS = (
     "Green and red: the interval leaves 0 out. In the graph the dot is the mean, and the dashed line is 0. “plain” is the "
     "interval if each hand were counted by itself."
+)
+ADJUSTED = (
+    "“luck-adjusted” is the same of results less luck: of how far the flop, the turn and the river moved what each player could expect. "
+    "Luck in hole cards isn’t taken out. Ranks and “told apart” go by the one of the two that rank_by names in the league’s file."
 )
 ORDERS = (
     "“rank” orders players by their mean over all opponents that they met; equal means share a rank. “run-off”: again and "
@@ -143,15 +147,17 @@ def times(standings, name):
 
 
 def standing_table(standings):
-    (at, least, most), rows = scale_of(standings), []
+    (at, least, most), rows, adjusted = scale_of(standings), [], standings.adjusted
     for it in standings.standings:
         small = [note.partition(":")[0] for note in marks(it)]
+        plain, luck = standings.plain.of(it.name), [valued(adjusted.of(it.name).interval)] if adjusted else []
         rows.append(row([
-            place(it.rank), ("left stays", escape(it.name)), noted(valued(it.interval), small), ("graph", graph(it.interval, at)),
-            half(it.plain), place(it.run_off), *[str(it.incidents[key]) for key in INCIDENTS], *times(standings, it.name),
+            place(it.rank), ("left stays", escape(it.name)), noted(valued(plain.interval), small), ("graph", graph(it.interval, at)),
+            half(plain.plain), *luck, place(it.run_off), *[str(it.incidents[key]) for key in INCIDENTS], *times(standings, it.name),
         ]))
     scale = "graph", f"from {least:+.0f} to {most:+.0f}" if most > least else ""
-    header = ["rank", ("left stays", "player"), "mbb/hand", scale, "plain", "run-off", *INCIDENTS, "time a hand", "longest response"]
+    header = ["rank", ("left stays", "player"), "mbb/hand", scale, "plain", *([LUCK] if adjusted else [])]
+    header += ["run-off", *INCIDENTS, "time a hand", "longest response"]
     return section("Standings", table(header, rows), *meaning(standings))
 
 
@@ -166,7 +172,7 @@ def meaning(standings):
         yield paragraph(FEW_GROUPS.format(which="all" if all(by_hands) else "some", fewest=FEWEST_GROUPS, mark=BY_HANDS))
     if cells:
         yield paragraph(f"{trust(standings)} {SELECTED}", "quiet")
-    for words in (WORDS, ORDERS, COUNTS):
+    for words in (WORDS, *([ADJUSTED] if standings.adjusted else []), ORDERS, COUNTS):
         yield paragraph(words, "quiet")
 
 
@@ -254,19 +260,21 @@ def incidents(standings, links):
                 notes = link(notes, match.planned.name) if notes else escape(match.planned.name)
                 rows.append(row([("left", notes), ("left", escape(name)), *map(str, counts)]))
     found = table([("left", "match"), ("left", "player"), *INCIDENTS], rows) if rows else paragraph("No player failed, and no action was mended.")
-    return section("Incidents", found, *map(paragraph, [*replaced(standings.league), *changed_files(standings)]))
+    return section("Incidents", found, *map(paragraph, [*replaced(standings.league, links.is_public), *changed_files(standings)]))
 
 
-def replaced(league):
+def replaced(league, is_public):
+    """Which matches were played anew. What there was of them isn't published."""
     folder = league.folder / "replaced"
     for path in sorted(folder.iterdir()) if folder.exists() else []:
-        yield f"{path.name.rpartition('.')[0]} was played anew; the earlier one is in replaced/{path.name}."
+        earlier = "" if is_public else f"; the earlier one is in replaced/{path.name}"
+        yield f"{path.name.rpartition('.')[0]} was played anew{earlier}."
 
 
 def changed_files(standings):
     """Of which players the files weren't the same before each match. Bots that learn may write to them."""
     for name in sorted(standings.league.players):
-        digests = {it.result["files"][name]["sha256"] for it in standings.matches if name in it.planned.players}
+        digests = {it.result["files"][name]["sha256"] for it in standings.matches if name in it.result["files"]}
         if len(digests) > 1:
             found = f"The files of {name} weren't the same before each match ({len(digests)} different states)."
             yield found + (REMEMBERED if standings.league.duplicate else "")

@@ -48,7 +48,9 @@ def seatings(players, duplicate, meeting):
 
 def wanted(league, known):
     """The matches that the league's file asks for and that aren't known: name, players, meeting, seats. First meetings come first.
-    Players are sorted by name, so that their order in the file doesn't matter."""
+    Players are sorted by name, so that their order in the file doesn't matter. Those of a room are planned as players come."""
+    if league.room:
+        return
     secret, names, first, tables = deals.secret(league), {it.name for it in known}, {}, {}
     for it in known:
         first.setdefault(it.group, it)
@@ -135,6 +137,23 @@ def fixed(league):
 def planned(league):
     """All matches of the league, by their numbers. Those that the league's file asks for and the plan doesn't have yet are
     added to it."""
+    return extended(league, lambda known: wanted(league, known))
+
+
+def add(league, players):
+    """Plans the next meeting of some players, with duplicates all its seatings; its last match."""
+    return extended(league, lambda known: next_meeting(league, known, tuple(sorted(players))))[-1]
+
+
+def next_meeting(league, known, players):
+    """The matches of the next meeting of some players, as `wanted` has them."""
+    meeting = 1 + max((it.meeting for it in known if it.players == players), default=0)
+    for number, seats in seatings(order_of(league, deals.secret(league), players, meeting, None), league.duplicate, meeting):
+        yield f"{'.'.join(players)}.{meeting}.{number}", players, meeting, seats
+
+
+def extended(league, lacking):
+    """All matches of the plan, to which those are added that `lacking` names, given those that it has."""
     prepare(league)
     with open(league.folder / "plan", "a+", encoding="ascii") as file:
         fcntl.flock(file, fcntl.LOCK_EX)
@@ -145,7 +164,7 @@ def planned(league):
             file.truncate(len(text))
         have = text.splitlines()
         known = [match(league, number, it) for number, it in enumerate(have, start=1)]
-        more = [line(name, players, meeting, seats) for name, players, meeting, seats in wanted(league, known)]
+        more = [line(name, players, meeting, seats) for name, players, meeting, seats in lacking(known)]
         if more:
             file.write("".join(it + "\n" for it in more))
             file.flush()

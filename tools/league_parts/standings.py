@@ -60,20 +60,25 @@ class Neighbours(NamedTuple):
 
 
 class Standings:
-    """The table of a league's plan and its finished matches. `unit` is hand or group where one of them is forced; `tell` is
-    called with what says how far it is, since it may read many logs."""
+    """The table of a league's plan and its finished matches, by what players won or, adjusted, by that less their luck. `unit` is
+    hand or group where one of them is forced; `tell` is called with what says how far it is, since it may read many logs."""
 
-    def __init__(self, league, plan, finished, unit=None, tell=lambda text: None):
-        self.league, self.unit, self.matches = league, unit, list(finished)
+    def __init__(self, league, plan, finished, unit=None, tell=lambda text: None, is_adjusted=False):
+        self.league, self.unit, self.is_adjusted, self.matches = league, unit, is_adjusted, list(finished)
         self.planned, self.tables, counted = len(plan), {it.players for it in plan}, {it.name for it in plan}
         self.finished = sum(it.planned.name in counted for it in self.matches)
         self.groups, self.planned_groups = grouped(plan, self.matches)
         self.finished_groups = sum(map(len, self.groups.values()))
+        self.reckon(tell)
+
+    def reckon(self, tell):
+        """Works out the figures of all players."""
         self.samples = {}
         for players, found in self.groups.items():
             self.samples[players] = Sample(self, players, found)
             tell(lambda: f"read the logs of {of_all(len(self.samples), len(self.groups), 'set', 'sets')} of players")
-        self.cells = {name: [sample.cell(name) for sample in self.samples.values() if name in sample.players] for name in league.players}
+        players = self.league.players
+        self.cells = {name: [sample.cell(name) for sample in self.samples.values() if name in sample.players] for name in players}
         self.standings = self.ranked()
         self.neighbours = [self.side_by_side(*pair) for pair in zip(self.standings, self.standings[1:]) if pair[1].interval]
 
@@ -81,6 +86,31 @@ class Standings:
     def ratings(self):
         """The players' ratings by least squares."""
         return rated(self.samples)
+
+    @cached_property
+    def other(self):
+        """The same by the other results: less luck, or as they are. None where a match doesn't tell its luck."""
+        if not all(group.tells_luck for found in self.groups.values() for group in found) or not self.groups:
+            return None
+        found = copy(self)
+        found.__dict__.pop("ratings", None)
+        found.is_adjusted, found.other = not self.is_adjusted, self
+        found.reckon(lambda text: None)
+        return found
+
+    @property
+    def plain(self):
+        """The standings by what players won."""
+        return self.other if self.is_adjusted else self
+
+    @property
+    def adjusted(self):
+        """Those by what players won less their luck; none where that isn't known."""
+        return self if self.is_adjusted else self.other
+
+    def of(self, name):
+        """A player's standing."""
+        return next(it for it in self.standings if it.name == name)
 
     def of_whole_groups(self):
         """The same with matches alone whose meetings are finished."""
@@ -178,15 +208,15 @@ class Sample:
 
     def __init__(self, standings, players, found):
         league = standings.league
-        self.players, self.groups, self.blind = players, found, league.blind
+        self.players, self.groups, self.blind, self.is_adjusted = players, found, league.blind, standings.is_adjusted
         self.seatings = len(found[0].matches)
         self.is_by_hands = standings.unit == "hand" or (standings.unit is None and len(found) < FEWEST_GROUPS)
         self.hands = league.hands
         if self.is_by_hands:
-            parts = [group.by_hands(league) for group in found]
+            parts = [group.by_hands(league, self.is_adjusted) for group in found]
             self.units = {name: [chips for part in parts for chips in part[name]] for name in players}
         else:
-            self.units = {name: [group.chips[name] for group in found] for name in players}
+            self.units = {name: [group.sums(self.is_adjusted)[0][name] for group in found] for name in players}
 
     @property
     def scale(self):
@@ -208,7 +238,7 @@ class Sample:
 
     def plain(self, name):
         """The estimate where each hand of each seating is a unit."""
-        total, squares = (sum(getattr(group, key)[name] for group in self.groups) for key in ("chips", "squares"))
+        total, squares = (sum(found[name] for found in sums) for sums in zip(*(group.sums(self.is_adjusted) for group in self.groups)))
         return estimate_of_sums(total, squares, len(self.groups) * self.seatings * self.hands).scaled(Fraction(1000, self.blind))
 
     def cell(self, name):

@@ -10,6 +10,7 @@ from .words import counted, of_all
 KEPT = {
     "all": "all finished groups count", "complete": "groups count against opponents against whom all are finished", "none": "no groups count",
 }
+LUCK = "luck-adjusted"
 BY_HANDS = "by hands: too small where bots learn"
 TRUST = "Each interval behind a mean, by itself, misses the true value in 1 of 20 leagues"
 TRUST_OF_CELLS = "; of {cells} cells (a player against opponents) about {misses} miss"
@@ -60,7 +61,8 @@ def head(standings):
     counts += f"{of_all(standings.finished_groups, standings.planned_groups, 'group')} are finished"
     if open_groups:
         counts += f"; {counted(open_groups, 'group')} with an unfinished match {'does' if open_groups == 1 else 'do'}n't count"
-    return [*lines, counts, *unproved(standings), *withdrawals(league)]
+    by_luck = ["players are ranked and told apart by their results less luck"] if standings.is_adjusted else []
+    return [*lines, counts, *by_luck, *unproved(standings), *withdrawals(league)]
 
 
 def unproved(standings):
@@ -77,11 +79,13 @@ def withdrawals(league):
 
 
 def standing_rows(standings):
-    yield "rank", "player", "mbb/hand", "plain", "run-off", *INCIDENTS, ""
+    adjusted = standings.adjusted
+    yield "rank", "player", "mbb/hand", "plain", *([LUCK] if adjusted else []), "run-off", *INCIDENTS, ""
     for it in standings.standings:
+        plain = standings.plain.of(it.name)
         yield (
-            place(it.rank), it.name, shown(it.interval), half(it.plain), place(it.run_off), *map(str, it.incidents.values()),
-            "; ".join(marks(it)),
+            place(it.rank), it.name, shown(plain.interval), half(plain.plain), *([shown(adjusted.of(it.name).interval)] if adjusted else []),
+            place(it.run_off), *map(str, it.incidents.values()), "; ".join(marks(it)),
         )
 
 
@@ -110,11 +114,18 @@ def neighbour_lines(standings):
 
 def cell_rows(standings):
     """Each player against each set of opponents; of two the one that is first by name."""
-    yield "player", "against", "mbb/hand", "plain", "groups", ""
-    for name in sorted(standings.cells):
-        for it in standings.cells[name]:
-            if len(it.opponents) > 1 or name < it.opponents[0]:
-                yield name, " ".join(it.opponents), shown(it.interval), half(it.plain), str(it.groups), BY_HANDS if it.is_by_hands else ""
+    yield "player", "against", "mbb/hand", "plain", *([LUCK] if standings.adjusted else []), "groups", ""
+    for name, it, adjusted in cells(standings):
+        if len(it.opponents) > 1 or name < it.opponents[0]:
+            luck = [shown(adjusted.interval)] if adjusted else []
+            yield name, " ".join(it.opponents), shown(it.interval), half(it.plain), *luck, str(it.groups), BY_HANDS if it.is_by_hands else ""
+
+
+def cells(standings):
+    """Each player against each set of opponents, by what he won, and by that less luck where it is known."""
+    adjusted = standings.adjusted
+    for name, found in sorted(standings.plain.cells.items()):
+        yield from ((name, *pair) for pair in zip(found, adjusted.cells[name] if adjusted else [None] * len(found)))
 
 
 def rating_rows(standings):
@@ -150,11 +161,12 @@ def trust(standings):
 
 def text(standings):
     """The table for a terminal."""
-    lines = [*head(standings), "", *columns([*standing_rows(standings)], {0, 2, 3, 4, *range(5, 5 + len(INCIDENTS))})]
+    numbers = {*range(2, 5 + len(INCIDENTS) + bool(standings.adjusted))}
+    lines = [*head(standings), "", *columns([*standing_rows(standings)], {0, *numbers})]
     if standings.finished_groups:
         lines += ["", "neighbours in rank, and by how much the better one is ahead", *neighbour_lines(standings)]
         lines += ["", *rating_lines(standings)] if len(standings.league.players) > 2 else []
-        lines += ["", *columns([*cell_rows(standings)], {2, 3, 4}), "", trust(standings)]
+        lines += ["", *columns([*cell_rows(standings)], {2, 3, 4, 4 + bool(standings.adjusted)}), "", trust(standings)]
     return "\n".join(lines) + "\n"
 
 
@@ -173,17 +185,24 @@ def unit(it):
     return "hand" if it.is_by_hands else "group"
 
 
-def standing_values(it):
+def standing_values(standings, it):
+    plain, adjusted = standings.plain.of(it.name), standings.adjusted and standings.adjusted.of(it.name)
     return {
-        "player": it.name, "rank": it.rank, "run_off": it.run_off, **interval_values(it.interval),
-        "plain_half": interval_values(it.plain)["half"], "unit": unit(it), "met": it.met, "planned": it.planned, **it.incidents,
+        "player": it.name, "rank": it.rank, "run_off": it.run_off, **interval_values(plain.interval),
+        "plain_half": interval_values(plain.plain)["half"], **adjusted_values(adjusted), "unit": unit(it), "met": it.met,
+        "planned": it.planned, **it.incidents,
     }
 
 
-def cell_values(name, it):
+def adjusted_values(it):
+    """The interval by results less luck; nothing where that isn't known."""
+    return interval_values(it.interval, "adjusted_") if it else {}
+
+
+def cell_values(name, it, adjusted):
     return {
         "player": name, "against": " ".join(it.opponents), **interval_values(it.interval), "plain_half": number(it.plain.half),
-        "groups": it.groups, "unit": unit(it),
+        **adjusted_values(adjusted), "groups": it.groups, "unit": unit(it),
     }
 
 
@@ -202,14 +221,15 @@ def values(standings):
     """The whole table as lists of figures by their names."""
     return {
         "league": standings.league.name, "hands": standings.league.hands, "duplicate": standings.league.duplicate,
+        "rank_by": "luck" if standings.is_adjusted else "plain",
         "matches": {"planned": standings.planned, "finished": standings.finished},
         "groups": {"planned": standings.planned_groups, "finished": standings.finished_groups},
         "withdrawn": {name: standings.league.players[name].keep for name in sorted(standings.league.withdrawn)},
-        "standings": [standing_values(it) for it in standings.standings],
+        "standings": [standing_values(standings, it) for it in standings.standings],
         "ratings": [rating_values(it) for it in standings.ratings.ratings],
         "residual": {"squares": number(standings.ratings.squares), "freedom": standings.ratings.freedom},
         "neighbours": [neighbour_values(it) for it in standings.neighbours],
-        "cells": [cell_values(name, it) for name in sorted(standings.cells) for it in standings.cells[name]],
+        "cells": [cell_values(*it) for it in cells(standings)],
     }
 
 

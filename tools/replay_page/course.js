@@ -114,7 +114,7 @@ function drawLegend(courses, chosen, choose) {
     const button = element("button", { type: "button", "aria-pressed": String(name === chosen) },
       shape("svg", { viewBox: "0 0 28 8", "aria-hidden": "true" }, line),
       element("span", { class: "who" }, name),
-      valueElement(course[course.length - 1]));
+      valueElement(Math.round(course[course.length - 1])));
     button.addEventListener("click", () => choose(name));
     return button;
   });

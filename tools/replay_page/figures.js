@@ -3,10 +3,14 @@
 /** How many standard deviations hold 95 of 100 draws of a normal distribution. */
 const NORMAL_95 = 1.96;
 
-/** Returns a match of the page's data: its header's words, its hands with what they come to, and what differs from the log. */
-function readMatch(game, lines, index) {
+/**
+ * Returns a match of the page's data: its header's words, its hands with what they come to, and what differs from the log.
+ * `lucks` has for each hand the luck of each position in chips, or is null where it isn't known.
+ */
+function readMatch(game, lines, index, lucks = null) {
   const [, , name, gameName, count] = lines[0].split(" ");
   const hands = lines.filter((line) => line.startsWith("STATE:")).map((line) => readHand(game, line, index));
+  if (lucks) hands.forEach((hand, place) => (hand.lucks = lucks[place]));
   const score = lines.find((line) => line.startsWith("SCORE:"));
   const names = hands.length > 0 ? hands[0].names : [];
   const differences = hands.filter((hand) => hand.difference).map((hand) => ({ hand, text: hand.difference }));
@@ -118,16 +122,17 @@ function figuresOf(hands, players) {
   return all;
 }
 
-/** Returns each player's chips by name: before the first of the hands, and after each. */
-function coursesOf(hands) {
+/** Returns each player's chips by name: before the first of the hands, and after each; or these less his luck. */
+function coursesOf(hands, isLessLuck = false) {
   const courses = new Map();
   for (const name of hands.flatMap((hand) => hand.names)) {
     if (!courses.has(name)) courses.set(name, [0]);
   }
-  for (const { names, payoffs } of hands) {
+  for (const { names, payoffs, lucks } of hands) {
     for (const [name, course] of courses) {
       const position = names.indexOf(name);
-      course.push(course[course.length - 1] + (position < 0 ? 0 : payoffs[position]));
+      const chips = position < 0 ? 0 : payoffs[position] - (isLessLuck ? lucks[position] : 0);
+      course.push(course[course.length - 1] + chips);
     }
   }
   return courses;

@@ -9,7 +9,7 @@ const PARTS = ["#hands", "#course", "#figures"];
 
 const data = JSON.parse(byId("data").textContent);
 const game = readGame(data.game.text);
-const matches = data.matches.map(({ lines }, index) => readMatch(game, lines, index));
+const matches = data.matches.map(({ lines, lucks }, index) => readMatch(game, lines, index, lucks));
 const isMany = matches.length > 1;
 
 // What is chosen (a scope of -1 is all matches), what follows from it, and the timer of a hand that plays.
@@ -200,13 +200,14 @@ function turnPage(by) {
 
 function drawChart() {
   const hands = scopeHands();
-  const figures = view.figures.get(view.band);
+  // The band is that of chips with luck.
+  const figures = isLessLuck() ? undefined : view.figures.get(view.band);
   const marked = hands.indexOf(view.hand) + 1;
   view.handAt = drawCourse(view.courses, figures ? figures.total.deviation() : null, marked);
   byId("scrub").max = String(hands.length - 1);
   byId("scrub").value = String(Math.max(0, marked - 1));
   byId("scrub").setAttribute("aria-valuetext", view.hand ? handName(view.hand) : "");
-  const values = [...view.courses].map(([name, course], place) => [`${place > 0 ? ", " : ""}${name} `, valueElement(course[marked])]);
+  const values = [...view.courses].map(([name, course], place) => [`${place > 0 ? ", " : ""}${name} `, valueElement(Math.round(course[marked]))]);
   refill(byId("reading"), marked > 0 ? [`After ${handName(view.hand).toLowerCase()}: `, values] : []);
   byId("band").textContent = bandText(figures);
 }
@@ -233,7 +234,7 @@ function chooseScope(scope) {
   byId("match").value = String(scope);
   const player = view.courses ? byId("player").value : data.seat;
   const hands = scopeHands();
-  view.courses = coursesOf(hands);
+  view.courses = coursesOf(hands, isLessLuck());
   view.figures = figuresOf(hands, game.players);
   const names = [...view.courses.keys()];
   const options = names.map((name) => element("option", { value: name }, name));
@@ -243,6 +244,18 @@ function chooseScope(scope) {
   drawLegend(view.courses, view.band, chooseBand);
   showFigures();
   refilter();
+}
+
+/** Whether the courses are to be shown less luck. */
+function isLessLuck() {
+  return byId("less-luck").checked;
+}
+
+/** Shows the courses less luck, or with it. */
+function switchLuck() {
+  view.courses = coursesOf(scopeHands(), isLessLuck());
+  drawLegend(view.courses, view.band, chooseBand);
+  drawChart();
 }
 
 function showFigures() {
@@ -292,6 +305,7 @@ function showDifferences() {
 }
 
 function showMatches() {
+  byId("luck").hidden = !matches.every(({ hands }) => hands.every(({ lucks }) => lucks));
   byId("matches").hidden = !isMany;
   byId("number").inputMode = isMany ? "text" : "numeric";
   const text = ({ index, name, hands }) => `${index + 1}: ${name} (${data.matches[index].log}, ${chipsText(hands.length)} hands)`;
@@ -360,6 +374,7 @@ function listen() {
     openHand(scopeHands()[0]);
   });
   byId("by-position").addEventListener("change", showFigures);
+  byId("less-luck").addEventListener("change", switchLuck);
   // The address changes when the slider is let go of: browsers bear few changes of it in a second.
   byId("scrub").addEventListener("input", () => openHand(scopeHands()[Number(byId("scrub").value)]));
   byId("scrub").addEventListener("change", () => goTo(view.hand));

@@ -140,10 +140,20 @@ function drawStory(hand, steps, open) {
   refill(byId("story"), parts, element("section", { class: "outcome" }, title, element("ul", {}, texts)));
 }
 
-/** Makes the cards of a round, and what is in the pots when it begins. */
+/** Makes the cards of a round, what is in the pots when it begins, and what each player may expect of them. */
 function roundElements(hand, step) {
   const chips = step.pots.reduce((sum, pot) => sum + pot.chips, 0);
-  return [cardsElement(roundCards(hand, step.round)), element("span", { class: "quiet" }, `pot ${chipsText(chips)}`)];
+  const quiet = (text) => element("span", { class: "quiet" }, text);
+  const text = equityText(hand, step);
+  return [cardsElement(roundCards(hand, step.round)), quiet(`pot ${chipsText(chips)}`), text ? quiet(text) : null];
+}
+
+/** Returns how much of the pots each player who is left may expect; nothing where it isn't known. */
+function equityText(hand, step) {
+  const equities = equitiesOf(hand, step);
+  if (equities === null) return "";
+  const live = [...equities.keys()].filter((position) => !step.folded[position]);
+  return live.map((position) => `${hand.names[position]} ${(100 * equities[position]).toFixed(1)} %`).join(" · ");
 }
 
 function actElement(hand, action) {
