@@ -1,0 +1,1 @@
+"""What tools/doctor stands on; tools/new-match copies it to each machine beside the tool."""

@@ -1,0 +1,1 @@
+"""What tools/new-match stands on."""
