@@ -11,7 +11,7 @@ CALLS, DOES_ALL, STAYS, ALL, NEWEST = 0, 2, 1, 4, 8
 
 SCRIPTS = {
     # Two bots that ask for all lines, and a stranger who asks for the status.
-    "plain": [f"match 3 4 7 - - {GAME} alice|bob", *STARTS, f"1000 bot 0 0 900 {DOES_ALL} 5 {ALL}", f"2000 bot 1 1 700 {DOES_ALL} 9 {ALL}", "1300000 stranger 0 255 0 1", "30000000 end"],
+    "plain": [f"match 3 4 7 - - {GAME} alice|bob", *STARTS, f"1000 bot 0 0 900 {DOES_ALL} 5 {ALL}", f"2000 bot 1 1 700 {DOES_ALL} 9 {ALL}", "1300000 stranger 0 255 0 1", "20000000 think 0 900", "30000000 end"],
     # With a key; the bots ask for nothing and for the newest line.
     "key": [f"match 3 4 7 - key {GAME} alice|bob", *STARTS, f"1000 bot 0 0 900 {DOES_ALL} 5 0", f"2000 bot 1 1 700 {DOES_ALL} 9 {NEWEST}", "30000000 end"],
     # Bots that think for so long that one is played for each time, and then both act.

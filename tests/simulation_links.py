@@ -1,14 +1,12 @@
-"""The rules of tests/simulation on what nodes say to each other: connections, records, frames, campaigns and status lines."""
-import re
-
+"""The rules of tests/simulation on what nodes say to each other: connections, records, frames and campaigns."""
 from simulation_codes import Direction, proof
 from simulation_covered import RECORDS
 from simulation_list import AWAY
-from simulation_trace import KINDS, Records, Wrong, ballot_of, bytes_of, number, split
+from simulation_trace import KINDS, Records, Wrong, ballot_of, number, split
 
-# What a beat begins with where there is no key, in hexadecimal, and how long it is; the places of the front and of the flags in it, and which
-# flag says that the match is over.
-BEAT, BEAT_SIZE, FRONT, FLAGS, OVER = "0000001003", 40, slice(26, 34), slice(34, 36), 2
+# What a beat begins with where there is no key, in hexadecimal, and how long it is; the places of the front, the flags and the seats in it,
+# and which flag says that the match is over.
+BEAT, BEAT_SIZE, FRONT, FLAGS, SEATS, OVER = "0000001003", 40, slice(26, 34), slice(34, 36), slice(36, 40), 2
 
 HELLO, PROOF, FRAME, BEATS, LIVES = 0, 1, 2, 3, 4
 
@@ -18,14 +16,6 @@ KEY = bytes([5]) * 32
 # Campaigns of one process in vain: behind so many the next waits so long at least (docs/NODES.md), whatever it is for: the
 # shortest wait, a fifth of a second, is doubled up to two seconds.
 SHORTEST, MOST_WAIT = 200_000, 2_000_000
-
-# What a status line says (docs/NOTES.md).
-YES, BALLOT = "(yes|no)", r"(-|\d+\.\d+)"
-STATUS = re.compile(rf"node (\d) front (\d+) hand (-|\d+) over {YES} replaying {YES} promised {BALLOT} leads {YES} quorum {YES} peers (\S+) seats (\S+) pending {YES} backlog (\S+) commands (\d+)/s\n")
-
-# For a bot 64 KiB wait at most, and one line of 4,096 bytes with its end (docs/OPERATING-NODES.md, `backlog`).
-LINE = 4_096
-MOST_WAITING = 65_536 + LINE + 2
 
 
 class Connection:
@@ -89,6 +79,13 @@ class Links:
             raise Wrong("old", row[0], f"node {row[1]} speaks over connection {row[3]}, which its process doesn't have")
         return process
 
+    def open_to(self, row, connection, process):
+        """A process speaks over one connection to a peer, behind the greeting: not over an earlier one once it has over a later one."""
+        peer, number = connection.other(row[1]), int(row[3])
+        if process.open.setdefault(peer, number) > number:
+            raise Wrong("old", row[0], f"node {row[1]} speaks over connection {number} to node {peer}, behind {process.open[peer]}")
+        process.open[peer] = number
+
     def say_to_node(self, row, connection, data):
         process = self.own(row, connection)
         for kind, body in connection.records_of(row[1]).read(data):
@@ -101,6 +98,8 @@ class Links:
             connection.greet(row[1], body)
             self.hello(moment, node, body)
             return
+        if kind != PROOF:
+            self.open_to(row, connection, process)
         if kind == FRAME:
             process.spoken.setdefault(connection.other(row[1]), moment)
         if self.has_key:
@@ -109,7 +108,7 @@ class Links:
             self.frame(moment, node, process, body)
         elif kind == BEATS:
             self.beats += 1
-            self.beat(moment, node, process, number(body[8:12]), body[12])
+            self.beat(moment, node, process, number(body[8:12]), body[12], number(body[13:15]))
         elif kind == LIVES:
             self.lives(moment, node, body)
 
@@ -137,14 +136,15 @@ class Links:
         if process is None or connection.processes.get(who) is not process:
             self.own(row, connection)
         self.beats += 1
+        self.open_to(row, connection, process)
         # The next beat says what the one before it did, but for its number, and nothing came into the list.
         said = words[FRONT.start :]
         if said != process.beat:
-            self.beat(row[0], int(who), process, int(words[FRONT], 16), int(words[FLAGS], 16))
+            self.beat(row[0], int(who), process, int(words[FRONT], 16), int(words[FLAGS], 16), int(words[SEATS], 16))
             process.beat = said
         return True
 
-    def beat(self, moment, node, process, front, flags):
+    def beat(self, moment, node, process, front, flags, seats):
         """A beat says a front that the list has, not below an earlier one of the process, and the match's end where it has come. Behind a
         failed call of its disk a process tells nothing of its node any more."""
         if process.is_failed:
@@ -153,6 +153,7 @@ class Links:
             raise Wrong("beat", moment, f"node {node} tells front {front} and flags {flags} behind {process.beat_front}, of {self.front} commands")
         process.beat_front = front
         self.fronts[node].add(front)
+        self.sat[node] |= seats
         if front > process.known:
             process.known = front
 
@@ -195,6 +196,7 @@ class Links:
             raise Wrong("own", moment, f"node {node} prepares {ballot}")
         self.promised(moment, node, process, ballot)
         self.know(moment, node, process, front)
+        process.first = front
         if ballot in process.begun:
             self.campaign(moment, node, process, ballot, front)
 
@@ -221,6 +223,7 @@ class Links:
             raise Wrong("own", moment, f"node {node} proposes in {ballot}")
         if 2 * len(self.promises.get(ballot, ())) <= self.count:
             raise Wrong("quorum", moment, f"node {node} proposes in {ballot}, which {sorted(self.promises.get(ballot, ()))} promised")
+        process.proposed = ballot
         self.accepted(moment, node, ballot, number(part[5:9]), part[10:])
 
     def say_accepted(self, moment, node, process, part):
@@ -261,57 +264,3 @@ class Links:
             raise Wrong("ballots", moment, f"node {node} campaigns {begun - process.last} after its last one, behind {process.ballots} in vain")
         process.front, process.last = front, begun
         process.ballots += 1
-
-    # Status lines: what a node's store, the list and the match make it say.
-
-    def status(self, moment, node, line):
-        self.count_one("told a status")
-        found = STATUS.fullmatch(line)
-        if found is None:
-            raise Wrong("status", moment, f"node {node} tells as its status {line!r}")
-        process = self.processes[node]
-        backlog = [int(count) for count in found[12].split(",")]
-        if max(backlog) >= MOST_WAITING - LINE - 2:
-            self.count_one("all that waits for a bot")
-        if max(backlog) > MOST_WAITING:
-            raise Wrong("queue", moment, f"node {node} has {max(backlog)} bytes that wait for a bot")
-        wrong = [*self.wrong_node(node, process, found), *self.wrong_peers(node, found), *self.wrong_seats(process, found)]
-        if wrong:
-            raise Wrong("status", moment, f"node {node}, {wrong}: {line!r}; {self.front} commands, promised {process.disk.store.promised}")
-
-    def wrong_node(self, node, process, found):
-        """Of what a status line says of its node what isn't so."""
-        told, front, hand, over, _, promised, leads, _, _, _, pending, _, commands = found.groups()
-        front, ballot = int(front), process.disk.store.promised
-        dealt, finished = self.dealt.hands[min(front, self.front)]
-        return [word for word, is_wrong in {
-            "node": int(told) != node,
-            "front": not process.known <= front <= self.front,
-            "hand": hand != (str(dealt - 1) if dealt else "-"),
-            "over": over != ("yes" if finished == self.hands else "no"),
-            "promised": promised != ("-" if ballot == (0, 0) else "{}.{}".format(*ballot)),
-            "leads": leads == "yes" and (ballot[1] != node or 2 * len(self.promises.get(ballot, ())) <= self.count),
-            "pending": pending == "yes" and dealt == finished,
-            "commands": int(commands) > front,
-        }.items() if is_wrong]
-
-    def wrong_peers(self, node, found):
-        """Of what it says of the others what isn't so: each is there, and a front is one that the other told."""
-        others = [word.split(":") for word in found[9].split(",")]
-        heard = [words for words in others if words[1] != "gone"]
-        if [int(words[0]) for words in others] != [other for other in range(self.count) if other != node]:
-            yield "peers"
-        elif any(int(words[1]) not in self.fronts[int(words[0])] for words in heard):
-            yield "fronts of peers"
-        if found[8] == "yes" and 2 * (len(heard) + 1) <= self.count:
-            yield "quorum"
-
-    def wrong_seats(self, process, found):
-        """Of what it says of seats what isn't so."""
-        seats = [word.split(":") for word in found[10].split(",")]
-        if [words[0] for words in seats] != self.names or len(found[12].split(",")) != len(self.names):
-            yield "seats"
-        for seat, words in enumerate(seats):
-            if words[1] == "seated" and seat not in process.took:
-                yield f"seat {seat}"
-

@@ -77,6 +77,10 @@ class Dealt:
             return None
         return nodes.act_bytes(hand.number, self.acts, action[0], after.spent[hand.turn] if action[0] == "r" else 0)
 
+    def default(self):
+        """The command of the default action of the seat to act."""
+        return bytes([AWAY]) + self.table.hand.number.to_bytes(4, "big") + self.acts.to_bytes(2, "big")
+
     def fits(self, command):
         """Whether a command does something behind the list."""
         if command[0] == ACT and self.table.runs():

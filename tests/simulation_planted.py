@@ -1,6 +1,7 @@
 """Wrong servers that tests/simulation --planted is to find: what is wrong, the edit of one file that makes it (path below crates/, old
-and new text), and the rules that are to find it. They aren't proved, so they can't be built: `rt try` runs each, over a copy of the
-sources."""
+and new text), and the rule that is to find it. They aren't proved, so they can't be built: `rt try` runs each, over a copy of the
+sources. One that does all that the server does fails too."""
+import hashlib
 import itertools
 import multiprocessing
 import shutil
@@ -20,23 +21,29 @@ TRIED, PLANTED_SEEDS = "by rt try", 200
 # Hands of a match by which a wrong server is tried: `rt try` gives no answer of more than 1 MiB.
 HANDS = 5
 PLANTED = [
-    ("a vote is said before its second sync", "promise_store/src/appending.rt", "    write_through(disk, gate, &[1])\n", "    disk.write_at(gate, &[1])\n", {"backed", "agree", "one-list", "chosen"}),
-    ("a record is written at once with its gate", "promise_store/src/appending.rt", "    write_through(disk, behind, text)?;\n", "    disk.write_at(behind, text)?;\n", {"store", "backed", "opens"}),
-    ("a promise isn't stored", "promise_store/src/store.rt", "        let text: &[u8] = &bytes;\n", "        let text: &[u8] = &bytes;\n        if text.len() < 12 { self.held.note(self.gate, text.len() - 3, addition); return Ok(()); }\n", {"backed", "agree"}),
-    ("a line is told to another seat", "node_seats/src/seats.rt", "                seat.tell(&mut self.line, number, table)\n", "                seat.tell(&mut self.line, if number < 2 { number ^ 1 } else { number }, table)\n", {"one-list"}),
-    ("text is left out of the log", "node_service/src/desk.rt", "        Reader::Log => log(wire, log_failed, text),\n", "        Reader::Log => if text.len() > 89 { log(wire, log_failed, text) },\n", {"one-log", "whole-log"}),
-    ("an order for who isn't late", "node_service/src/ticking.rt", "            time: self.moment(),\n            patience: patience.min(LONGEST_PATIENCE),\n", "            time: self.moment(),\n            patience: patience.min(LONGEST_PATIENCE) / 2,\n", {"late"}),
-    ("no tick at all", "node_service/src/ticking.rt", "                self.tick();\n                0\n", "                50_000\n", {"progress", "gap"}),
-    ("a wait that never doubles", "clockwork/src/waits.rt", "    wait.max(most.min(wait * times(ticks)))\n", "    let _ = (most, times(ticks));\n    wait\n", {"ballots"}),
-    ("a connection is told of nobody", "node_service/src/taking.rt", "        let _ = self.desk.company.tell(ServerNotice::Joined { peer, life });\n", "        let _ = peer;\n", {"joined"}),
-    ("a call is made twice", "node_service/src/local_node.rt", "        (self.desk.step(event), before)\n", "        let _first = self.desk.step(event);\n        (self.desk.step(event), before)\n", {"twice"}),
-    ("an act that goes on is dropped", "node_service/src/desk.rt", "    company.send(to, frame, now);\n", "    if frame.len() < 6 || frame[5] != 8 { company.send(to, frame, now); }\n", {"progress", "gap"}),
-    ("a quorum of two less", "paxos_wire/src/node_set.rt", "        for node in 0..nodes as usize {\n            if self.marks[node] {\n", "        for node in 0..nodes as usize {\n            if self.marks[node] || node < 2 {\n", {"one-list", "one-log", "agree", "chosen", "backed"}),
-    ("a bot that names a line is told the newest", "node_service/src/seat_lines.rt", "        NamedLine::Told(at) => Start::At(at),\n", "        NamedLine::Told(_) => Start::At(newest_place(table)),\n", {"no-gap"}),
-    ("the end is told though the match goes on", "node_service/src/seat_lines.rt", "    table.over() && !at.has_lines(table)\n", "    let _ = (table, at);\n    true\n", {"word"}),
-    ("a line without an end is read on", "seat_session/src/line_buffer.rt", "            None if waiting.len() <= LONGEST_LINE => Front::Partial,\n            _ => Front::TooLong,\n", "            None => Front::Partial,\n            _ => Front::TooLong,\n", {"queue"}),
-    ("a bot is told lines however many bytes wait", "node_seats/src/limits.rt", "pub const BACKLOG: usize = 1 << 16;\n", "pub const BACKLOG: usize = 1 << 30;\n", {"queue"}),
-    ("what waited for a peer stays in memory", "node_links/src/kept_frame.rt", "        let bytes = Vec::from_slice(alloc, bytes)?;\n", "        let lost = Vec::from_slice(alloc, &[1u8; MOST_FRAME])?;\n        let _lost = unsafe { std::mem::ManuallyDrop::new_unchecked(lost) };\n        let bytes = Vec::from_slice(alloc, bytes)?;\n", {"memory"}),
+    ("a vote is said before its second sync", "promise_store/src/appending.rt", "    write_through(disk, gate, &[1])\n", "    disk.write_at(gate, &[1])\n", "backed"),
+    ("a record is written at once with its gate", "promise_store/src/appending.rt", "    write_through(disk, behind, text)?;\n", "    disk.write_at(behind, text)?;\n", "store"),
+    ("a promise isn't stored", "promise_store/src/store.rt", "        let text: &[u8] = &bytes;\n", "        let text: &[u8] = &bytes;\n        if text.len() < 12 { self.held.note(self.gate, text.len() - 3, addition); return Ok(()); }\n", "backed"),
+    ("a line is told to another seat", "node_seats/src/seats.rt", "                seat.tell(&mut self.line, number, table)\n", "                seat.tell(&mut self.line, if number < 2 { number ^ 1 } else { number }, table)\n", "one-list"),
+    ("text is left out of the log", "node_service/src/desk.rt", "        Reader::Log => log(wire, log_failed, text),\n", "        Reader::Log => if text.len() > 89 { log(wire, log_failed, text) },\n", "one-log"),
+    ("an order for who isn't late", "node_service/src/ticking.rt", "            time: self.moment(),\n            patience: patience.min(LONGEST_PATIENCE),\n", "            time: self.moment(),\n            patience: patience.min(LONGEST_PATIENCE) / 2,\n", "late"),
+    ("no tick at all", "node_service/src/ticking.rt", "                self.tick();\n                0\n", "                50_000\n", "gap"),
+    ("a wait that never doubles", "clockwork/src/waits.rt", "    wait.max(most.min(wait * times(ticks)))\n", "    let _ = (most, times(ticks));\n    wait\n", "ballots"),
+    ("a connection is told of nobody", "node_service/src/taking.rt", "        let _ = self.desk.company.tell(ServerNotice::Joined { peer, life });\n", "        let _ = peer;\n", "joined"),
+    ("a call is made twice", "node_service/src/local_node.rt", "        (self.desk.step(event), before)\n", "        let _first = self.desk.step(event);\n        (self.desk.step(event), before)\n", "twice"),
+    ("an act that goes on is dropped", "node_service/src/desk.rt", "    company.send(to, frame, now);\n", "    if frame.len() < 6 || frame[5] != 8 { company.send(to, frame, now); }\n", "gap"),
+    ("a quorum of two less", "paxos_wire/src/node_set.rt", "        for node in 0..nodes as usize {\n            if self.marks[node] {\n", "        for node in 0..nodes as usize {\n            if self.marks[node] || node < 2 {\n", "quorum"),
+    ("a bot that names a line is told the newest", "node_service/src/seat_lines.rt", "        NamedLine::Told(at) => Start::At(at),\n", "        NamedLine::Told(_) => Start::At(newest_place(table)),\n", "no-gap"),
+    ("the end is told though the match goes on", "node_service/src/seat_lines.rt", "    table.over() && !at.has_lines(table)\n", "    let _ = (table, at);\n    true\n", "word"),
+    ("a line without an end is read on", "seat_session/src/line_buffer.rt", "            None if waiting.len() <= LONGEST_LINE => Front::Partial,\n            _ => Front::TooLong,\n", "            None => Front::Partial,\n            _ => Front::TooLong,\n", "queue"),
+    ("a bot is told lines however many bytes wait", "node_seats/src/limits.rt", "pub const BACKLOG: usize = 1 << 16;\n", "pub const BACKLOG: usize = 1 << 30;\n", "queue"),
+    ("what waited for a peer stays in memory", "node_links/src/kept_frame.rt", "        let bytes = Vec::from_slice(alloc, bytes)?;\n", "        let lost = Vec::from_slice(alloc, &[1u8; MOST_FRAME])?;\n        let _lost = unsafe { std::mem::ManuallyDrop::new_unchecked(lost) };\n        let bytes = Vec::from_slice(alloc, bytes)?;\n", "memory"),
+    ("a second connection of a node is taken beside its first", "node_links/src/judging.rt", "    if known.is_here {\n", "    if known.is_here && hello.ends.nodes > 7 {\n", "old"),
+    ("an act is a call though its bot raised", "seat_session/src/saying.rt", "            action: answer.action,\n", "            action: if answer.play.actions().len() > 2 { betting::Action::Call } else { answer.action },\n", "said"),
+    ("all hole cards are shown at a showdown", "matchstate/src/sight.rt", "has_come_to_showdown(play) && !play.folded(position)", "has_come_to_showdown(play)", "one-list"),
+    ("a default action is ordered where the bot's answer waits", "node_service/src/ticking.rt", "        matches!(self.desk.member.node().pending(), Some(Command::Act { .. }))\n", "        matches!(self.desk.member.node().pending(), Some(Command::Act { hand, .. }) if hand > 9_999)\n", "answered"),
+    ("a seat is given up though the match file says that all wait", "node_service/src/ticking.rt", "            gives_up: terms.gives_up,\n", "            gives_up: true,\n", "late"),
+    ("a deal isn't of the node's own seed", "dealer_kind/src/source.rt", "            Source::Seed(seed) => Some(draw(*seed, hand, players)),\n", "            Source::Seed(seed) => Some(draw(*seed ^ 64, hand, players)),\n", "deal"),
 ]
 # Those that small scripts don't show, or whose memory isn't seen, by `rt try`: they are tried by programs alone.
 BY_PROGRAMS = {16, 17}
@@ -96,33 +103,60 @@ def tried(number, seeds, is_calm):
             yield int(name), script, "\n".join(lines[1:]) + "\n"
 
 
+def runs_of(program, number, seeds, is_calm):
+    """The scripts by which a server is tried, each with its name and its trace, and with the memory that its run took, where a program
+    runs it: of seeds, and behind them those that are kept. `rt try` runs those of the seeds."""
+    if program is None:
+        for seed, script, text in tried(number, seeds, is_calm):
+            yield f"seed {seed}", script, text, None
+        return
+    for name, script in itertools.chain(((f"seed {seed}", drawn(seed, is_calm)) for seed in seeds), kept_scripts()):
+        yield name, script, *watched(program, script)
+
+
+def sum_of(text):
+    return hashlib.sha256(text.encode()).digest()
+
+
 def first_found(job):
-    """What the first script finds of a wrong server, and which that is: of a seed, or behind them one that is kept. `rt try` runs them
-    where there is no program."""
-    program, number, seeds, is_calm = job
-    if program:
-        kept = ((name, script, None) for name, script in kept_scripts())
-        runs = itertools.chain(((f"seed {seed}", drawn(seed, is_calm), None) for seed in seeds), kept)
-    else:
-        runs = ((f"seed {seed}", script, text) for seed, script, text in tried(number, seeds, is_calm))
-    for name, script, text in runs:
+    """What the first script finds of a wrong server, by whose name, and whether any trace so far was another than the right server's."""
+    program, number, seeds, is_calm, right = job
+    differs = False
+    for name, script, text, peak in runs_of(program, number, seeds, is_calm):
+        differs = differs or right.get(name) != sum_of(text)
         try:
-            Checker(script, *(watched(program, script) if text is None else (text,))).run()
+            Checker(script, text, peak).run()
         except Wrong as wrong:
-            return wrong.rule, wrong.words, name
-    return None, None, None
+            return wrong.rule, f"{name}: {wrong.words[:150]}", differs
+    return None, None, differs
+
+
+def told(number, found):
+    """What is printed of a wrong server, and whether it was found as it is to be."""
+    (name, *_, wanted), (rule, words, differs) = PLANTED[number - 1], found
+    if rule is not None:
+        return f"{number}. {name}: found by {rule}{'' if rule == wanted else f', and is to be by {wanted}'}, {words}", rule == wanted
+    return f"{number}. {name}: {'not found' if differs else 'it does nothing: its traces are those of the right server'}", False
 
 
 def planted(options):
-    """The first script by which each wrong server is found, which is to be by a rule that was named; the right one passes them all."""
-    passed = failed = 0
+    """The first script by which each wrong server is found, which is to be by its rule; the right one passes them all."""
     folder, first = Path(options.planted).resolve() if options.planted != TRIED else None, options.first or 1
     seeds = range(first, first + (options.count or (PLANTED_SEEDS if folder is None else 1_000)))
-    jobs = [(folder and str(folder / str(number)), number, seeds, options.calm) for number in range(0 if folder is None else 1, len(PLANTED) + 1) if folder or number not in BY_PROGRAMS]
+    programs = {number: folder and str(folder / str(number)) for number in range(len(PLANTED) + 1) if folder or number not in BY_PROGRAMS}
+    right, wrong = {}, []
+    for name, script, text, peak in runs_of(programs.pop(0), 0, seeds, options.calm):
+        right[name] = sum_of(text)
+        try:
+            Checker(script, text, peak).run()
+        except Wrong as why:
+            wrong.append(f"the server as it is, {name}: {why}")
+    print("\n".join(wrong) or f"the server as it is passes {len(right)} scripts", flush=True)
+    results = [not wrong]
     with multiprocessing.Pool(options.jobs) as pool:
-        for (_, number, _, _), (rule, said, script) in zip(jobs, pool.imap(first_found, jobs)):
-            name, rules = (PLANTED[number - 1][0], PLANTED[number - 1][4]) if number else ("the server as it is", {None})
-            found = "not found" if rule is None else f"found by {rule}, {script}: {said[:150]}"
-            print(f"{number}. {name}: {found}", flush=True)
-            passed, failed = (passed + 1, failed) if rule in rules else (passed, failed + 1)
-    return passed, failed
+        jobs = [(program, number, seeds, options.calm, right) for number, program in programs.items()]
+        for (_, number, *_), found in zip(jobs, pool.imap(first_found, jobs)):
+            words, is_found = told(number, found)
+            print(words, flush=True)
+            results.append(is_found)
+    return sum(results), len(results) - sum(results)

@@ -4,6 +4,7 @@ from simulation_links import BEAT, BEAT_SIZE
 from simulation_list import AWAY, Dealt, Decks
 from simulation_seats import Seats
 from simulation_trace import NO_STORE, TOP, Backwards, Disk, Wrong, bytes_of, dealer, field, rows_of
+from simulation_windows import NEVER, Windows
 
 # What each rule says of a trace.
 RULES = {
@@ -18,14 +19,14 @@ RULES = {
     "early": "nobody is played for before all seats came, or the start is over",
     "ends": "no process ends but at the end of the match, or since its disk failed",
     "front": "no node says that it has more commands than the list",
-    "gap": "in calm the next command comes within its time",
+    "gap": "wherever more than half of the nodes are well for a second, the next command comes within its time",
     "image": "a process begins on what its disk kept",
     "joined": "a process tells of each peer to which it speaks that it is there",
     "late": "who is played for was waited for",
     "lives": "who tells of a store's life is right",
     "memory": "a run takes no more memory than its processes and commands need",
     "no-gap": "a connection is told all lines of its seat from the one on that was asked for",
-    "old": "a process speaks over connections that it dialled or took itself",
+    "old": "a process speaks over connections that it dialled or took itself, one to each peer",
     "one-list": "each line is the second dealer's, of a beginning of the list",
     "one-log": "each log is the second dealer's, of a beginning of the list",
     "one-value": "in a ballot nobody votes for two commands at a slot",
@@ -46,9 +47,6 @@ RULES = {
     "word": "a bot that asked for its lines is told of the end, or that its line is none, where that is so",
 }
 
-# In calm the next command comes within so long, in microseconds, and four times the longest call before.
-PROGRESS = 5_000_000
-
 # How long seats are waited for at the start, where the script doesn't say.
 START = 600_000_000
 
@@ -60,8 +58,8 @@ UNTOLD = 1_000_000
 # by how long the match takes, what is lost, or who comes. What a process alone takes is said in docs/OPERATING-NODES.md (What to watch).
 PROGRAM_TAKES, PROCESS_TAKES, COMMAND_TAKES = 4 << 20, 6 << 20, 3 << 9
 
-# A call of the disk that never fails, by the order `fail`.
-NEVER = (1 << 64) - 1
+# How many calls of a disk pass before one fails, by the order `fail`, where none does.
+NO_FAILURE = (1 << 64) - 1
 
 
 class Process:
@@ -71,16 +69,22 @@ class Process:
         self.disk, self.log, self.is_failed, self.began = Disk(image), "", False, moment
         # The moment of the first frame that was said to each peer, and the peers that were told to be there.
         self.spoken, self.joined = {}, set()
+        # The last connection to each peer over which something was said behind the greeting.
+        self.open = {}
         # Its campaigns since its front moved: the front, how many, and the moment of the last; and the moment of each ballot whose
         # Prepare isn't said yet.
         self.front, self.ballots, self.last, self.begun = None, 0, 0, {}
+        # The last ballot in which it proposed, and when it last kept a vote.
+        self.proposed, self.voted = None, 0
+        # The first slot of the last ballot that it began.
+        self.first = 0
         # How many commands it has at least, by all that it says, and what its last beat said, with its front.
         self.known, self.beat, self.beat_front = 0, None, 0
-        # The seats that sit here, when each was taken in, and the line of each to which an answer came that waits.
-        self.sits, self.took, self.answered = set(), {}, {}
+        # The seats that sit here, when each was taken in, and the line of each to which an answer came that waits, with the moment.
+        self.sits, self.took, self.answered, self.answers_at = set(), {}, {}, {}
 
 
-class Checker(Seats):
+class Checker(Seats, Windows):
     """Goes through a trace, event by event: a row has its moment, who it is of, its word, and what is behind that."""
 
     def __init__(self, script, text, peak=None, may_refuse=False):
@@ -94,30 +98,33 @@ class Checker(Seats):
         self.dealt = Dealt(game, self.names, self.hands, f"# name/game/hands m1 {words[6]} {self.hands}")
         self.decks = [Decks((int(words[3]) + node) % (1 << 64), game.players) for node in range(self.count)]
         self.rows = rows_of(text)
-        self.counts, self.told, self.beats, self.gap, self.longest = {}, 0, 0, 0.0, 0
+        self.counts, self.told, self.beats, self.longest = {}, 0, 0, 0
         self.begin_nodes()
         self.begin_list()
+        self.begin_windows()
 
     def begin_nodes(self):
         """What is known of nodes, connections and bots."""
         self.processes, self.images, self.logs, self.connections = {}, {}, {}, []
         self.died, self.over = {}, set()
-        # The nodes whose disk is to fail, and the fronts that each has told by beats.
-        self.failing, self.fronts = set(), [{0} for _ in range(self.count)]
+        # The nodes whose disk is to fail, and the fronts and seats that each has told by beats.
+        self.failing, self.fronts, self.sat = set(), [{0} for _ in range(self.count)], [0] * self.count
+        # What status lines said of seats that no note has said yet.
+        self.doubts = []
         # What was read of who came, by the numbers of connections.
         self.readings = {}
 
     def begin_list(self):
         """What is known of the list: votes, promises, what seats said and when they were played for."""
-        self.votes, self.promises, self.chosen, self.front, self.moments = {}, {}, {}, 0, []
-        # By which ballot a command was first voted for at a slot, and in which it was chosen.
-        self.origins, self.chosen_in = {}, {}
+        self.votes, self.promises, self.chosen, self.front = {}, {}, {}, 0
+        # By which ballot a command was first voted for at a slot, in which it was chosen, and the highest that any node promised.
+        self.origins, self.chosen_in, self.highest = {}, {}, (0, 0)
         # What nodes read of seats: the actions by seat and line. When the last command came that did something.
         self.answers, self.acted = {}, 0
         # When default actions were shown first, which were ordered since the last command, and how many each seat had in a row.
         self.shown, self.orders, self.defaults = {}, {}, [0] * len(self.names)
-        # Which seats have come, and when a node first had a quorum: nobody is played for before all came, or the start is over.
-        self.came, self.quorum = set(), None
+        # Which seats have come, when the last one did, and when a node first had a quorum: nobody is played for before all came, or the start is over.
+        self.came, self.all_came, self.quorum = set(), NEVER, None
 
     def count_one(self, word):
         self.counts[word] = self.counts.get(word, 0) + 1
@@ -147,7 +154,9 @@ class Checker(Seats):
         if word in ("kill", "halt"):
             self.died[int(row[3])] = int(row[4])
         elif word == "fail":
-            (self.failing.discard if int(row[4]) == NEVER else self.failing.add)(int(row[3]))
+            (self.failing.discard if int(row[4]) == NO_FAILURE else self.failing.add)(int(row[3]))
+        else:
+            self.order_window(row)
 
     def on_begin(self, row):
         moment, node, image = row[0], int(row[1]), bytes_of(row[3])
@@ -158,14 +167,22 @@ class Checker(Seats):
         except NO_STORE as why:
             raise Wrong("store", moment, f"node {node} begins on no store: {why}")
         self.processes[node] = process
+        self.up.add(node)
+        self.see_node(moment, node)
         for ballot, slot, command in process.disk.found:
             self.vote(moment, node, ballot, slot, command)
         self.count_one("begin again" if node in self.images else "begin")
 
+    def stop_at(self, moment, node):
+        """The process of a node is gone; which it was, if there was one."""
+        self.up.discard(node)
+        self.see_node(moment, node)
+        return self.processes.pop(node, None)
+
     def on_refused(self, row):
         node, words = int(row[1]), " ".join(row[3:])
         self.images.pop(node, None)
-        process = self.processes.pop(node)
+        process = self.stop_at(row[0], node)
         self.images[node] = bytes(process.disk.synced)
         for number in filter(str.isdigit, row[3:]):
             self.count_one(f"fault {number}")
@@ -175,14 +192,14 @@ class Checker(Seats):
 
     def on_died(self, row):
         node = int(row[1])
-        process = self.processes.pop(node, None)
+        process = self.stop_at(row[0], node)
         if process is not None:
             self.images[node] = process.disk.image(self.died[node])
             self.count_one(f"died with {min(len(process.disk.unsynced), 3)} unsynced")
 
     def on_ended(self, row):
         moment, node = row[0], int(row[1])
-        process = self.processes.pop(node)
+        process = self.stop_at(moment, node)
         self.images[node] = process.disk.all_written()
         words = " ".join(row[3:])
         self.count_one("ended " + names_of(words)[0])
@@ -217,7 +234,9 @@ class Checker(Seats):
         except NO_STORE as why:
             raise Wrong("store", moment, f"node {node} synced no store: {why}")
         promised = process.disk.store.promised
+        self.highest = max(self.highest, promised)
         if found:
+            process.voted = moment
             self.count_one("stored votes")
             if found[0][0][1] == node:
                 # It leads: its front may move, as where it learns what was chosen before.
@@ -250,11 +269,15 @@ class Checker(Seats):
 
     def go_on(self, moment):
         """What is chosen next comes into the list."""
+        if self.front not in self.chosen:
+            return
+        self.pass_busy(moment)
+        self.look(moment)
+        self.last = moment
         while self.front in self.chosen:
             command = self.chosen[self.front]
             self.dealt.take(command, self.check_command(moment, command))
             self.front += 1
-            self.moments.append(moment)
 
     # What is said and told.
 
@@ -317,9 +340,13 @@ class Checker(Seats):
         seat = int(field(row, "seat"))
         self.came.add(seat)
         process.sits.add(seat)
+        if len(self.came) == len(self.names):
+            self.all_came = min(self.all_came, row[0])
+        self.settle_doubts(row[0], process, seat)
 
     def note_left(self, row, node, process):
         process.sits.discard(int(field(row, "seat")))
+        self.settle_doubts(row[0], process, int(field(row, "seat")))
 
     def note_joined(self, row, node, process):
         process.joined.add(int(field(row, "peer")))
@@ -336,17 +363,6 @@ class Checker(Seats):
             raise Wrong("memory", end, f"the run took {self.peak >> 10} KiB, of {self.most_memory() >> 10} at most: {self.count} processes, {self.front} commands")
         if len(self.over) < self.count:
             raise Wrong("progress", end, f"the match isn't over at {sorted(set(range(self.count)) - self.over)}: {self.front} commands, hand {self.dealt.table.finished} of {self.hands}")
-        orders = [(int(words[0]), words[1], list(map(int, words[2:]))) for words in (line.split(" ") for line in self.script[1:])]
-        calm = max([moment for moment, word, _ in orders if word != "end"] + [0]) + 1_000_000
-        longest = max([self.longest] + [numbers[1] for _, word, numbers in orders if word == "pause"] + [numbers[2] for _, word, numbers in orders if word == "delay"])
-        limit = PROGRESS + 4 * longest + (self.patience or 0)
-        if any(word == "leave" and moment + numbers[1] > calm for moment, word, numbers in orders):
-            # Processes that begin again wait for all bots to come, or for the start to be over.
-            limit += self.start
-        before = calm
-        for moment in self.moments:
-            if moment > calm:
-                self.gap = max(self.gap, (moment - before) / limit)
-                if moment - before > limit:
-                    raise Wrong("gap", moment, f"in calm no command was chosen for {(moment - before) / 1e6:.1f} s, of {limit / 1e6:.1f} at most")
-                before = moment
+        self.pass_busy(end)
+        self.look(end)
+        self.settle_doubts(end)

@@ -5,8 +5,11 @@ import random
 GAMES = {
     2: ["examples/l2.game", "examples/n2.game", "examples/holdem.limit.2p.reverse_blinds.game", "examples/holdem.nolimit.2p.reverse_blinds.game"],
     3: ["examples/l3.game", "examples/n3.game", "examples/holdem.limit.3p.game", "examples/holdem.nolimit.3p.game"],
+    4: ["examples/n4.game"],
 }
-NAMES = ["alice", "bob", "carol"]
+NAMES = ["alice", "bob", "carol", "dave"]
+# How often the status of a node is asked for in a script at most, and until when.
+ASKS, ASKED = 4, 60
 SECOND = 1_000_000
 # How a bot is: it asks for all lines, or for the newest.
 ALL, NEWEST = 4, 8
@@ -33,8 +36,8 @@ def drawn(seed, is_calm=False):
     it = Drawing(seed)
     pick = it.random
     count = pick.choice([3, 3, 3, 3, 5, 5, 7])
-    players = pick.choice([2, 2, 3])
-    hands = int(it.log_range(5, 40))
+    players = pick.choice([2, 2, 2, 3, 3, 4])
+    hands = int(it.log_range(5, 61))
     patience = pick.choice(["-", int(it.log_range(100_000, 5 * SECOND))])
     key = pick.choice(["-", "-", "-", "key"])
     game = pick.choice(GAMES[players])
@@ -62,15 +65,23 @@ def drawn(seed, is_calm=False):
     if storm:
         calm = trouble(it, count, players, storm, patience != "-")
     last = max(moment for moment, words in it.lines if words.startswith("bot "))
+    ask(it, seed, count)
     it.at(max(calm, last) + 300 * SECOND + hands * SECOND, "end")
     it.lines.sort(key=lambda line: line[0])
     return [first, *(f"{moment} {words}" for moment, words in it.lines)]
 
 
+def ask(it, seed, count):
+    """Somebody asks nodes for their status, whatever else is drawn."""
+    pick = random.Random(f"status of {seed}")
+    for _ in range(pick.randrange(ASKS + 1)):
+        it.at(SECOND / 100 * (100 * ASKED) ** pick.random(), "stranger", pick.randrange(count), 255, 0, pick.randrange(256))
+
+
 def trouble(it, count, players, storm, may_be_gone=False):
     """So many faults, one after another, and then calm, from the moment that is answered on."""
     pick = it.random
-    kinds = pick.sample(["kill", "halt", "cut", "way", "close", "sync", "pause", "fail", "leave", "delay", "stranger", "silent", "all", "torn", "busy", "deaf", "mute", "wrong", "gone", "half", "hush", "slow", "lonely"], pick.randrange(1, 6))
+    kinds = pick.sample(["kill", "halt", "cut", "way", "close", "sync", "pause", "fail", "leave", "delay", "stranger", "silent", "all", "torn", "busy", "deaf", "mute", "wrong", "gone", "half", "hush", "slow", "lonely", "starved"], pick.randrange(1, 6))
     if pick.random() < 0.02:
         kinds.append("far")
     gap = it.log_range(3_000, 2 * SECOND)
@@ -179,6 +190,14 @@ def trouble(it, count, players, storm, may_be_gone=False):
             # All syncs take a while: most kills come inside of one.
             for one in range(count):
                 it.at(now, "sync", one, it.log_range(1_000, 20_000))
+        elif kind == "starved":
+            # One process, or each, gets a twentieth of a processor.
+            period = max(it.log_range(10_000, 200_000), lasts / 50)
+            for one in pick.choice([[node], range(count)]):
+                begun = now + pick.random() * period
+                while begun < now + lasts:
+                    it.at(begun, "pause", one, period * 19 / 20)
+                    begun += period
         elif kind == "silent":
             lasts *= pick.choice([1, 1, 3])
             seat = pick.randrange(players)

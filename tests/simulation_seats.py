@@ -1,7 +1,8 @@
 """The rules of tests/simulation on seats: what bots say and are told, and when a seat is played for."""
 from simulation_covered import NUMBERS
-from simulation_links import LINE, Links
+from simulation_links import Links
 from simulation_list import ACT, DEAL
+from simulation_status import LINE, StatusLines
 from simulation_trace import Wrong, bytes_of
 
 # How long a seat that is given up is waited for, for so many turns.
@@ -51,7 +52,7 @@ class Order:
         self.moment, self.sits, self.sat_down = moment, sits, sat_down
 
 
-class Seats(Links):
+class Seats(Links, StatusLines):
     """The rules on seats, and on the commands of which they are shown."""
 
     def count_faults(self, where, names):
@@ -84,16 +85,18 @@ class Seats(Links):
         *lines, connection.partial = (connection.partial + data).split(b"\n")
         if reading.kind == "seat":
             for line in lines:
-                self.take_answer(int(row[1]), connection.seat, line.rstrip(b"\r").decode("latin-1"))
+                self.take_answer(row[0], int(row[1]), connection.seat, line.rstrip(b"\r").decode("latin-1"))
 
-    def take_answer(self, node, seat, line):
+    def take_answer(self, moment, node, seat, line):
         """A node has read a whole line of a seat: perhaps an answer, which waits there where it is to the newest line of the list."""
         state, _, action = line.rpartition(":")
         if not state.startswith("MATCHSTATE:"):
             return
         self.answers.setdefault((seat, state), set()).add(action)
         if self.dealt.to_act() == seat and self.dealt.last[seat] == state and self.dealt.command(action) is not None:
-            self.processes[node].answered[seat] = state
+            process = self.processes[node]
+            if process.answered.get(seat) != state:
+                process.answered[seat], process.answers_at[seat] = state, moment
 
     def on_most(self, row):
         """What a process read over one connection in one turn is bounded."""

@@ -1,4 +1,5 @@
 """Smaller scripts of tests/simulation that still fail by the same rule."""
+import re
 import sys
 
 from simulation_runs import judged
@@ -27,12 +28,12 @@ def fewer_hands(program, script, rule):
 
 
 def fewer_players(program, script, rule):
-    """Two players in place of three, if it still fails."""
+    """Two players in place of more, if it still fails."""
     words = script[0].split(" ")
-    if words[7].count("|") != 2:
+    if "|" not in words[7].partition("|")[2]:
         return script
-    game = words[6].replace("3", "2") if "/l" in words[6] or "/n" in words[6] else words[6].replace("3p.", "2p.reverse_blinds.")
-    lines = [line for line in script[1:] if line.split(" ")[1] not in ("bot", "think", "leave") or line.split(" ")[2] != "2"]
+    game = re.sub(r"\d\.game", "2.game", words[6]) if "/l" in words[6] or "/n" in words[6] else words[6].replace("3p.", "2p.reverse_blinds.")
+    lines = [line for line in script[1:] if line.split(" ")[1] not in ("bot", "think", "leave", "hush") or line.split(" ")[2] in ("0", "1")]
     tried = [" ".join([*words[:6], game, "alice|bob", *words[8:]]), *lines]
     return tried if fails(program, tried, rule) else script
 

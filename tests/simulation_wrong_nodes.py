@@ -167,6 +167,17 @@ def a_frame_of_an_old_process(it):
     it.rows[said][3] = it.rows[old][3]
 
 
+@wrong("old", "killed")
+def a_beat_over_an_earlier_connection(it):
+    """A node speaks to one that came back over the connection to the process before it."""
+    begun = it.first(lambda row: row[2] == "begin" and row[1] == "0" and row[0] != "0")
+    ends = it.between()
+    is_beat = lambda row: row[1] == "1" and row[2] == "say" and row[4].startswith("0000001003") and "0" in ends[row[3]]
+    later = it.first(lambda row: is_beat(row) and row[3] != it.rows[it.first(is_beat)][3], begun)
+    said = it.first(is_beat, later)
+    it.rows[said][3] = it.rows[it.first(is_beat)][3]
+
+
 # Campaigns.
 
 
@@ -258,6 +269,12 @@ def no_end(it):
     del it.rows[it.last(lambda row: row[2] == "ended")]
 
 
+@wrong("gap")
+def late_progress_in_a_window(it):
+    """A command comes fifteen seconds late, before the last order of the script."""
+    it.move(it.last(lambda row: row[2] == "write" and votes_of(row) is not None), 15_000_000)
+
+
 @wrong("gap", "killed")
 def late_progress(it):
     """In calm the next command comes half a minute later."""
@@ -284,5 +301,5 @@ def status_edit(old, new):
     return edit
 
 
-for old, new in ((r"front \d+", "front 99"), (r"front \d+", "front 0"), (r"hand \d+", "hand 3"), ("over no", "over yes"), (r"promised 1\.0", "promised 2.0"), (r"peers 1:\d+", "peers 1:99"), ("quorum yes peers [^ ]+", "quorum yes peers 1:gone,2:gone"), ("alice:[a-z]+,bob", "bob:seated,alice"), (r"backlog \d+", "backlog 99999")):
+for old, new in ((r"front \d+", "front 99"), (r"front \d+", "front 0"), (r"hand \d+", "hand 3"), ("over no", "over yes"), (r"promised 1\.0", "promised 2.0"), (r"peers 1:\d+", "peers 1:99"), ("quorum yes peers [^ ]+", "quorum yes peers 1:gone,2:gone"), ("alice:[a-z]+,bob", "bob:seated,alice"), ("leads yes", "leads no"), ("pending no", "pending yes"), ("alice:seated", "alice:away"), (r"backlog \d+", "backlog 99999")):
     wrong("queue" if "backlog" in new else "status")(status_edit(old, new))
