@@ -3,6 +3,8 @@ meanwhile, by the counters of Linux's /proc."""
 import contextlib
 import os
 import shutil
+import subprocess
+import sys
 import tempfile
 import threading
 import time
@@ -20,6 +22,8 @@ LEAST = 0.1
 HELD_UP = 0.1
 # How many times as long a pause may take where programs wait for a processor, and five seconds more.
 LONGEST, MORE = 10, 5
+# How long a command may take that has to end, in seconds.
+COMMAND = 60
 # What the process of the tests is called among the programs that it started.
 SELF = "the test"
 
@@ -236,6 +240,47 @@ def pause(seconds):
     in_time(left <= 0, f"programs got a processor for no {seconds:g} s in which nothing may come")
 
 
+def patiently(wait, timeout, words):
+    """What `wait` comes to, which waits for so many seconds at a time for a command. Time in which that, or another program of the test,
+    waits for a processor doesn't count for the limit."""
+    watch = Watch.here()
+    until = watch.fair + timeout
+    while True:
+        try:
+            return wait(EVERY)
+        except subprocess.TimeoutExpired:
+            if watch.fair >= until:
+                raise subprocess.TimeoutExpired(words, timeout) from None
+
+
+def wait(process, timeout=COMMAND):
+    """The status of a process that has to end."""
+    return patiently(process.wait, timeout, process.args)
+
+
+def communicate(process, timeout=COMMAND, input=None):
+    """What a process that has to end prints, and what it says of errors, as its own `communicate` tells it."""
+    # (what is left of the input behind the first wait the process's own one knows)
+    given = [input]
+    return patiently(lambda seconds: process.communicate(given.pop() if given else None, seconds), timeout, process.args)
+
+
+def run(words, timeout=COMMAND, input=None, capture_output=False, check=False, **how):
+    """Runs a command as subprocess.run does, but for its limit: it is waited for patiently."""
+    piped = {"stdin": subprocess.PIPE} if input is not None else {}
+    piped.update({"stdout": subprocess.PIPE, "stderr": subprocess.PIPE} if capture_output else {})
+    with subprocess.Popen(words, **piped, **how) as process:
+        try:
+            printed, said = communicate(process, timeout, input)
+        except BaseException:
+            process.kill()
+            raise
+    ran = subprocess.CompletedProcess(words, process.returncode, printed, said)
+    if check:
+        ran.check_returncode()
+    return ran
+
+
 class Result(NamedTuple):
     """What came of a row: what was wrong, or why it wasn't measured, or neither; and what it tells besides."""
 
@@ -319,7 +364,10 @@ def in_room(script, function):
 
 
 def run_in_rooms(script, tests):
-    """Runs the tests of a script, and tells what came of them; the script's status."""
+    """Runs the tests of a script, and tells what came of them; the script's status. With --help it prints what the script says of itself."""
+    if {"-h", "--help"} & set(sys.argv[1:]):
+        print(sys.modules["__main__"].__doc__.strip())
+        return 0
     tally = Tally(script)
     for function in tests:
         tally.add(function.__name__.replace("_", " "), result(lambda: in_room(script, function)))

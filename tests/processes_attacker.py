@@ -14,7 +14,6 @@ sent.
 """
 import contextlib
 import ipaddress
-import os
 import resource
 import select
 import socket

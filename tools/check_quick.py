@@ -1,6 +1,7 @@
 """What ./check --quick does: it makes unproved programs, runs the crates of tests by `rt try --test`, and the scripts in a copy of the tree.
 
-The copy has the programs where `rt ci` leaves proved ones, so that no script runs an unproved program unasked in the tree itself.
+The programs are optimised, as proved ones are: scripts that run matches take half as long by them. The copy has them where `rt ci`
+leaves proved ones, so that no script runs an unproved program unasked in the tree itself.
 """
 import contextlib
 import re
@@ -20,8 +21,6 @@ BUILT = {"match_tests": ["tests/step_growths", "tests/serve_growths", "tests/run
 # What a program with AddressSanitizer has in it, and the scripts that refuse allocations of a program, which its allocator doesn't ask for.
 SANITIZED = b"AddressSanitizer"
 REFUSING = ["tests/memory", "tests/step_growths"]
-# What isn't measured over programs that aren't optimised, and why.
-LEFT = {"tests/simulation": "its 400 matches take some 100 processor minutes over a program that isn't optimised"}
 # How many scripts run side by side, and beside them crates of tests.
 SCRIPTS, CRATES = 2, 1
 RESULT = re.compile(r"^test result: \w+\. (\d+) passed; (\d+) failed", re.M)
@@ -34,8 +33,8 @@ def crates_of_tests():
 
 
 def place_of(name):
-    """Where an unproved program is kept."""
-    return UNPROVED.with_name(name)
+    """Where an optimised program is kept, or that of a crate's tests."""
+    return UNPROVED.parent / "optimised" / name
 
 
 def copied(folder):
@@ -56,7 +55,7 @@ def put_in(copy, crate, program):
 def program(name):
     """Makes the program of a crate, and says what came of it: a status, and a line of counts behind what was said."""
     try:
-        unproved.kept(name, place_of(name), is_marked=name == UNPROVED.name)
+        unproved.kept(name, place_of(name), is_marked=name == UNPROVED.name, is_optimised=True)
     except unproved.NoProgram as why:
         return f"the program {name}", 1, f"{why}\n0 passed, 1 failed\n"
     return f"the program {name}", 0, "1 passed, 0 failed\n"
@@ -66,6 +65,7 @@ def tested(name):
     """Runs the tests of a crate; the program of its tests is made too where a script runs it."""
     to = place_of(f"{name}_tests") if name in BUILT else None
     if to is not None:
+        to.parent.mkdir(parents=True, exist_ok=True)
         to.unlink(missing_ok=True)
     try:
         status, said = unproved.tested(name, to)
@@ -84,8 +84,6 @@ def left_out(name, why):
 def measured(name, copy, step):
     """Runs a script, unless it can't be measured over the programs that the kit gave."""
     is_sanitized = any(SANITIZED in place_of(it).read_bytes() for it in PROGRAMS if place_of(it).is_file())
-    if name in LEFT:
-        return left_out(name, LEFT[name])
     if is_sanitized and name in REFUSING:
         return left_out(name, "the kit gives programs with AddressSanitizer, which has an allocator of its own")
     return step(name, copy)
@@ -102,11 +100,12 @@ def run(names, step):
     """Does all, given the scripts' names and what runs one in a tree. The name, the status and what was said of each, as they end."""
     waiting = {name for names in BUILT.values() for name in names}
     with tree() as copy, ThreadPoolExecutor(len(PROGRAMS)) as makers, ThreadPoolExecutor(CRATES) as testers, ThreadPoolExecutor(SCRIPTS) as scripts:
-        for ended in as_completed([makers.submit(program, name) for name in PROGRAMS]):
+        made = [makers.submit(program, name) for name in PROGRAMS]
+        begun = {testers.submit(tested, name): name for name in crates_of_tests()}
+        for ended in as_completed(made):
             yield ended.result()
         for name in filter(lambda name: place_of(name).is_file(), PROGRAMS):
             put_in(copy, name, place_of(name))
-        begun = {testers.submit(tested, name): name for name in crates_of_tests()}
         begun.update({scripts.submit(measured, name, copy, step): None for name in names if name not in waiting})
         for ended in as_completed(begun):
             yield ended.result()

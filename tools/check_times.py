@@ -1,7 +1,6 @@
 """What ./check knows of time: the processor minutes that each crate took, and how long the gate takes by them."""
 import functools
 import os
-import re
 import threading
 from pathlib import Path
 

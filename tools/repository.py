@@ -23,7 +23,7 @@ ITS_PROOF = "its proof names what is gone"
 # Where libraries stand aside while `rt ci` runs.
 ASIDE = TOP / "out/libraries"
 # The pages that are written by hand.
-PAGES = ["README.md", "CONTRIBUTING.md", "docs/*.md", "bench/RESULTS.md", "crates/*/README.md"]
+PAGES = ["README.md", "CONTRIBUTING.md", "docs/*.md", "bench/RESULTS.md", "crates/README.md", "crates/*/README.md", "examples/README.md"]
 TABLE = re.compile(r"^\| crate \|.*(?:\n\|.*)*\n?", re.M)
 # The columns of processor minutes, in both tables: what proving a crate and its tests took, and what its mutants took.
 KINDS = ("minutes of proofs", "of mutants")
