@@ -81,6 +81,7 @@ def laws(crate):
 
 
 def about(crate):
-    """The first paragraph of what a crate's src/lib.rt says of it."""
-    lines = re.findall(r"^//! ?(.*)$", (TOP / "crates" / crate / "src/lib.rt").read_text(), re.M)
+    """The first paragraph of what a crate says of itself at the head of src/lib.rt, or of a program's src/main.rt."""
+    root = next(path for path in (TOP / "crates" / crate / "src" / name for name in ("lib.rt", "main.rt")) if path.is_file())
+    lines = re.findall(r"^//! ?(.*)$", root.read_text(), re.M)
     return " ".join(lines[: lines.index("")] if "" in lines else lines)

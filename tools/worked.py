@@ -1,6 +1,5 @@
 """What is worked out beside the definitions: the examples in crates/*/proofs, and the mutants that the prover refuses."""
 import re
-from pathlib import Path
 
 import repository
 import specs
