@@ -278,12 +278,16 @@ def told_statuses(seed, is_long):
 @test()
 def table_of_statuses(seed, is_long):
     """tools/status where one node hangs, one can't be asked, and something else answers."""
-    rows = status.printed([["1", "37", "4", "no", "yes", "4.0", "no", "yes", "0:37:campaigns,2:gone", "alice:seated,bob:away", "no", "0,812", "412/s"], "not reached"])
+    told = [["1", "37", "4", "no", "yes", "4.0", "no", "yes", "0:37:campaigns,2:gone", "alice:seated,bob:away", "no", "0,812", "412/s"], "not reached"]
+    rows = status.printed(told)
     want([*rows] == [
         "node  front  hand  over  replaying  promised  leads  quorum  peers                  seats                  pending  backlog  commands",
         "1     37     4     no    yes        4.0       no     yes     0:37:campaigns,2:gone  alice:seated,bob:away  no       0,812    412/s",
         "1     not reached",
     ], f"the table is {rows}")
+    leads = ["0", "1064", "4", "no", "no", "4.0", "yes", "yes", "1:1000:campaigns,2:999,3:gone,4:1064", "alice:away", "no", "0", "412/s"]
+    want([*status.far_behind([leads, *told])] == ["node 2 is 65 commands behind"], "who is far behind")
+    want([*status.far_behind([[*leads[:6], "no", *leads[7:]]])] == [], "a node that doesn't lead says who is far behind")
     words = [word for pair in zip(status.COLUMNS, ["1", *["x"] * (len(status.COLUMNS) - 1)]) for word in pair]
     for text, said in (("x", words[1::2]), ("\x1b]0;x\x07", "something else answers there"), ("x\b\b", "something else answers there")):
         with socket.create_server(("127.0.0.1", 0)) as server:

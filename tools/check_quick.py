@@ -4,6 +4,7 @@ The programs are optimised, as proved ones are: scripts that run matches take ha
 leaves proved ones, so that no script runs an unproved program unasked in the tree itself.
 """
 import contextlib
+import os
 import re
 import shutil
 import tempfile
@@ -21,9 +22,14 @@ BUILT = {"match_tests": ["tests/step_growths", "tests/serve_growths", "tests/run
 # What a program with AddressSanitizer has in it, and the scripts that refuse allocations of a program, which its allocator doesn't ask for.
 SANITIZED = b"AddressSanitizer"
 REFUSING = ["tests/memory", "tests/step_growths"]
-# How many scripts run side by side, and beside them crates of tests.
-SCRIPTS, CRATES = 2, 1
+# How many scripts run side by side where there are four processors, and beside them crates of tests.
+SCRIPTS, CRATES = 3, 1
 RESULT = re.compile(r"^test result: \w+\. (\d+) passed; (\d+) failed", re.M)
+
+
+def lanes():
+    """How many scripts run side by side: with fewer than four processors two, as in ./check."""
+    return SCRIPTS if len(os.sched_getaffinity(0)) >= 4 else 2
 
 
 def crates_of_tests():
@@ -99,7 +105,7 @@ def tree():
 def run(names, step):
     """Does all, given the scripts' names and what runs one in a tree. The name, the status and what was said of each, as they end."""
     waiting = {name for names in BUILT.values() for name in names}
-    with tree() as copy, ThreadPoolExecutor(len(PROGRAMS)) as makers, ThreadPoolExecutor(CRATES) as testers, ThreadPoolExecutor(SCRIPTS) as scripts:
+    with tree() as copy, ThreadPoolExecutor(len(PROGRAMS)) as makers, ThreadPoolExecutor(CRATES) as testers, ThreadPoolExecutor(lanes()) as scripts:
         made = [makers.submit(program, name) for name in PROGRAMS]
         begun = {testers.submit(tested, name): name for name in crates_of_tests()}
         for ended in as_completed(made):
