@@ -1,216 +1,183 @@
-"""A reader of PokerStars' hands, written from what the format is and not from tools/hands: it plays each hand.
+"""A reader of PokerStars' text, by another author than tools/hands and without its code. It plays each hand again, and compares
+each line with what was played.
 
-A hand has a head, the seats with their stacks, the blinds, a part for each round, perhaps a showdown, and a summary; three
-empty lines are behind it. Amounts are chips of a play-money table. `raises A to B`: A is what B is above the bet before, B what
-the player then has put in in the round. A bet that nobody called is returned, and isn't in the pot.
+What the text is, from memory: a head, the seats with their stacks, the blinds, a part for each round, perhaps a showdown, and a
+summary; three empty lines are behind it. Amounts are chips of a play-money table, and those of a round. `raises A to B`: A is what B
+is above the bet before, B what the player then has put in. A bet that nobody called is returned, and isn't in the pot. Side pots
+are collected first, the last one before all others.
 """
 import re
 
-from hands_phh import Read, dealer, shared
+from hands_rules import (
+    CARD, FLUSH, FOUR, FULL_HOUSE, HIGH_CARD, PAIR, STRAIGHT, STRAIGHT_FLUSH, THREE, TWO_PAIRS, Game, Hand, Read,
+)
 from measuring import want
 
-HEAD = re.compile(r"PokerStars Hand #(\d+):  Hold'em (No Limit|Limit) \((\d+)/(\d+)\) - (\d{4}/\d\d/\d\d \d\d:\d\d:\d\d) ET")
-TABLE = re.compile(r"Table '([\w.-]+)' (\d+)-max \(Play Money\) Seat #(\d+) is the button")
-SEAT = re.compile(r"Seat (\d+): (\S+) \((\d+) in chips\)")
-BLIND = re.compile(r"(\S+): posts (small|big) blind (\d+)")
-DEALT = re.compile(r"Dealt to (\S+) \[(.. ..)\]")
-ACTED = re.compile(r"(\S+): (?:(folds|checks)|calls (\d+)|bets (\d+)|raises (\d+) to (\d+))( and is all-in)?")
-STREET = re.compile(r"\*\*\* (FLOP|TURN|RIVER) \*\*\* (?:\[([^]]+)\] )?\[([^]]+)\]")
-RETURNED = re.compile(r"Uncalled bet \((\d+)\) returned to (\S+)")
-SHOWS = re.compile(r"(\S+): shows \[(.. ..)\] \(([^)]+)\)")
-COLLECTED = re.compile(r"(\S+) collected (\d+) from ((?:main |side )?pot(?:-\d)?)")
-TOTAL = re.compile(r"Total pot (\d+)((?: (?:Main|Side) pot(?:-\d)? \d+\.)*) \| Rake 0")
-PART = re.compile(r" ((?:Main|Side) pot(?:-\d)?) (\d+)\.")
-OUTCOME = re.compile(r"Seat (\d+): (\S+?)((?: \((?:button|small blind|big blind)\))*) (folded|collected|showed)(.*)")
-NAMES = "Deuce Three Four Five Six Seven Eight Nine Ten Jack Queen King Ace".split()
+HEAD = r"PokerStars Hand #([1-9]\d{7})(\d{4}):  Hold'em (No Limit|Limit) \((\d+)/(\d+)\) - 2000/01/01 (\d\d):(\d\d):(\d\d) ET"
+TABLE = r"Table '([\w.-]+)' (2|6|9|10)-max \(Play Money\) Seat #(\d+) is the button"
+SEAT = r"Seat (\d+): (\S+) \(([1-9]\d*) in chips\)"
+STREETS = {3: "FLOP", 4: "TURN", 5: "RIVER"}
+FOLDED = ["before Flop", "on the Flop", "on the Turn", "on the River"]
+WORDS = "Deuce Three Four Five Six Seven Eight Nine Ten Jack Queen King Ace".split()
 
 
-class Play:
-    """A hand as its lines are read. Players are places from who sits behind the button on: p0 is the small blind at a ring."""
+def described(value):
+    """What a value is called."""
+    category, (first, *others) = value
+    word, many = WORDS[first], [WORDS[rank] + ("es" if WORDS[rank] == "Six" else "s") for rank in (first, *others)]
+    return {
+        HIGH_CARD: f"high card {word}",
+        PAIR: f"a pair of {many[0]}",
+        TWO_PAIRS: f"two pair, {' and '.join(many[:2])}",
+        THREE: f"three of a kind, {many[0]}",
+        STRAIGHT: f"a straight, {WORDS[first - 4]} to {word}",
+        FLUSH: f"a flush, {word} high",
+        FULL_HOUSE: f"a full house, {' full of '.join(many[:2])}",
+        FOUR: f"four of a kind, {many[0]}",
+        STRAIGHT_FLUSH: "a Royal Flush" if word == "Ace" else f"a straight flush, {WORDS[first - 4]} to {word}",
+    }[category]
 
-    def __init__(self, lines):
-        self.lines = lines
-        head, table = HEAD.fullmatch(self.take()), TABLE.fullmatch(self.take())
-        want(head and table, f"no head: {lines[:2]}")
-        self.number, self.is_limit, self.stakes, self.when = int(head[1]), head[2] == "Limit", (int(head[3]), int(head[4])), head[5]
-        self.table, self.size, button = table[1], int(table[2]), int(table[3])
-        seats = [(int(it[1]), it[2], int(it[3])) for it in self.all_of(SEAT)]
-        want([it[0] for it in seats] == [*range(1, len(seats) + 1)], "the seats aren't numbered from 1 on")
+
+class Text:
+    """A hand's lines, taken one by one. Players are positions: 0 sits behind the button, or has the big blind where two play."""
+
+    def __init__(self, lines, place):
+        self.lines, self.place = lines, place
+        self.first_digits, number, kind, *stakes, hours, minutes, seconds = self.take(HEAD)
+        want(int(number) == place == (int(hours) * 60 + int(minutes)) * 60 + int(seconds), f"hand {place}: its number or its time")
+        self.match, size, button = self.take(TABLE)
+        seats = []
+        while self.lines[0].startswith("Seat "):
+            seats.append(self.take(SEAT))
         self.count = len(seats)
-        want(self.count <= self.size, f"{self.count} players at a table for {self.size}")
-        order = [(button + step) % self.count for step in range(self.count)]
-        self.seats, self.names, self.stacks = zip(*(seats[place] for place in order))
-        self.spent, self.folded, self.all_in = [0] * self.count, [False] * self.count, [False] * self.count
-        self.holes, self.board, self.betting, self.returned = [""] * self.count, "", "", 0
-        self.post_blinds()
-        want(self.take() == "*** HOLE CARDS ***", "no hole cards")
-        for found in self.all_of(DEALT):
-            self.holes[self.names.index(found[1])] = found[2].replace(" ", "")
+        want([int(number) for number, *_ in seats] == [*range(1, self.count + 1)], f"seats {seats}")
+        want(int(size) == min(size for size in (2, 6, 9, 10) if size >= self.count), f"a table for {size}")
+        seats = seats[int(button):] + seats[: int(button)]
+        self.seats, self.names, self.stacks = [int(it[0]) for it in seats], [it[1] for it in seats], [int(it[2]) for it in seats]
+        self.small, self.big = (1, 0) if self.count == 2 else (0, 1)
+        self.hand = Hand(self.game(kind == "Limit", *map(int, stakes)))
 
-    def take(self):
-        want(self.lines, "the hand ends early")
-        return self.lines.pop(0)
+    def take(self, form):
+        """The groups of the next line, which must have this form."""
+        found = self.lines and re.fullmatch(form, self.lines[0])
+        want(found, f"{self.lines[:1]} where {form} is due")
+        del self.lines[0]
+        return found.groups()
 
-    def all_of(self, form):
-        """The lines of a form that come next."""
-        found = []
-        while self.lines and form.fullmatch(self.lines[0]):
-            found.append(form.fullmatch(self.lines.pop(0)))
-        return found
+    def line(self, text):
+        self.take(re.escape(text))
 
-    def post_blinds(self):
-        blinds = self.all_of(BLIND)
-        small = 1 if self.count == 2 else 0
-        want([it[2] for it in blinds] == ["small", "big"], "not a small and a big blind")
-        self.blind_places = [small, (small + 1) % self.count]
-        for place, found in zip(self.blind_places, blinds):
-            want(self.names[place] == found[1], f"{found[1]} posts, and not {self.names[place]}")
-            self.spent[place] = int(found[3])
-        self.before = [0] * self.count
+    def game(self, is_limit, low, high):
+        """Reads the blinds, which the head must have."""
+        blinds = [0] * self.count
+        for player, name in (self.small, "small"), (self.big, "big"):
+            blinds[player] = int(self.take(re.escape(self.names[player]) + f": posts {name} blind ([1-9]\\d*)")[0])
+        told = (blinds[self.big], 2 * blinds[self.big]) if is_limit else (blinds[self.small], blinds[self.big])
+        want((low, high) == told, f"{low}/{high} in the head, not {told}")
+        return Game(blinds, self.stacks, [low, low, high, high] if is_limit else [], (self.big + 1) % self.count)
 
-    def can_act(self, p):
-        return not self.folded[p] and not self.all_in[p]
+    def holes(self):
+        self.line("*** HOLE CARDS ***")
+        for player in sorted(range(self.count), key=self.seats.__getitem__):
+            if self.lines[0].startswith(f"Dealt to {self.names[player]} "):
+                self.hand.hold(player, "".join(self.take(rf"Dealt to \S+ \[({CARD}) ({CARD})\]")))
 
-    def play(self):
-        """The rounds, until a line comes that is none of theirs."""
-        self.round(self.blind_places[1] + 1)
-        while STREET.fullmatch(self.lines[0]):
-            word, before, new = STREET.fullmatch(self.take()).groups()
-            want((before or "").replace(" ", "") == self.board, f"{word}: the board before was {self.board}")
-            want({0: "FLOP", 6: "TURN", 8: "RIVER"}[len(self.board)] == word, f"{word} comes out of turn")
-            self.board += new.replace(" ", "")
-            self.betting += "/"
-            if sum(map(self.can_act, range(self.count))) > 1:
-                self.before = list(self.spent)
-                self.round(0)
+    def street(self):
+        board, new = self.hand.board, self.hand.lacks_board()
+        before = f"[{' '.join(board)}] " if board else ""
+        start = re.escape(f"*** {STREETS[len(board) + new]} *** {before}")
+        cards = self.take(start + rf"\[{' '.join([f'({CARD})'] * new)}\]")
+        self.hand.see(cards)
+        board += cards
 
-    def round(self, first):
-        """Who sits at a place or behind it acts, and so on until nobody has to."""
-        owing = [p % self.count for p in range(first, first + self.count) if self.can_act(p % self.count)]
-        while owing and self.folded.count(False) > 1:
-            p = owing.pop(0)
-            found = ACTED.fullmatch(self.take())
-            want(found and found[1] == self.names[p], f"{self.names[p]} is to act")
-            if self.act(p, found):
-                owing = [q % self.count for q in range(p + 1, p + self.count) if self.can_act(q % self.count)]
-        for found in self.all_of(RETURNED):
-            most, second = sorted(self.spent)[:-3:-1]
-            want(self.spent[self.names.index(found[2])] == most and int(found[1]) == most - second > 0, f"returned: {found[0]}")
-            self.returned = int(found[1])
-
-    def act(self, p, found):
-        """Does an action, and says whether it was a bet or a raise. Its amounts must be those that the table has."""
-        had, most = self.spent[p] - self.before[p], max(s - b for s, b in zip(self.spent, self.before))
-        left, (_, word, call, bet, above, to, is_all_in) = self.stacks[p] - self.spent[p], found.groups()
-        wholly = {"folds": had < most, "checks": had == most, None: True}[word]
-        want(wholly and (call is None or int(call) == min(most - had, left) > 0), f"{found[0]}: {most} were bet, and he has put in {had}")
-        want(bet is None or most == 0, f"{found[0]}: there is a bet of {most}")
-        want(to is None or most > 0 and int(to) - int(above) == most, f"{found[0]}: the bet before was {most}")
-        total = int(call) + had if call else int(bet or to or had)
-        want(total - had <= left, f"{found[0]}: he has {left}")
-        self.spent[p] += total - had
-        self.folded[p] = word == "folds"
-        self.all_in[p] = bool(is_all_in)
-        want(self.all_in[p] == (self.spent[p] == self.stacks[p] and total > had), f"{found[0]}: all-in or not")
-        is_raise = bool(bet or to)
-        self.betting += "f" if word == "folds" else "c" if not is_raise else "r" if self.is_limit else f"r{self.spent[p]}"
-        return is_raise
-
-    def end(self):
-        """The showdown, the pots and the summary. What each player won or lost, as the lines say it and by the rules."""
-        unfolded = [p for p in range(self.count) if not self.folded[p]]
-        is_showdown = len(unfolded) > 1
-        if is_showdown:
-            want(self.take() == "*** SHOW DOWN ***" and len(self.board) == 10, "no showdown")
-            shows = self.all_of(SHOWS)
-            want(sorted(it[1] for it in shows) == sorted(self.names[p] for p in unfolded), "who shows isn't who hasn't folded")
-            for found in shows:
-                p, hole = self.names.index(found[1]), found[2].replace(" ", "")
-                want(self.holes[p] in ("", hole), f"{found[1]} shows other cards than he was dealt")
-                self.holes[p] = hole
-                want(found[3] == self.words(p), f"{found[0]}: he has {self.words(p)}")
-        collected = [(self.names.index(it[1]), int(it[2]), it[3]) for it in self.all_of(COLLECTED)]
-        if not is_showdown:
-            want(self.take() == f"{self.names[unfolded[0]]}: doesn't show hand", "a winner without a showdown shows nothing")
-        won = [sum(chips for p, chips, _ in collected if p == place) for place in range(self.count)]
-        back = max(self.spent) - sorted(self.spent)[-2]
-        want(self.returned == back, f"{self.returned} are returned, and {back} weren't called")
-        payoffs = [won[p] - self.spent[p] + back * (self.spent[p] == max(self.spent)) for p in range(self.count)]
-        want(payoffs == shared(self.spent, unfolded, self.holes, self.board), f"payoffs {payoffs} by the lines, others by the rules")
-        self.summary(collected, won, is_showdown)
-        return payoffs
-
-    def words(self, p):
-        """What a player has, in words, by the second dealer's ranking."""
-        category, ranks = dealer.best(re.findall("..", self.holes[p] + self.board))
-        one, more = NAMES[ranks[0]], [NAMES[rank] + ("es" if rank == 4 else "s") for rank in ranks]
-        span = f"{NAMES[(ranks[0] - 4) % 13]} to {one}"
-        return [
-            f"high card {one}", f"a pair of {more[0]}", f"two pair, {more[0]} and {more[1 % len(more)]}", f"three of a kind, {more[0]}",
-            f"a straight, {span}", f"a flush, {one} high", f"a full house, {more[0]} full of {more[1 % len(more)]}",
-            f"four of a kind, {more[0]}", "a Royal Flush" if ranks[0] == 12 else f"a straight flush, {span}",
-        ][category]
-
-    def summary(self, collected, won, is_showdown):
-        want(self.take() == "*** SUMMARY ***", "no summary")
-        total = TOTAL.fullmatch(self.take())
-        want(total and int(total[1]) == sum(won), "the total isn't what was collected")
-        pots = {name.lower(): int(chips) for name, chips in PART.findall(total[2])} or {"pot": int(total[1])}
-        for name, chips in pots.items():
-            want(sum(it[1] for it in collected if it[2] == name) == chips, f"{name} isn't what was collected of it")
-        want({it[2] for it in collected} == {*pots}, "pots of other names are collected")
-        if self.board:
-            want(self.take() == f"Board [{' '.join(re.findall('..', self.board))}]", "the board of the summary")
-        for seat in range(1, self.count + 1):
-            self.outcome(seat, OUTCOME.fullmatch(self.take()), won, is_showdown)
-
-    def outcome(self, seat, found, won, is_showdown):
-        p = self.seats.index(seat)
-        want(found and int(found[1]) == seat and found[2] == self.names[p], f"seat {seat} in the summary")
-        places = {self.count - 1: ["button"]}
-        for place, name in zip(self.blind_places, ("small blind", "big blind")):
-            places.setdefault(place, []).append(name)
-        want(found[3] == "".join(f" ({name})" for name in places.get(p, [])), f"seat {seat}'s places:{found[3]}")
-        if self.folded[p]:
-            wanted = ("folded", self.when_folded(p))
-        elif is_showdown:
-            result = f"won ({won[p]})" if won[p] else "lost"
-            wanted = ("showed", f" [{self.holes[p][:2]} {self.holes[p][2:]}] and {result} with {self.words(p)}")
+    def action(self):
+        hand, player = self.hand, self.hand.waiting[0]
+        most, left = max(hand.spent), hand.game.stacks[player] - hand.spent[player]
+        bet, to_call = most - hand.before, min(most - hand.spent[player], left)
+        text, all_in = self.take(re.escape(self.names[player]) + ": (.+?)( and is all-in)?")
+        raised = re.fullmatch(r"(?:bets|raises \d+ to) (\d+)", text)
+        if raised:
+            to = int(raised[1])
+            want(text == (f"raises {to - bet} to {to}" if bet else f"bets {to}"), f"{text} above {bet}")
+            hand.raise_to(hand.before + to)
+        elif text == "folds":
+            hand.fold()
         else:
-            wanted = ("collected", f" ({won[p]})")
-        want((found[4], found[5]) == wanted, f"seat {seat}: {found[4]}{found[5]}, not {wanted}")
+            want(text == (f"calls {to_call}" if to_call else "checks"), f"{text}, and {to_call} is to be called")
+            hand.call()
+        want(bool(all_in) == (hand.spent[player] == hand.game.stacks[player]), f"{text}: all-in or not")
 
-    def when_folded(self, p):
-        """In which round a player folded, found by whose turns the betting shows."""
-        rounds = self.fold_rounds.get(self.names[p])
-        text = [" before Flop", " on the Flop", " on the Turn", " on the River"][rounds]
-        return text + (" (didn't bet)" if self.spent[p] == 0 else "")
+    def uncalled(self):
+        """Reads what goes back to who put in most, and takes it out of the hand."""
+        spent = self.hand.spent
+        second, most = sorted(spent)[-2:]
+        if most > second:
+            player = spent.index(most)
+            self.line(f"Uncalled bet ({most - second}) returned to {self.names[player]}")
+            spent[player] = second
+
+    def showdown(self):
+        self.line("*** SHOW DOWN ***")
+        for player in self.hand.showing():
+            *hole, text = self.take(re.escape(self.names[player]) + rf": shows \[({CARD}) ({CARD})\] \((.*)\)")
+            self.hand.hold(player, "".join(hole))
+            want(text == described(self.hand.value(player)), f"{self.names[player]} shows {text}")
+
+    def collected(self, pots):
+        """Reads who collects the pots, with their names; what each player gets of them."""
+        won = [0] * self.count
+        for name, pot in reversed([*pots.items()]):
+            for player, chips in self.hand.shares(pot).items():
+                self.line(f"{self.names[player]} collected {chips} from {name}")
+                won[player] += chips
+        return won
+
+    def summary(self, pots, won):
+        parts = "".join(f" {name.capitalize()} {pot.chips}." for name, pot in pots.items()) if len(pots) > 1 else ""
+        self.line("*** SUMMARY ***")
+        self.line(f"Total pot {sum(won)}{parts} | Rake 0")
+        if self.hand.board:
+            self.line(f"Board [{' '.join(self.hand.board)}]")
+        for player in sorted(range(self.count), key=self.seats.__getitem__):
+            places = [name for name, at in (("button", self.count - 1), ("small blind", self.small), ("big blind", self.big)) if at == player]
+            self.line(" ".join([f"Seat {self.seats[player]}: {self.names[player]}", *(f"({name})" for name in places), self.fate(player, won[player])]))
+        want(not self.lines, f"more lines: {self.lines[:2]}")
+
+    def fate(self, player, chips):
+        hand, hole = self.hand, self.hand.holes[player]
+        if player in hand.folded:
+            return f"folded {FOLDED[hand.folded[player]]}" + ("" if hand.spent[player] else " (didn't bet)")
+        if not hand.showing():
+            return f"collected ({chips})"
+        return f"showed [{hole[:2]} {hole[2:]}] and {f'won ({chips})' if chips else 'lost'} with {described(hand.value(player))}"
+
+    def read(self, start):
+        """Plays the hand."""
+        hand = self.hand
+        self.holes()
+        while hand.waiting:
+            if hand.lacks_board():
+                self.street()
+            self.action()
+        self.uncalled()
+        while hand.lacks_board():
+            self.street()
+        if hand.showing():
+            self.showdown()
+        found = hand.pots()
+        sides = [f"side pot-{number}" for number in range(1, len(found))] if len(found) > 2 else ["side pot"]
+        pots = dict(zip(["main pot", *sides] if len(found) > 1 else ["pot"], found))
+        won = self.collected(pots)
+        if not hand.showing():
+            self.line(f"{self.names[hand.standing()[0]]}: doesn't show hand")
+        self.summary(pots, won)
+        want(self.seats == [(place + start + self.place) % self.count + 1 for place in hand.players], f"seats {self.seats}")
+        return Read(self.match, hand.game, hand.line(self.place, self.names, start))
 
 
-def fold_rounds(lines):
-    """By name the round in which each folded, by the lines alone."""
-    number, found = 0, {}
-    for line in lines:
-        number += bool(STREET.fullmatch(line))
-        if line.endswith(": folds"):
-            found[line[: -len(": folds")]] = number
-    return found
-
-
-def hand_of(text):
-    """Plays one hand: its number, the time, and what it was in the words of a log."""
-    lines = text.split("\n")
-    play = Play(list(lines))
-    play.fold_rounds = fold_rounds(lines)
-    play.play()
-    payoffs = play.end()
-    want(not play.lines, f"more lines behind the summary: {play.lines[:2]}")
-    cards = re.findall("..", "".join(play.holes) + play.board)
-    want(len(cards) == len({*cards}), "a card comes twice")
-    return play, Read(play.number, play.names, play.holes, play.board, play.betting, payoffs, play.seats)
-
-
-def hands_in(text):
-    """Each hand of a file."""
+def hands_in(text, start=0):
+    """Each hand of a file; player 0 has the position `start` in the log."""
     want(text.endswith("\n\n\n\n"), "three empty lines are behind each hand")
-    return [hand_of(part) for part in text[:-4].split("\n\n\n\n")]
+    texts = [Text(part.split("\n"), place) for place, part in enumerate(text[:-4].split("\n\n\n\n"))]
+    want(len({text.first_digits for text in texts}) == 1, "the first digits of the hands' numbers differ")
+    return [text.read(start) for text in texts]

@@ -9,8 +9,8 @@ from .table_order import bet_sizes, table_order
 
 ROUNDS = ["before Flop", "on the Flop", "on the Turn", "on the River"]
 TABLE_SIZES = [2, 6, 9, 10]
-# Numbers of hands have 12 digits: eight of the match, four of the hand.
-MATCHES, HANDS = 10**8, 10**4
+# Numbers of hands have 12 digits: eight of the match, the first of which isn't 0, and four of the hand.
+LEAST_MATCH, MATCHES, HANDS = 10**7, 9 * 10**7, 10**4
 
 
 class Writer:
@@ -22,7 +22,8 @@ class Writer:
         self.game, self.match, self.seats, self.day, self.hero = game, match, seats, day, hero
         self.order = table_order(game)
         self.small, self.big = self.two_blinds()
-        self.number = int(hashlib.sha256("\n".join(first_lines).encode()).hexdigest(), 16) % MATCHES * HANDS
+        digest = int(hashlib.sha256("\n".join(first_lines).encode()).hexdigest(), 16)
+        self.number = (LEAST_MATCH + digest % MATCHES) * HANDS
         self.size = next(size for size in TABLE_SIZES if size >= game.players)
 
     def two_blinds(self):
