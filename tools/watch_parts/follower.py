@@ -5,7 +5,6 @@ from hand_formats.played import Hand
 from hand_formats.pokerstars import action
 from hand_formats.refused import Refused
 
-from .growing import GrowingLog
 
 # How many hands of a match the page shows at most.
 HANDS_SHOWN = 20
@@ -17,9 +16,9 @@ class Follower:
     """Follows a match. `hiding` takes the cards out of a hand's line that the table wasn't shown; it changes nothing where all cards
     are revealed. Hands are shown when `delay` further ones are finished, or the match is over."""
 
-    def __init__(self, key, name, game, paths, delay, hiding):
+    def __init__(self, key, name, game, log, delay, hiding):
         """`key` is what the page knows it by, which no other match has."""
-        self.key, self.name, self.game, self.delay, self.hiding, self.log = key, name, game, delay, hiding, GrowingLog(paths)
+        self.key, self.name, self.game, self.log, self.delay, self.hiding = key, name, game, log, delay, hiding
         # Nothing of a match that is held is shown but how far it is.
         self.is_held = False
         self.begin()
@@ -32,7 +31,7 @@ class Follower:
         """Reads what came to the log. The hands that are to be shown now; whether anything else of the match has changed."""
         is_new = self.log.has_begun_anew()
         if is_new:
-            self.log = GrowingLog(self.log.paths)
+            self.log = self.log.anew()
             self.begin()
         lines = self.log.lines() if self.fault is None else []
         try:

@@ -10,6 +10,7 @@ from league_parts.standings import Standings
 from league_parts.words import printable
 
 from .follower import Follower
+from .growing import GrowingLog
 from .wrong import Wrong
 
 # How many finished matches the page shows, and how often standings are reckoned at most, in seconds.
@@ -104,7 +105,7 @@ class LeagueSource:
 
     def follower_of(self, name):
         paths = [self.league.folder / "running" / name / f"{name}.log", self.league.result_of(name) / f"{name}.log"]
-        follower = Follower(f"{self.league.path.stem}.{name}", name, self.league.game, paths, self.delay, self.hiding)
+        follower = Follower(f"{self.league.path.stem}.{name}", name, self.league.game, GrowingLog(paths), self.delay, self.hiding)
         follower.is_held = self.is_held(name)
         return follower
 

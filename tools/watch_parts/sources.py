@@ -8,6 +8,7 @@ import replay_tool
 from hand_formats.played import Game
 
 from .follower import Follower
+from .growing import GrowingLog
 from .leagues import LeagueSource
 from .wrong import Wrong
 
@@ -28,11 +29,11 @@ class MatchSource:
 
     kind = "match"
 
-    def __init__(self, name, game, paths, words):
+    def __init__(self, name, game, log, words):
         """`game` is the path of the game file."""
         self.title, text = name, read(game, "game file").decode("latin-1")
         hide = hiding_of(text, words.reveal)
-        self.follower = Follower(name, name, game_of(text, game), [*paths, *words.logs], words.delay, hide)
+        self.follower = Follower(name, name, game_of(text, game), log, words.delay, hide)
 
     def look(self):
         """Whether the standings have changed; and the matches that have, each with its new hands."""
@@ -83,9 +84,14 @@ def read(path, what):
 
 
 def text_of(entries, key):
-    """The text of a key; a KeyError where there is none."""
-    if not isinstance(entries.get(key), str):
-        raise KeyError(key)
+    """The text of a key."""
+    return entry_of(entries, key, str, "text")
+
+
+def entry_of(entries, key, kind, what):
+    """The value of a key, which is of a kind; a KeyError where there is none."""
+    if type(entries.get(key)) is not kind:
+        raise KeyError(key, what)
     return entries[key]
 
 
@@ -96,24 +102,30 @@ def game_of(text, path):
         raise Wrong(f"{path} isn't a game file") from why
 
 
+def logs_of(entries, copies):
+    """The logs of a match file's match, whose first line is known by the file."""
+    name, game, hands = text_of(entries, "name"), text_of(entries, "game"), entry_of(entries, "hands", int, "number")
+    own = [Path(text_of(entries, "logs")) / f"node{number}.log" for number in range(len(entries["node"]))]
+    return GrowingLog(own, copies, f"# name/game/hands {name} {game} {hands}\n".encode())
+
+
 def source_of(words):
     """What a file describes: it is a match's with nodes, a room's with a port, else a league's. A log is followed by itself."""
     text = read(words.file, "file")
     if head := HEAD.match(text):
         name, game = (word.decode() for word in head.groups())
-        return MatchSource(name, game, [Path(words.file)], words)
+        return MatchSource(name, game, GrowingLog([Path(words.file)], words.logs), words)
     try:
         entries = tomllib.loads(text.decode())
     except (UnicodeDecodeError, tomllib.TOMLDecodeError) as why:
         raise Wrong(f"{words.file} isn't a TOML file: {why}") from why
     try:
         if isinstance(entries.get("node"), list):
-            logs = [Path(text_of(entries, "logs")) / f"node{number}.log" for number in range(len(entries["node"]))]
-            return MatchSource(text_of(entries, "name"), text_of(entries, "game"), logs, words)
+            return MatchSource(text_of(entries, "name"), text_of(entries, "game"), logs_of(entries, words.logs), words)
         if words.logs:
             raise Wrong("--log goes with the file of a match")
         if "player" in entries and "port" in entries:
             return RoomSource(Path(words.file).resolve(), entries, words)
         return LeagueSource(Path(words.file).resolve(), words, hiding_of)
     except KeyError as why:
-        raise Wrong(f"{words.file}: {why.args[0]} is missing, or is no text") from why
+        raise Wrong("{}: {} is missing, or is no {}".format(words.file, *why.args)) from why
