@@ -5,7 +5,6 @@ from hand_formats.played import Hand
 from hand_formats.pokerstars import action
 from hand_formats.refused import Refused
 
-
 # How many hands of a match the page shows at most.
 HANDS_SHOWN = 20
 # What a line that no dealer wrote comes to as it is read or played.
