@@ -29,6 +29,13 @@ SCRIPTS = {
         f"match 3 4 7 - - {GAME} alice|bob", *STARTS, f"1000 bot 0 0 9000 {DOES_ALL} 5 0", f"2000 bot 1 0 7000 {DOES_ALL} 9 0",
         "200000 cut 0 2", "200000 cut 1 2", "200000 cut 2 1", "300000 think 0 8000000", "7000000 heal 0 2", "7000000 heal 1 2", "7000000 heal 2 1", "7000000 think 0 9000", "60000000 end",
     ],
+    # Seats with tokens, and a stranger with a wrong one. What the first leader proposes comes to one of five nodes alone before it and another one die:
+    # the next leader is told of that vote.
+    "split": [
+        f"match 5 2 7 - - {GAME} alice|bob tokens", *(f"0 {word}" for node in range(5) for word in (f"start {node}", f"sync {node} 300")), f"1000 bot 0 1 9000 {DOES_ALL} 5 0",
+        f"2000 bot 1 2 7000 {DOES_ALL} 9 0", "8000 cut 0 1", "8000 cut 0 2", "8000 cut 0 3", "20000 stranger 3 0 9999 1", "250000 kill 3 0", "300000 kill 0 0", "4900000 heal 0 1", "4900000 heal 0 2",
+        "4900000 heal 0 3", "4900000 start 0", "4900000 start 3", "60000000 end",
+    ],
 }
 
 # The wrong traces: the rule that is to refuse each, the script whose trace it is made of, and the edit.

@@ -2,7 +2,7 @@
 from simulation_codes import Direction, proof
 from simulation_covered import RECORDS
 from simulation_list import AWAY
-from simulation_trace import KINDS, Records, Wrong, ballot_of, number, split
+from simulation_trace import KINDS, SLOTS, STILL, Records, Wrong, ballot_of, number, split
 
 # What a beat begins with where there is no key, in hexadecimal, and how long it is; the places of the front, the flags and the seats in it,
 # and which flag says that the match is over.
@@ -27,13 +27,15 @@ class Connection:
         self.processes = {}
         # What each side says: its records, its Hello, and with a key how its further records are opened.
         self.records, self.hellos, self.directions = {}, {}, {}
-        # What its bot said and no node read yet, and what was read of it and is no whole line yet.
-        self.unread, self.partial = bytearray(), b""
+        # What its bot said and no node read yet, since when, and what was read of it and is no whole line yet.
+        self.unread, self.unread_since, self.partial = bytearray(), 0, b""
         # What was told to its bot and is no whole line yet, and behind how many commands it got the last one.
         self.told, self.said, self.at = b"", b"", 0
         # From which line on its bot asked to be told, if it did, and when; and the place of the last line that it was told. How many
         # commands its node had when it took the bot in.
         self.asked, self.asked_at, self.place, self.known = None, 0, None, 0
+        # The token that its bot showed.
+        self.token = None
 
     def other(self, who):
         return self.listener if str(self.dialler) == who else int(self.dialler)
@@ -139,7 +141,7 @@ class Links:
         self.open_to(row, connection, process)
         # The next beat says what the one before it did, but for its number, and nothing came into the list.
         said = words[FRONT.start :]
-        if said != process.beat:
+        if said != process.beat or process.doubted is not None:
             self.beat(row[0], int(who), process, int(words[FRONT], 16), int(words[FLAGS], 16), int(words[SEATS], 16))
             process.beat = said
         return True
@@ -153,9 +155,19 @@ class Links:
             raise Wrong("beat", moment, f"node {node} tells front {front} and flags {flags} behind {process.beat_front}, of {self.front} commands")
         process.beat_front = front
         self.fronts[node].add(front)
-        self.sat[node] |= seats
-        if front > process.known:
-            process.known = front
+        if self.sat[node][-1][1] != seats:
+            self.sat[node].append((moment, seats))
+        process.learn(moment, front)
+        self.doubt(moment, node, process, seats)
+
+    def doubt(self, moment, node, process, seats):
+        """Beats say who sits at a node, as notes do a moment before or later."""
+        if seats == sum(1 << seat for seat in process.sits):
+            process.doubted = None
+        elif process.doubted is None:
+            process.doubted = moment
+        elif process.doubted + STILL < moment:
+            raise Wrong("beat", moment, f"node {node} tells the seats {seats:b}, and by its notes {sorted(process.sits)} sit there")
 
     def lives(self, moment, node, body):
         """A life that is told is that of the store: no store is replaced here."""
@@ -188,7 +200,7 @@ class Links:
         """A process says that it has so many commands."""
         if front > self.front:
             raise Wrong("front", moment, f"node {node} says that it has {front} commands, of {self.front}")
-        process.known = max(process.known, front)
+        process.learn(moment, front)
 
     def say_prepare(self, moment, node, process, part):
         ballot, front = ballot_of(part), number(part[5:9])
@@ -197,6 +209,8 @@ class Links:
         self.promised(moment, node, process, ballot)
         self.know(moment, node, process, front)
         process.first = front
+        own = {slot: vote for slot, vote in process.disk.store.entries.items() if front <= slot < front + SLOTS and vote[0] < ballot}
+        self.reports.setdefault(ballot, {}).setdefault(node, own)
         if ballot in process.begun:
             self.campaign(moment, node, process, ballot, front)
 
@@ -204,14 +218,20 @@ class Links:
         ballot = ballot_of(part)
         self.promised(moment, node, process, ballot)
         self.promises.setdefault(ballot, {ballot[1]}).add(node)
-        rest = part[10:]
+        rest, told, entries = part[10:], {}, process.disk.store.entries
         for _ in range(part[9]):
             size = {1: 6 + rest[14] if rest[9] == 1 else 0, 2: 12, 3: 7}[rest[9]]
             slot, earlier, command = number(rest[:4]), ballot_of(rest[4:9]), rest[9 : 9 + size]
             rest = rest[9 + size :]
-            kept = process.disk.store.entries.get(slot)
+            kept = entries.get(slot)
+            told[slot] = (earlier, command)
             if kept is None or kept[0] < earlier or kept[0] == earlier and kept[1] != command:
                 raise Wrong("backed", moment, f"node {node} tells a vote at slot {slot} that its disk doesn't have")
+        first = number(part[5:9])
+        left = [slot for slot in range(first, first + SLOTS) if slot in entries and entries[slot][0] < ballot and slot not in told]
+        if left:
+            raise Wrong("told", moment, f"node {node} promises {ballot} and doesn't tell its votes at {left}")
+        self.reports.setdefault(ballot, {}).setdefault(node, told)
 
     def say_refuse(self, moment, node, process, part):
         self.promised(moment, node, process, ballot_of(part[9:]))
@@ -224,7 +244,19 @@ class Links:
         if 2 * len(self.promises.get(ballot, ())) <= self.count:
             raise Wrong("quorum", moment, f"node {node} proposes in {ballot}, which {sorted(self.promises.get(ballot, ()))} promised")
         process.proposed = ballot
-        self.accepted(moment, node, ballot, number(part[5:9]), part[10:])
+        slot, commands = number(part[5:9]), part[10:]
+        self.accepted(moment, node, ballot, slot, commands)
+        for place, command in enumerate(split(commands)):
+            if not self.may_propose(node, ballot, slot + place, command):
+                raise Wrong("value", moment, f"node {node} proposes in {ballot} at slot {slot + place} another command than it was told of")
+
+    def may_propose(self, node, ballot, slot, command):
+        """Whether of more than half of all nodes, with the one that proposes, none has told a vote at a slot, or this command is that of the
+        greatest ballot."""
+        votes = {other: told.get(slot) for other, told in self.reports.get(ballot, {}).items()}
+        least = max((vote[0] for vote in votes.values() if vote is not None and vote[1] == command), default=(0, 0))
+        agree = {other for other, vote in votes.items() if vote is None or vote[0] <= least}
+        return node in agree and 2 * len(agree) > self.count
 
     def say_accepted(self, moment, node, process, part):
         self.accepted(moment, node, ballot_of(part), number(part[5:9]), part[10:])

@@ -1,8 +1,11 @@
 """The rules by which tests/simulation judges a trace, each with its name."""
+import bisect
+
 from simulation_covered import names_of
 from simulation_links import BEAT, BEAT_SIZE
 from simulation_list import AWAY, Dealt, Decks
 from simulation_seats import Seats
+from simulation_served import Served
 from simulation_trace import NO_STORE, TOP, Backwards, Disk, Wrong, bytes_of, dealer, field, rows_of
 from simulation_windows import NEVER, Windows
 
@@ -13,13 +16,15 @@ RULES = {
     "backed": "what a node says of its store stands in each image of its disk",
     "ballot": "no record of a store is of a ballot below one that was promised",
     "ballots": "the waits between campaigns in vain double",
-    "beat": "a beat tells a front that the list has, none below an earlier one, and the end where it has come",
+    "beat": "a beat tells a front that the list has, none below an earlier one, the end where it has come, and the seats that sit there",
+    "behind": "a node that is well with more than half knows each command within its time",
     "chosen": "who says that a command was chosen is right",
     "deal": "a deal is of the cards of the node that proposed it first",
     "early": "nobody is played for before all seats came, or the start is over",
     "ends": "no process ends but at the end of the match, or since its disk failed",
     "front": "no node says that it has more commands than the list",
     "gap": "wherever more than half of the nodes are well for a second, the next command comes within its time",
+    "heard": "a node that is well reads at once what a bot says that sits there",
     "image": "a process begins on what its disk kept",
     "joined": "a process tells of each peer to which it speaks that it is there",
     "late": "who is played for was waited for",
@@ -38,10 +43,15 @@ RULES = {
     "queue": "what waits for a bot, and what is read of whoever came, is bounded",
     "quorum": "who proposes has the promises of more than half of all nodes",
     "said": "an act was said by the seat to act, with its amount",
+    "seated": "who sits at a seat was taken in there",
+    "shown": "a node that is well tells a seat at once each line that it has",
     "status": "a status line says what the store, the list and the peers make it say",
     "store": "what a disk keeps is a store",
     "tag": "each record is said with the tag that the key gives it",
+    "token": "who shows no token, where seats have them, and who comes to no seat is told nothing but a status",
+    "told": "a promise tells each vote of its node at the slots that were asked for",
     "twice": "a ballot is said before the next one begins",
+    "value": "who proposes takes the vote of the greatest ballot that it was told of at that slot",
     "whole-log": "a process that ends well has written the whole log",
     "wire": "of a bot is read what it said",
     "word": "a bot that asked for its lines is told of the end, or that its line is none, where that is so",
@@ -78,13 +88,28 @@ class Process:
         self.proposed, self.voted = None, 0
         # The first slot of the last ballot that it began.
         self.first = 0
-        # How many commands it has at least, by all that it says, and what its last beat said, with its front.
-        self.known, self.beat, self.beat_front = 0, None, 0
+        # How many commands it has at least, by all that it says, and since when it has so many.
+        self.known, self.knew, self.learned = 0, [0], [moment]
+        # What its last beat said, its front, and since when its beats have told of other seats than notes did.
+        self.beat, self.beat_front, self.doubted = None, 0, None
         # The seats that sit here, when each was taken in, and the line of each to which an answer came that waits, with the moment.
         self.sits, self.took, self.answered, self.answers_at = set(), {}, {}, {}
+        # The connection that was last taken in at each seat, none where it isn't a bot's; and when each seat last sat down.
+        self.seated, self.seated_at = {}, {}
+
+    def learn(self, moment, count):
+        """It says that it has so many commands."""
+        if count > self.known:
+            self.known = count
+            self.knew.append(count)
+            self.learned.append(moment)
+
+    def knew_at(self, moment):
+        """How many commands it had at least at a moment."""
+        return self.knew[max(bisect.bisect_right(self.learned, moment) - 1, 0)]
 
 
-class Checker(Seats, Windows):
+class Checker(Seats, Windows, Served):
     """Goes through a trace, event by event: a row has its moment, who it is of, its word, and what is behind that."""
 
     def __init__(self, script, text, peak=None, may_refuse=False):
@@ -94,7 +119,7 @@ class Checker(Seats, Windows):
         self.patience = None if words[4] == "-" else int(words[4])
         game, self.names = dealer.Game((TOP / words[6]).read_bytes()), words[7].split("|")
         self.start = int(words[9]) if len(words) > 9 and words[9] != "-" else START
-        self.waits = words[10:11] == ["waits"]
+        self.waits, self.has_tokens = words[10:11] == ["waits"], words[8:9] == ["tokens"]
         self.dealt = Dealt(game, self.names, self.hands, f"# name/game/hands m1 {words[6]} {self.hands}")
         self.decks = [Decks((int(words[3]) + node) % (1 << 64), game.players) for node in range(self.count)]
         self.rows = rows_of(text)
@@ -102,13 +127,14 @@ class Checker(Seats, Windows):
         self.begin_nodes()
         self.begin_list()
         self.begin_windows()
+        self.begin_served()
 
     def begin_nodes(self):
         """What is known of nodes, connections and bots."""
         self.processes, self.images, self.logs, self.connections = {}, {}, {}, []
         self.died, self.over = {}, set()
-        # The nodes whose disk is to fail, and the fronts and seats that each has told by beats.
-        self.failing, self.fronts, self.sat = set(), [{0} for _ in range(self.count)], [0] * self.count
+        # The nodes whose disk is to fail, the fronts that each has told by beats, and the seats, with the moment since when.
+        self.failing, self.fronts, self.sat = set(), [{0} for _ in range(self.count)], [[(0, 0)] for _ in range(self.count)]
         # What status lines said of seats that no note has said yet.
         self.doubts = []
         # What was read of who came, by the numbers of connections.
@@ -117,6 +143,8 @@ class Checker(Seats, Windows):
     def begin_list(self):
         """What is known of the list: votes, promises, what seats said and when they were played for."""
         self.votes, self.promises, self.chosen, self.front = {}, {}, {}, 0
+        # By ballots what each node that promised it had voted for at the slots that were asked for.
+        self.reports = {}
         # By which ballot a command was first voted for at a slot, in which it was chosen, and the highest that any node promised.
         self.origins, self.chosen_in, self.highest = {}, {}, (0, 0)
         # What nodes read of seats: the actions by seat and line. When the last command came that did something.
@@ -273,11 +301,13 @@ class Checker(Seats, Windows):
             return
         self.pass_busy(moment)
         self.look(moment)
+        self.look_at_nodes(moment)
         self.last = moment
         while self.front in self.chosen:
             command = self.chosen[self.front]
             self.dealt.take(command, self.check_command(moment, command))
             self.front += 1
+            self.moments.append(moment)
 
     # What is said and told.
 
@@ -289,8 +319,7 @@ class Checker(Seats, Windows):
         if who.startswith("b"):
             self.hear(row[0], connection, data)
         elif connection is None:
-            if data.startswith(b"node "):
-                self.status(row[0], int(who), data.decode("latin-1"))
+            self.say_to_stranger(row, data)
         elif connection.seat is None:
             self.say_to_node(row, connection, data)
         else:
@@ -303,7 +332,7 @@ class Checker(Seats, Windows):
         self.logs[node] = process.log
         if not self.dealt.log.startswith(process.log):
             raise Wrong("one-log", row[0], f"the log of node {node} is no beginning of that of the list")
-        process.known = max(process.known, self.dealt.front_of_log(len(process.log)))
+        process.learn(row[0], self.dealt.front_of_log(len(process.log)))
 
     def on_note(self, row):
         word, node = row[3], int(row[1])
@@ -338,14 +367,18 @@ class Checker(Seats, Windows):
 
     def note_seated(self, row, node, process):
         seat = int(field(row, "seat"))
+        if seat not in process.took:
+            raise Wrong("seated", row[0], f"node {node} tells that seat {seat} sits there, where nobody was taken in")
         self.came.add(seat)
         process.sits.add(seat)
+        process.seated_at[seat], process.beat = row[0], None
         if len(self.came) == len(self.names):
             self.all_came = min(self.all_came, row[0])
         self.settle_doubts(row[0], process, seat)
 
     def note_left(self, row, node, process):
         process.sits.discard(int(field(row, "seat")))
+        process.beat = None
         self.settle_doubts(row[0], process, int(field(row, "seat")))
 
     def note_joined(self, row, node, process):

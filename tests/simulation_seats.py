@@ -15,6 +15,8 @@ SETTLED, REPLAYED = 2_000_000, 30_000_000
 # many as can wait there. Of one who hasn't shown the token it reads the line for that, 73 with its end (docs/FORMATS.md), and of one who asks
 # for the status nothing. Behind a line above 4,096 it reads nothing more of a bot (docs/FAULTS.md, 81 LineTooLong).
 PIECE, TOKEN_LINE = 512, 73
+# The token of a seat is its number, so many times (crates/simulator/src/plan.rt).
+TOKEN_DIGITS = 64
 MOST_READ = {"node": 65_536, "seat": PIECE, "guest": TOKEN_LINE, "status client": 0}
 
 # Who is at the other end of a connection, by its place among the lines of a process (crates/node_wires/src/limits.rt): 7 that it dials and
@@ -26,7 +28,9 @@ class Reading:
     """What a process has read of one who came to it: who he is, how much of a guest, and how long the last line of a bot is so far."""
 
     def __init__(self):
-        self.kind, self.shown, self.line, self.is_too_long = "node", 0, 0, False
+        self.kind, self.seat, self.shown, self.line, self.is_too_long = "node", None, 0, 0, False
+        # What was told to one who is no bot, and is no whole line yet.
+        self.told = ""
 
     def read(self, data):
         """What is wrong with it that this is read; None where nothing is."""
@@ -64,12 +68,19 @@ class Seats(Links, StatusLines):
 
     def on_take(self, row):
         place, process, connection = int(row[4]), self.processes[int(row[1])], self.connection(row)
-        kind = KINDS_OF_PLACES[place]
-        self.readings.setdefault(int(row[3]), Reading()).kind = kind
+        kind, reading = KINDS_OF_PLACES[place], self.readings.setdefault(int(row[3]), Reading())
+        reading.kind = kind
         if kind == "seat":
-            process.took.setdefault(place - KINDS_OF_PLACES.index("seat"), []).append(row[0])
+            reading.seat = seat = place - KINDS_OF_PLACES.index("seat")
+            process.took.setdefault(seat, []).append(row[0])
+            process.seated[seat] = connection
         if connection is not None:
             connection.processes[row[1]], connection.known = process, process.known
+
+    def on_shut(self, row):
+        process, connection = self.processes[int(row[1])], self.connection(row)
+        for seat in [seat for seat, other in process.seated.items() if other is connection]:
+            del process.seated[seat]
 
     def on_read(self, row):
         data, reading = bytes_of(row[4]), self.readings.setdefault(int(row[3]), Reading())
@@ -79,13 +90,16 @@ class Seats(Links, StatusLines):
         connection = self.connection(row)
         if connection is None:
             return
+        node = int(row[1])
+        self.look_at_seat(row[0], node, self.processes[node], connection.seat, connection)
         if not connection.unread.startswith(data):
-            raise Wrong("wire", row[0], f"node {row[1]} reads what seat {connection.seat} didn't say: {data!r}")
+            raise Wrong("wire", row[0], f"node {node} reads what seat {connection.seat} didn't say: {data!r}")
         del connection.unread[: len(data)]
+        connection.unread_since = row[0]
         *lines, connection.partial = (connection.partial + data).split(b"\n")
         if reading.kind == "seat":
             for line in lines:
-                self.take_answer(row[0], int(row[1]), connection.seat, line.rstrip(b"\r").decode("latin-1"))
+                self.take_answer(row[0], node, connection.seat, line.rstrip(b"\r").decode("latin-1"))
 
     def take_answer(self, moment, node, seat, line):
         """A node has read a whole line of a seat: perhaps an answer, which waits there where it is to the newest line of the list."""
@@ -108,9 +122,13 @@ class Seats(Links, StatusLines):
 
     def hear(self, moment, connection, data):
         """A bot says something: perhaps from which line on it asks to be told."""
+        if not connection.unread:
+            connection.unread_since = moment
         connection.unread += data
         *lines, connection.said = (connection.said + data).split(b"\n")
         for line in lines:
+            if line.startswith(b"#TOKEN "):
+                connection.token = line.strip().decode("latin-1")[len("#TOKEN ") :]
             if line.startswith(b"#RESUME "):
                 connection.asked, connection.asked_at = line.rstrip(b"\r").decode("latin-1")[len("#RESUME ") :], moment
                 self.count_one("bot asks for " + ("a line" if connection.asked.startswith("MATCHSTATE") else connection.asked))
@@ -119,6 +137,9 @@ class Seats(Links, StatusLines):
 
     def say_to_seat(self, row, connection, data):
         process = self.own(row, connection)
+        self.look_at_seat(row[0], int(row[1]), process, connection.seat, connection)
+        if self.has_tokens and connection.token != str(connection.seat) * TOKEN_DIGITS:
+            raise Wrong("token", row[0], f"node {row[1]} tells seat {connection.seat}, whose token wasn't shown, {data!r}")
         *lines, connection.told = (connection.told + data).split(b"\r\n")
         for line in lines:
             line = line.decode("latin-1")
@@ -127,6 +148,19 @@ class Seats(Links, StatusLines):
             else:
                 self.line(row, connection, process, line)
 
+    def say_to_stranger(self, row, data):
+        """What is said to one who isn't a bot nor a node: a status, or where seats have no tokens lines of the seat that he took."""
+        reading = self.readings.get(int(row[3]), Reading())
+        if reading.kind == "status client":
+            self.status(row[0], int(row[1]), data.decode("latin-1"))
+            return
+        if self.has_tokens or reading.kind != "seat":
+            raise Wrong("token", row[0], f"node {row[1]} tells somebody who is no bot {data!r}")
+        *lines, reading.told = (reading.told + data.decode("latin-1")).split("\r\n")
+        for line in lines:
+            if line not in ("#OVER", "#OTHER") and line not in self.dealt.order[reading.seat]:
+                raise Wrong("one-list", row[0], f"node {row[1]} tells somebody at seat {reading.seat} {line!r}, which is no line of the list")
+
     def line(self, row, connection, process, line):
         """A line that was written to a seat is that of a beginning of the list, and none from before what it was shown."""
         places = self.dealt.lines[connection.seat].get(line, ())
@@ -134,7 +168,7 @@ class Seats(Links, StatusLines):
         if not later:
             raise Wrong("one-list", row[0], f"node {row[1]} tells seat {connection.seat} {line!r}, which is no line of the list behind {connection.at} of {self.front}")
         connection.at = later[0]
-        process.known = max(process.known, later[0])
+        process.learn(row[0], later[0])
         self.told += 1
         self.no_gap(row, connection, line)
 
@@ -246,6 +280,7 @@ class Seats(Links, StatusLines):
         """A node tells that it ordered the default action of a seat."""
         self.count_one("due order")
         process = self.processes[node]
+        self.look_at_nodes(moment)
         if self.dealt.to_act() == seat and process.answered.get(seat) == self.dealt.last[seat]:
             raise Wrong("answered", moment, f"node {node} plays for seat {seat}, whose answer to {self.dealt.last[seat]} it has")
         sat_down = [taken for taken in process.took.get(seat, ()) if taken > self.acted] if seat in process.sits else []

@@ -1,20 +1,15 @@
 """The rules of tests/simulation on status lines: what a node's store, the list and the match make it say."""
 import re
 
-from simulation_trace import Wrong
+from simulation_trace import SLOTS, STILL, Wrong
 
 # What a status line says (docs/NOTES.md).
 YES, BALLOT = "(yes|no)", r"(-|\d+\.\d+)"
-# How many slots a ballot has.
-SLOTS = 64
 STATUS = re.compile(rf"node (\d) front (\d+) hand (-|\d+) over {YES} replaying {YES} promised {BALLOT} leads {YES} quorum {YES} peers (\S+) seats (\S+) pending {YES} backlog (\S+) commands (\d+)/s\n")
 
 # For a bot 64 KiB wait at most, and one line of 4,096 bytes with its end (docs/OPERATING-NODES.md, `backlog`).
 LINE = 4_096
 MOST_WAITING = 65_536 + LINE + 2
-
-# How long nothing may have come into the list or a store for what a node knows to be what it says, and what a note may be behind a line.
-STILL = 1_000_000
 
 
 class StatusLines:
@@ -73,20 +68,30 @@ class StatusLines:
             return is_answered or seat in self.orders or self.dealt.default() in self.shown
         return process.answered.get(seat) != state
 
+    def is_steady(self, moment, node, other=None):
+        """Whether a node has been well for a while, and its ways from and to another one."""
+        self.pass_busy(moment)
+        pairs = () if other is None else (self.pairs[min(node, other), max(node, other)],)
+        return max([self.well[node], *pairs]) + STILL < moment
+
     def wrong_peers(self, node, process, moment, found):
-        """Of what it says of the others what isn't so: each is there, and a front is one that the other told. Where nothing has moved for a
-        while, the node replays if it has a vote at its front, or one that it hears is ahead."""
+        """Of what it says of the others what isn't so: each is there, and a front is one that the other told. A node that is well says that
+        it has a quorum where it hears one, and that it replays where it has a vote at its front or hears one that is ahead."""
         others = [word.split(":") for word in found[9].split(",")]
         heard = [words for words in others if words[1] != "gone"]
         if [int(words[0]) for words in others] != [other for other in range(self.count) if other != node]:
             yield "peers"
         elif any(int(words[1]) not in self.fronts[int(words[0])] for words in heard):
             yield "fronts of peers"
-        if found[8] == "yes" and 2 * (len(heard) + 1) <= self.count:
+        if any(self.is_steady(moment, node, int(words[0])) and self.well[int(words[0])] + STILL < moment for words in others if words[1] == "gone"):
+            yield "a peer that is there"
+        is_steady, is_heard = self.is_steady(moment, node), 2 * (len(heard) + 1) > self.count
+        if (found[8] == "yes") != is_heard and (is_steady or not is_heard):
             yield "quorum"
         front = int(found[2])
         is_behind = front in process.disk.store.entries or any(int(words[1]) > front for words in heard)
-        if max(self.last, process.voted, process.began) + STILL < moment and (found[5] == "yes") != is_behind:
+        is_still = max(self.last, process.voted, process.began) + STILL < moment
+        if (found[5] == "yes") != is_behind and (is_still or is_steady and not is_behind):
             yield "replaying"
 
     def wrong_seats(self, moment, node, process, found):
@@ -95,13 +100,22 @@ class StatusLines:
         if [words[0] for words in seats] != self.names or len(backlog) != len(self.names):
             yield "seats"
             return
+        heard = [int(words[0]) for words in (word.split(":") for word in found[9].split(",")) if words[1] != "gone"]
         for seat, (_, word) in enumerate(seats):
             if (word == "seated") != (seat in process.sits):
                 self.doubts.append((moment, process, seat))
             elif word != "seated" and backlog[seat] != "0":
                 yield f"backlog of seat {seat}"
-            if word == "elsewhere" and not any(self.sat[other] >> seat & 1 for other in range(self.count) if other != node):
+            told = [self.sat_at(moment, node, other, seat) for other in heard]
+            if word == "elsewhere" and not any(True in sat for sat in told) or word == "away" and {True} in told:
                 yield f"seat {seat}"
+
+    def sat_at(self, moment, node, other, seat):
+        """What a node may know of a seat at another node, by what that one told: whether it sits there, if it was told long ago."""
+        told = self.sat[other]
+        since = moment - STILL if self.is_steady(moment, node, other) else 0
+        first = max(place for place, (begun, _) in enumerate(told) if begun <= since)
+        return {bool(seats >> seat & 1) for _, seats in told[first:]}
 
     def settle_doubts(self, moment, process=None, seat=None):
         """A note says who sits at a seat: what a status line said of it was right, or nothing has said so for a while."""

@@ -21,6 +21,10 @@ nodes = loaded("nodes")
 dealer = nodes.dealer
 KINDS = ["", "Prepare", "Promise", "Refuse", "Accept", "Accepted", "Chosen", "Ask", "Forward"]
 HEADER = 9
+# How many slots a ballot has.
+SLOTS = 64
+# How long nothing may have come into the list or a store for what a node knows to be what it says, and what a note may be behind a line.
+STILL = 1_000_000
 MOMENT = operator.itemgetter(0)
 
 

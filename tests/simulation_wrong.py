@@ -4,6 +4,7 @@ import itertools
 import simulation_codes
 import simulation_wrong_nodes  # noqa: F401, for its wrong traces
 import simulation_wrong_seats  # noqa: F401, for its wrong traces
+import simulation_wrong_served  # noqa: F401, for its wrong traces
 from simulation_edits import SCRIPTS, WRONG, Edited, NoPlace
 from simulation_rules import RULES, Checker
 from simulation_trace import Wrong, loaded, nodes

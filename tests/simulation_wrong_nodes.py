@@ -301,5 +301,5 @@ def status_edit(old, new):
     return edit
 
 
-for old, new in ((r"front \d+", "front 99"), (r"front \d+", "front 0"), (r"hand \d+", "hand 3"), ("over no", "over yes"), (r"promised 1\.0", "promised 2.0"), (r"peers 1:\d+", "peers 1:99"), ("quorum yes peers [^ ]+", "quorum yes peers 1:gone,2:gone"), ("alice:[a-z]+,bob", "bob:seated,alice"), ("leads yes", "leads no"), ("pending no", "pending yes"), ("alice:seated", "alice:away"), (r"backlog \d+", "backlog 99999")):
+for old, new in ((r"front \d+", "front 99"), (r"front \d+", "front 0"), (r"hand \d+", "hand 3"), ("over no", "over yes"), (r"promised 1\.0", "promised 2.0"), (r"peers 1:\d+", "peers 1:99"), ("quorum yes peers [^ ]+", "quorum yes peers 1:gone,2:gone"), (r"1:\d+", "1:gone"), ("quorum yes", "quorum no"), ("replaying no", "replaying yes"), ("bob:[a-z]+", "bob:away"), ("alice:[a-z]+,bob", "bob:seated,alice"), ("leads yes", "leads no"), ("pending no", "pending yes"), ("alice:seated", "alice:away"), (r"backlog \d+", "backlog 99999")):
     wrong("queue" if "backlog" in new else "status")(status_edit(old, new))
