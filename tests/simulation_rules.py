@@ -12,7 +12,7 @@ from simulation_windows import NEVER, Windows
 # What each rule says of a trace.
 RULES = {
     "agree": "at no slot two commands are chosen, and none is voted for above a ballot in which another one was",
-    "answered": "no node plays for a seat whose answer it has",
+    "answered": "no node plays for a seat whose answer it has, or another one has had for long where all are well",
     "backed": "what a node says of its store stands in each image of its disk",
     "ballot": "no record of a store is of a ballot below one that was promised",
     "ballots": "the waits between campaigns in vain double",

@@ -281,6 +281,7 @@ class Seats(Links, StatusLines):
         self.count_one("due order")
         process = self.processes[node]
         self.look_at_nodes(moment)
+        self.look_at_answers(moment, node, seat)
         if self.dealt.to_act() == seat and process.answered.get(seat) == self.dealt.last[seat]:
             raise Wrong("answered", moment, f"node {node} plays for seat {seat}, whose answer to {self.dealt.last[seat]} it has")
         sat_down = [taken for taken in process.took.get(seat, ()) if taken > self.acted] if seat in process.sits else []

@@ -24,6 +24,15 @@ class Served:
             for seat, connection in process.seated.items():
                 self.look_at_seat(moment, node, process, seat, connection)
 
+    def look_at_answers(self, moment, node, seat):
+        """A node orders that a seat is played for: no other one has had its answer for long, where all have been well for a while."""
+        since = max(*self.well, *self.pairs.values()) + WELL
+        for other, process in self.processes.items():
+            if self.dealt.to_act() == seat and process.answered.get(seat) == self.dealt.last[seat]:
+                base = max(since, process.answers_at[seat])
+                if moment - base > WELL + 4 * self.longest_since(base - MINUTE):
+                    raise Wrong("answered", moment, f"node {node} plays for seat {seat}, whose answer node {other} has had since {process.answers_at[seat]}")
+
     def look_at_front(self, moment, node, process):
         """A node that is well with more than half of all knows what was chosen within the time in which the next command is to come."""
         since = min(since for group, since in self.groups.items() if node in group)

@@ -22,6 +22,7 @@ class Windows:
         # Since when each node is well, and each pair of them is joined; how long syncs and ways take.
         self.well, self.pairs = [NEVER] * count, {pair: 0 for pair in itertools.combinations(range(count), 2)}
         self.syncs, self.ways, self.cuts = [FIRST_SYNC] * count, {}, set()
+        # Which run, and until when each was paused, or was in a sync that took long.
         self.up, self.paused = set(), [0] * count
         # Since when those of each least majority are.
         self.groups = {group: NEVER for group in itertools.combinations(range(count), count // 2 + 1)}
@@ -50,6 +51,7 @@ class Windows:
             self.busy_at += 1
             self.look(begun)
             self.take_long(end, end - begun)
+            self.paused[node] = max(self.paused[node], end)
             self.well[node] = max(self.well[node], end)
             self.group()
 

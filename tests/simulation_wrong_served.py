@@ -39,6 +39,17 @@ def an_answer_in_vain(it):
     it.insert(last, bot, "say", row[3], (bytes_of(row[4]).strip() + b":c\r\n").hex())
 
 
+@wrong("answered", "late")
+def an_answer_at_another_node(it):
+    """A seat is played for, and another node has had its answer for most of its patience."""
+    log = it.first(lambda row: row[2] == "log" and bytes_of(row[3]).startswith(b"STATE"))
+    cards = bytes_of(it.rows[log][3]).split(b":")[3].split(b"|")[1]
+    line = (b"MATCHSTATE:1:0::|" + cards + b":c\r\n").hex()
+    told, number = it.lines(0)[0], str(1 + max(int(row[3]) for row in it.rows if row[2] == "dial"))
+    for words in (("1", "read", number, line), ("b9", "say", number, line), ("1", "take", number, "38"), ("b9", "dial", number, "1", "1")):
+        it.insert(told, *words)
+
+
 @wrong("shown", "silent")
 def lines_that_are_not_told(it):
     """A node tells a seat that is silent no line behind its second, and the seat is played for."""
