@@ -22,6 +22,8 @@ class Windows:
         # Since when each node is well, and each pair of them is joined; how long syncs and ways take.
         self.well, self.pairs = [NEVER] * count, {pair: 0 for pair in itertools.combinations(range(count), 2)}
         self.syncs, self.ways, self.cuts = [FIRST_SYNC] * count, {}, set()
+        # Until when what was sent between two nodes before may be under way, and all that is sent behind it.
+        self.under_way = dict(self.pairs)
         # Which run, and until when each was paused, or was in a sync that took long.
         self.up, self.paused = set(), [0] * count
         # Since when those of each least majority are.
@@ -77,7 +79,9 @@ class Windows:
         self.look(moment)
         ways = ((one, other), (other, one))
         is_joined = not any(way in self.cuts or self.ways.get(way, FIRST_WAY) >= QUICK_WAY for way in ways)
-        self.pairs[min(one, other), max(one, other)] = moment + old if is_joined else NEVER
+        pair = min(one, other), max(one, other)
+        self.under_way[pair] = max(self.under_way[pair], moment + old)
+        self.pairs[pair] = self.under_way[pair] if is_joined else NEVER
         self.group()
 
     def order_window(self, row):
