@@ -121,6 +121,10 @@ def run_loads_the_firewall_and_removes_it(room):
     # The three nodes have one address: each of their files has the rules of all, so that none of them undoes another's.
     texts = [(room / f"srv/machine{i}/firewall").read_text() for i in range(3)]
     want(len({*texts}) == 1 and re.findall(r"tcp dport (\d+) drop", texts[0]) == ["7100", "7109", "7200", "7209", "7300", "7309"], texts[0])
+    # Who changes an address there changes one: neighbours are no network of two. What lies in another network isn't named twice.
+    new(room / "next", "--bots", "10.0.0.64/28,10.0.0.65", hosts="10.0.0.1,10.0.0.2,10.0.0.3")
+    text = (room / "next/machine0/firewall").read_text()
+    want("dport 7100 ip saddr { 10.0.0.2, 10.0.0.3 } accept" in text and "ip saddr { 10.0.0.64/28 } accept" in text, text)
     here = new(room / "here", "--place", room / "there", hosts="127.0.0.1,127.0.0.1,127.0.0.1")
     want("firewall" not in here.stdout and not (room / "here/machine0/firewall").exists(), here.stdout)
     run([room / "here/run", "copy"])

@@ -43,12 +43,18 @@ def spelled(network):
     return str(network.network_address if network.num_addresses == 1 else network)
 
 
+def outermost(networks):
+    """Those that lie in no other one, since nft refuses what overlaps. Neighbours stay apart, so that one address can be changed."""
+    found = {*networks}
+    return sorted(it for it in found if not any(it != other and it.subnet_of(other) for other in found))
+
+
 def lines_of(rule):
     first, last = rule.ports
     at = f"tcp dport {first}" if first == last else f"tcp dport {first}-{last}"
     yield f"# {rule.what}"
     for word, version in (("ip", 4), ("ip6", 6)):
-        found = [spelled(it) for it in ipaddress.collapse_addresses(it for it in rule.sources if it.version == version)]
+        found = [spelled(it) for it in outermost(it for it in rule.sources if it.version == version)]
         if found:
             yield f"{at} {word} saddr {{ {', '.join(found)} }} accept"
     yield f"{at} drop"
