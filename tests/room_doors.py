@@ -5,7 +5,7 @@ import time
 sys.dont_write_bytecode = True
 
 from room_runs import Room, calls, test, token
-from serving import in_time, want
+from serving import Wrong, in_time, want
 
 
 @test
@@ -20,11 +20,11 @@ def who_says_nothing_is_closed_after_ten_seconds():
     for _ in range(6):
         dripping.connection.sendall(b"#")
         time.sleep(1)
-    silent.is_closed("refused", "nothing came within ten seconds: say #ROOM NAME TOKEN [against NAME|house] [hands N] behind VERSION:2.0.0")
+    silent.is_closed("refused", "it didn't say who it is within ten seconds: say #ROOM NAME TOKEN [against NAME|house] [hands N] behind VERSION:2.0.0")
     seconds = time.monotonic() - begun
     want(seconds > 8, f"it was closed after {seconds:.1f} s")
     in_time(seconds < 16, f"it was closed after {seconds:.1f} s")
-    dripping.is_closed("refused", "nothing came within ten seconds")
+    dripping.is_closed("refused", "it didn't say who it is within ten seconds")
     want(room.dial("bob").hears("match") == alice.hears("match").replace("seat 0", "seat 1"), f"they don't play: {room.notes()}")
 
 
@@ -158,7 +158,17 @@ def who_says_too_much_while_he_waits_is_closed():
 @test
 def bounds_of_a_day_and_of_players_at_once():
     """Two play at once, so the second pair waits for the first one. After two matches alice and bob have played enough today, also
-    behind a restart of the room; carol and dave have not."""
+    behind a restart of the room; carol and dave have not. Where a day of UTC ends meanwhile it is tried once more."""
+    day = time.gmtime().tm_yday
+    try:
+        play_for_a_day()
+    except Wrong:
+        if time.gmtime().tm_yday == day:
+            raise
+        play_for_a_day()
+
+
+def play_for_a_day():
     room = Room("alice bob carol dave", hands=2, at_once=2, a_day=2).open()
     alice, bob = room.dial("alice"), room.dial("bob")
     alice.hears("match"), bob.hears("match")

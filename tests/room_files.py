@@ -4,6 +4,7 @@ import json
 import stat
 import subprocess
 import sys
+import tomllib
 
 sys.dont_write_bytecode = True
 
@@ -71,6 +72,19 @@ def files_that_are_refused():
     room.refuses(2, "isn't a TOML file")
     room.file.unlink()
     room.refuses(2, "can't be read: No such file or directory")
+
+
+@test
+def tokens_of_an_example_are_told():
+    """A room says which of its players have the tokens of examples/room.toml, which everybody knows."""
+    sample = tomllib.loads((TOP / "examples/room.toml").read_text())["player"][0]["token"]
+    room, told = Room(), "everybody knows the tokens of an example"
+    room.write(room.file.read_text().replace(digest("bob"), sample))
+    room.open().noted(f" bob: {told}")
+    room.close()
+    other = Room().open()
+    other.close()
+    want(told not in other.notes(), f"of other tokens: {other.notes()}")
 
 
 @test

@@ -3,6 +3,7 @@
 The bot says VERSION:2.0.0 and `#ROOM NAME TOKEN [against NAME|house] [hands N]`. The room's words behind #ROOM are those below.
 """
 import re
+import socket
 from typing import NamedTuple, Optional
 
 ROOM = "#ROOM"
@@ -14,6 +15,17 @@ FORM = f"say {ROOM} NAME TOKEN [against NAME|house] [hands N] behind VERSION:2.0
 # A token: what is hard to guess is longer than this.
 TOKEN = re.compile(r"[!-~]{16,128}")
 NUMBER = re.compile(r"[1-9][0-9]{0,5}", re.A)
+# How either end notices a machine that was lost: within about six seconds.
+WATCHED = (("TCP_KEEPIDLE", 2), ("TCP_KEEPINTVL", 1), ("TCP_KEEPCNT", 3), ("TCP_USER_TIMEOUT", 6000))
+
+
+def watch(connection):
+    """Has the system end a connection whose other machine was lost, as far as it can, and send each line at once."""
+    connection.setsockopt(socket.IPPROTO_TCP, socket.TCP_NODELAY, 1)
+    connection.setsockopt(socket.SOL_SOCKET, socket.SO_KEEPALIVE, 1)
+    for option, value in WATCHED:
+        if hasattr(socket, option):
+            connection.setsockopt(socket.IPPROTO_TCP, getattr(socket, option), value)
 
 
 class Malformed(Exception):

@@ -15,16 +15,6 @@ from . import asking
 GREETING, PARTING = 10.0, 1.0
 # The most bytes that are taken of who doesn't play.
 MOST = 4096
-# How a machine that was lost is noticed: within about six seconds.
-WATCHED = (("TCP_KEEPIDLE", 2), ("TCP_KEEPINTVL", 1), ("TCP_KEEPCNT", 3), ("TCP_USER_TIMEOUT", 6000))
-
-
-def watch(connection):
-    """Has the system end a connection whose other machine was lost, and send each line at once."""
-    connection.setsockopt(socket.IPPROTO_TCP, socket.TCP_NODELAY, 1)
-    connection.setsockopt(socket.SOL_SOCKET, socket.SO_KEEPALIVE, 1)
-    for option, value in WATCHED:
-        connection.setsockopt(socket.IPPROTO_TCP, getattr(socket, option), value)
 
 
 class State(Enum):
@@ -56,7 +46,7 @@ class Caller:
         connection.setblocking(False)
         # (an end that came meanwhile is read as any other)
         with contextlib.suppress(OSError):
-            watch(connection)
+            asking.watch(connection)
 
     def fileno(self):
         return self.connection.fileno()

@@ -12,7 +12,7 @@ from league_parts.words import in_words, printable
 from match_engine.faults import MatchFault
 from match_engine.seats import bound
 
-from . import asking
+from . import asking, tokens
 from .callers import Caller, Refused, State
 from .leagues import Leagues
 from .matches import BUSY, OnWay
@@ -72,6 +72,9 @@ class Hosting:
 
     def open(self):
         """Plays until this process is asked to end."""
+        known = [name for name, token in self.room.tokens.items() if token in tokens.EXAMPLES]
+        if known:
+            say(f"{', '.join(known)}: everybody knows the tokens of an example; tools/room --new-token draws others")
         for match in self.matches:
             say(f"{match.name}: goes on when its players are here, at the latest in {in_words(self.room.resume)}")
         try:
@@ -167,7 +170,7 @@ class Hosting:
         if caller.state == State.LEAVING and now >= caller.until:
             self.forget(caller)
         elif caller.state == State.GREETING and now >= caller.until:
-            self.part(caller, asking.REFUSED, f"nothing came within ten seconds: {asking.FORM}")
+            self.part(caller, asking.REFUSED, f"it didn't say who it is within ten seconds: {asking.FORM}")
         elif caller.state == State.HELD:
             self.place(caller)
         elif caller.state == State.WAITING and self.is_wanted(self.seats.get(caller.name), caller.name):

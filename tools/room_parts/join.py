@@ -26,8 +26,6 @@ USAGE = "tools/room --join HOST:PORT NAME --token-file FILE [OPTIONS] -- COMMAND
 PIECE = 65536
 ENDS = (signal.SIGINT, signal.SIGTERM, signal.SIGHUP)
 PLACE = re.compile(r"(?:\[(.+)\]|([^:]+)):([0-9]+)", re.A)
-# A machine that was lost is noticed within some seconds.
-WATCHED = (("TCP_KEEPIDLE", 2), ("TCP_KEEPINTVL", 1), ("TCP_KEEPCNT", 3), ("TCP_USER_TIMEOUT", 6000))
 # How a connection to the room came to its end: the match is over for this player, the bot ended, or it is to be dialled again.
 OVER, BOT_ENDED, AGAIN = "over", "bot ended", "again"
 
@@ -184,11 +182,7 @@ class Player:
             return AGAIN
         with room:
             room.settimeout(None)
-            room.setsockopt(socket.IPPROTO_TCP, socket.TCP_NODELAY, 1)
-            room.setsockopt(socket.SOL_SOCKET, socket.SO_KEEPALIVE, 1)
-            for option, value in WATCHED:
-                if hasattr(socket, option):
-                    room.setsockopt(socket.IPPROTO_TCP, getattr(socket, option), value)
+            asking.watch(room)
             self.is_playing = False
             try:
                 room.sendall(b"VERSION:2.0.0\r\n" + self.asked.line().encode() + b"\r\n")

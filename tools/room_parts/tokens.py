@@ -5,6 +5,9 @@ import secrets
 
 from league_parts.faults import Unfinished
 
+# What a file has of the tokens of examples/room.toml: 64 ones, and 64 twos.
+EXAMPLES = [hashlib.sha256(word * 64).hexdigest() for word in (b"1", b"2")]
+
 
 def draw(path):
     """Writes a new token to a file that its owner alone may read; the line of a room's file that stands for it."""
