@@ -24,7 +24,7 @@ BOUNDS = {
 TOGETHER = {"README and docs": 330_000, "the READMEs of crates": 195_000}
 # The most sentences of a cell, and the most words of a paragraph or an item, on a page that is read in ten minutes.
 SHORT_PAGES, SENTENCES, PARAGRAPH = ("docs/PROVED.md",), 2, 120
-# The most words of an entry: an item, or what is below a heading of the third level.
+# The most words of an entry: an item with all below it, or what is below a heading of the third level.
 ITEMS = {"docs/DECISIONS.md": 60}
 ENTRIES = {"docs/AT-NIGHT.md": 80}
 
@@ -53,6 +53,21 @@ def entries(text):
         yield line, parts[at], re.split(r"^##? ", parts[at + 1], flags=re.M)[0]
 
 
+def items(text):
+    """Each item of the first level with all that is indented below it, and each paragraph: its line, its words, and how it begins."""
+    owners, counts, begins, at = {}, {}, {}, None
+    for number, line in enumerate(text.split("\n"), 1):
+        at = number if line.startswith("- ") else None if line and not line[0].isspace() else at
+        owners[number] = at or number
+    for unit in style.units(text):
+        if unit.kind == "text":
+            line = owners[unit.line]
+            counts[line] = counts.get(line, 0) + style.count(unit.text)
+            begins.setdefault(line, style.shown(unit.text))
+    for line, count in counts.items():
+        yield line, count, begins[line]
+
+
 def of_page(name, text):
     """What is too long on a page: pairs of a line, none for the whole page, and what it is."""
     length, bound = len(text.encode()), bound_of(name)
@@ -66,9 +81,9 @@ def of_page(name, text):
             yield unit.line, f"a cell of {count} sentences, of {SENTENCES} at most: {style.shown(unit.text)}"
         if unit.kind == "text" and style.count(unit.text) > PARAGRAPH:
             yield unit.line, f"a paragraph of {style.count(unit.text)} words, of {PARAGRAPH} at most: {style.shown(unit.text)}"
-    for unit in style.units(text) if name in ITEMS else []:
-        if unit.kind == "text" and style.count(unit.text) > ITEMS[name]:
-            yield unit.line, f"an entry of {style.count(unit.text)} words, of {ITEMS[name]} at most: {style.shown(unit.text)}"
+    for line, count, begin in items(text) if name in ITEMS else []:
+        if count > ITEMS[name]:
+            yield line, f"an entry of {count} words, of {ITEMS[name]} at most: {begin}"
     for line, title, below in entries(text) if name in ENTRIES else []:
         if words(below) > ENTRIES[name]:
             yield line, f"an entry of {words(below)} words, of {ENTRIES[name]} at most: {title}"
