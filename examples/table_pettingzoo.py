@@ -21,6 +21,7 @@ CALL = 1
 
 class TableAEC(pettingzoo.AECEnv):
     metadata = {"name": "holdem_table_v0", "render_modes": [], "is_parallelizable": False}
+    render_mode = None
 
     def __init__(self, path, seed=0, program=None):
         super().__init__()

@@ -23,13 +23,14 @@ def gymnasium_hands():
     env = module.TableEnv(L2, seed=3, program=PROGRAM)
     for number in range(HANDS):
         seen, info = env.reset()
-        want(len(seen) == env.observation_space.shape[0], f"{len(seen)} numbers")
+        want(env.observation_space.contains(seen), f"{seen} isn't in the space")
         is_over, steps = False, 0
         while not is_over:
             want(env.table.seen.seat == 0, "it isn't the learner's turn")
             action = dice.choice(legal(info["action_mask"])) if number % 2 else dice.randrange(env.action_space.n)
             seen, reward, is_over, is_cut, info = env.step(action)
             want(not is_cut and (is_over or reward == 0.0), f"a reward of {reward} in the midst of a hand")
+            want(env.observation_space.contains(seen), f"{seen} isn't in the space")
             steps += 1
         want(reward == env.table.payoffs[0] and steps >= 1, f"a reward of {reward}, and the payoff is {env.table.payoffs[0]}")
     first = [list(env.reset(seed=9)[0]) for _ in range(2)]
@@ -46,7 +47,9 @@ def pettingzoo_hands():
         rewards, acted = {}, 0
         for agent in env.agent_iter():
             seen, reward, is_over, is_cut, _ = env.last()
-            want(not is_cut and len(seen["observation"]) == env.size, "an observation")
+            want(not is_cut and env.observation_space(agent).contains(seen), f"{seen} isn't in the space")
+            blind = [env.observe(other) for other in env.agents if is_over or other != agent]
+            want(not any(any(it["observation"]) or any(it["action_mask"]) for it in blind), "who isn't to act sees something")
             if is_over:
                 rewards[agent] = reward
                 env.step(None)
@@ -61,7 +64,26 @@ def pettingzoo_hands():
 
 class Box:
     def __init__(self, low, high, shape, dtype):
-        self.shape = shape
+        self.low, self.high, self.shape = low, high, shape
+
+    def contains(self, values):
+        return (len(values),) == self.shape and all(self.low <= value <= self.high for value in values)
+
+
+class MultiBinary:
+    def __init__(self, n):
+        self.n = n
+
+    def contains(self, values):
+        return len(values) == self.n and {*values} <= {0, 1}
+
+
+class Dict:
+    def __init__(self, spaces):
+        self.spaces = spaces
+
+    def contains(self, values):
+        return {*values} == {*self.spaces} and all(space.contains(values[key]) for key, space in self.spaces.items())
 
 
 class Discrete:
@@ -77,9 +99,12 @@ class Env:
 class AECEnv:
     """What the adapter has from PettingZoo: who is over leaves one after the other, and is told his sum of rewards before."""
 
-    def last(self):
+    _skip_agent_selection = None
+
+    def last(self, observe=True):
         agent = self.agent_selection
-        return self.observe(agent), self._cumulative_rewards[agent], self.terminations[agent], self.truncations[agent], self.infos[agent]
+        seen = self.observe(agent) if observe else None
+        return seen, self._cumulative_rewards[agent], self.terminations[agent], self.truncations[agent], self.infos[agent]
 
     def agent_iter(self):
         while self.agents:
@@ -91,14 +116,22 @@ class AECEnv:
 
     def _was_dead_step(self, action):
         want(action is None, "who is over acts")
-        self.agents.remove(self.agent_selection)
-        if self.agents:
-            self.agent_selection = self.agents[0]
+        agent = self.agent_selection
+        for of_agents in (self.terminations, self.truncations, self.rewards, self._cumulative_rewards, self.infos):
+            del of_agents[agent]
+        self.agents.remove(agent)
+        over = [other for other in self.agents if self.terminations[other] or self.truncations[other]]
+        if over:
+            self._skip_agent_selection = self._skip_agent_selection or agent
+            self.agent_selection = over[0]
+        else:
+            self.agent_selection, self._skip_agent_selection = self._skip_agent_selection or agent, None
+        self.rewards = {other: 0 for other in self.rewards}
 
 
 def stand_ins():
     """The modules, by their names."""
-    spaces = types.SimpleNamespace(Box=Box, Discrete=Discrete, MultiBinary=Discrete, Dict=dict)
+    spaces = types.SimpleNamespace(Box=Box, Discrete=Discrete, MultiBinary=MultiBinary, Dict=Dict)
     numpy = types.SimpleNamespace(float32=float, int8=int, array=lambda values, dtype: [dtype(it) for it in values])
     return {"gymnasium": types.SimpleNamespace(Env=Env, spaces=spaces), "numpy": numpy, "pettingzoo": types.SimpleNamespace(AECEnv=AECEnv)}
 
