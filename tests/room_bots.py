@@ -1,5 +1,6 @@
 """Tests of stock bots behind --join, and of the sample bots, which dial a room themselves."""
 import select
+import shutil
 import socket
 import subprocess
 import sys
@@ -168,11 +169,15 @@ def a_stock_bot_that_thinks_while_the_room_is_lost():
 
 @test
 def what_join_refuses():
-    """A wrong token and a wish that can't be met end it with status 1, a wrong command line with status 2."""
+    """A wrong token and a wish that can't be met end it with status 1, a wrong command line with status 2. It has the files of an
+    author alone."""
     room = Room().open()
+    tool = room.folder / "tools/room"
+    shutil.copytree(TOP / "tools/room_parts", tool.parent / "room_parts", ignore=shutil.ignore_patterns("__pycache__"))
+    shutil.copy(TOOL, tool)
     path = room.folder / "wrong.token"
     path.write_text("0123456789abcdef\n")
-    words = [TOOL, "--join", f"127.0.0.1:{room.port}", "alice", "--token-file", path]
+    words = [tool, "--join", f"127.0.0.1:{room.port}", "alice", "--token-file", path]
     ran = subprocess.run([*words, "--", *Bots.command(1)], capture_output=True, text=True, timeout=WAIT)
     want(ran.returncode == 1 and "refused: no player of this name and token" in ran.stderr, f"it said {ran.stderr}")
     ended_words = subprocess.run([*words, "--", "true", "{port}"], capture_output=True, text=True, timeout=WAIT)
