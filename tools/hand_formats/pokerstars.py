@@ -81,14 +81,14 @@ class Writer:
                 yield f"Uncalled bet ({hand.uncalled.chips}) returned to {hand.names[hand.uncalled.position]}"
 
     def ending(self, hand):
-        """Who shows what, and who collects which pot: side pots first."""
+        """Who shows what, and who collects which pot, the first behind the button first: side pots come first."""
         if hand.is_showdown:
             yield "*** SHOW DOWN ***"
             for p in hand.showing_order():
                 yield f"{hand.names[p]}: shows [{spaced(hand.holes[p])}] ({ranking.words(*hand.value(p))})"
         for pot, name in reversed([*zip(hand.pots, pot_names(hand))]):
-            for p, share in pot.shares.items():
-                yield f"{hand.names[p]} collected {share} from {name}"
+            for p in filter(pot.shares.__contains__, self.order.positions):
+                yield f"{hand.names[p]} collected {pot.shares[p]} from {name}"
         if not hand.is_showdown:
             yield f"{hand.names[hand.unfolded[0]]}: doesn't show hand"
 
