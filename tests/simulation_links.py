@@ -8,6 +8,9 @@ from simulation_trace import KINDS, SLOTS, STILL, Records, Wrong, ballot_of, num
 # and which flag says that the match is over.
 BEAT, BEAT_SIZE, FRONT, FLAGS, SEATS, OVER = "0000001003", 40, slice(26, 34), slice(34, 36), slice(36, 40), 2
 
+# The version of frames.
+FRAMES = 2
+
 HELLO, PROOF, FRAME, BEATS, LIVES = 0, 1, 2, 3, 4
 
 # The key that nodes of simulated matches share (crates/simulator/src/place.rt).
@@ -184,6 +187,8 @@ class Links:
     # Frames: what one says of its node's store stands in each image of its disk.
 
     def frame(self, moment, node, process, body):
+        if number(body[:4]) != len(body) - 4 or body[4] != FRAMES or not body[5]:
+            raise ValueError(f"a frame of node {node}: {body.hex()}")
         kind = KINDS[body[5]]
         self.count_one("frame " + kind)
         getattr(self, "say_" + kind.lower())(moment, node, process, body[6:])
@@ -227,6 +232,8 @@ class Links:
             told[slot] = (earlier, command)
             if kept is None or kept[0] < earlier or kept[0] == earlier and kept[1] != command:
                 raise Wrong("backed", moment, f"node {node} tells a vote at slot {slot} that its disk doesn't have")
+        if rest:
+            raise ValueError(f"a promise of node {node} with more than its votes")
         first = number(part[5:9])
         left = [slot for slot in range(first, first + SLOTS) if slot in entries and entries[slot][0] < ballot and slot not in told]
         if left:
@@ -245,7 +252,7 @@ class Links:
             raise Wrong("quorum", moment, f"node {node} proposes in {ballot}, which {sorted(self.promises.get(ballot, ()))} promised")
         process.proposed = ballot
         slot, commands = number(part[5:9]), part[10:]
-        self.accepted(moment, node, ballot, slot, commands)
+        self.accepted(moment, node, ballot, slot, commands, part[9])
         for place, command in enumerate(split(commands)):
             if not self.may_propose(node, ballot, slot + place, command):
                 raise Wrong("value", moment, f"node {node} proposes in {ballot} at slot {slot + place} another command than it was told of")
@@ -259,9 +266,11 @@ class Links:
         return node in agree and 2 * len(agree) > self.count
 
     def say_accepted(self, moment, node, process, part):
-        self.accepted(moment, node, ballot_of(part), number(part[5:9]), part[10:])
+        self.accepted(moment, node, ballot_of(part), number(part[5:9]), part[10:], part[9])
 
-    def accepted(self, moment, node, ballot, slot, commands):
+    def accepted(self, moment, node, ballot, slot, commands, count):
+        if len(split(commands)) != count:
+            raise ValueError(f"a frame of node {node} with another count than {count} of commands")
         for place, command in enumerate(split(commands)):
             vote = self.votes.get((slot + place, ballot), {}).get(node)
             if vote is None:

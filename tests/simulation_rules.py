@@ -50,6 +50,7 @@ RULES = {
     "tag": "each record is said with the tag that the key gives it",
     "token": "who shows no token, where seats have them, and who comes to no seat is told nothing but a status",
     "told": "a promise tells each vote of its node at the slots that were asked for",
+    "trace": "what a process does is told of one that runs, and what nodes say are whole records and frames",
     "twice": "a ballot is said before the next one begins",
     "value": "who proposes takes the vote of the greatest ballot that it was told of at that slot",
     "whole-log": "a process that ends well has written the whole log",
@@ -67,6 +68,9 @@ UNTOLD = 1_000_000
 # disk keep. A process takes room for 128 commands before a call, 41 KB each, whose pages are there once the room was moved. Nothing grows
 # by how long the match takes, what is lost, or who comes. What a process alone takes is said in docs/OPERATING-NODES.md (What to watch).
 PROGRAM_TAKES, PROCESS_TAKES, COMMAND_TAKES = 4 << 20, 6 << 20, 3 << 9
+
+# What reading a row comes to that no process does.
+NO_TRACE = (ValueError, IndexError, KeyError, AttributeError)
 
 # How many calls of a disk pass before one fails, by the order `fail`, where none does.
 NO_FAILURE = (1 << 64) - 1
@@ -161,11 +165,14 @@ class Checker(Seats, Windows, Served):
         does = {name[3:].replace("_", "-"): getattr(self, name) for name in dir(self) if name.startswith("on_")}
         for row in self.rows:
             word = row[2]
-            if row[1] == "-":
-                self.count_one("order " + word)
-                self.order(row)
-            elif word in does:
-                does[word](row)
+            try:
+                if row[1] == "-":
+                    self.count_one("order " + word)
+                    self.order(row)
+                elif word in does:
+                    does[word](row)
+            except NO_TRACE as why:
+                raise Wrong("trace", row[0], f"{why!r} in {' '.join(map(str, row))[:200]}") from why
         if self.beats:
             self.counts["record Beat"] = self.beats
         self.at_end()

@@ -21,6 +21,8 @@ nodes = loaded("nodes")
 dealer = nodes.dealer
 KINDS = ["", "Prepare", "Promise", "Refuse", "Accept", "Accepted", "Chosen", "Ask", "Forward"]
 HEADER = 9
+# The most bytes of a record behind its length (docs/FORMATS.md).
+LONGEST_RECORD = 4_133
 # How many slots a ballot has.
 SLOTS = 64
 # How long nothing may have come into the list or a store for what a node knows to be what it says, and what a note may be behind a line.
@@ -204,7 +206,11 @@ class Records:
 
     def read(self, data):
         self.data += data
-        while len(self.data) >= 4 and len(self.data) >= 4 + number(self.data[:4]):
+        while len(self.data) >= 4:
             size = number(self.data[:4])
+            if not 0 < size <= LONGEST_RECORD:
+                raise ValueError(f"a record of {size} bytes")
+            if len(self.data) < 4 + size:
+                return
             yield self.data[4], self.data[5 : 4 + size]
             self.data = self.data[4 + size :]

@@ -217,6 +217,19 @@ def a_ballot_is_said_behind_the_next(it):
 # Processes.
 
 
+@wrong("trace")
+def a_process_that_never_began(it):
+    """A process does something and hasn't begun."""
+    del it.rows[it.first(lambda row: row[2] == "begin")]
+
+
+@wrong("trace")
+def a_frame_of_another_length(it):
+    """A frame says that it is longer than its record."""
+    place, begin, _ = it.frame("Accepted")
+    it.change(place, begin - 4, b"\x01")
+
+
 @wrong("image", "killed")
 def another_image(it):
     """A process begins on another image than its disk kept."""
