@@ -27,6 +27,7 @@ RULES = {
     "heard": "a node that is well reads at once what a bot says that sits there",
     "image": "a process begins on what its disk kept",
     "joined": "a process tells of each peer to which it speaks that it is there",
+    "kept": "a node that is well with more than half closes no connection of a bot that stays",
     "late": "who is played for was waited for",
     "lives": "who tells of a store's life is right",
     "memory": "a run takes no more memory than its processes and commands need",
@@ -48,6 +49,7 @@ RULES = {
     "status": "a status line says what the store, the list and the peers make it say",
     "store": "what a disk keeps is a store",
     "tag": "each record is said with the tag that the key gives it",
+    "taken": "a node that is well with more than half takes a bot in at once that dials it",
     "token": "who shows no token, where seats have them, and who comes to no seat is told nothing but a status",
     "told": "a promise tells each vote of its node at the slots that were asked for",
     "trace": "what a process does is told of one that runs, and what nodes say are whole records and frames",
@@ -190,6 +192,8 @@ class Checker(Seats, Windows, Served):
             self.died[int(row[3])] = int(row[4])
         elif word == "fail":
             (self.failing.discard if int(row[4]) == NO_FAILURE else self.failing.add)(int(row[3]))
+        elif word in ("leave", "hush"):
+            self.parted.add(f"b{row[3]}")
         else:
             self.order_window(row)
 

@@ -68,6 +68,7 @@ class Seats(Links, StatusLines):
 
     def on_take(self, row):
         place, process, connection = int(row[4]), self.processes[int(row[1])], self.connection(row)
+        self.taken(row[0], int(row[3]))
         kind, reading = KINDS_OF_PLACES[place], self.readings.setdefault(int(row[3]), Reading())
         reading.kind = kind
         if kind == "seat":
@@ -79,6 +80,8 @@ class Seats(Links, StatusLines):
 
     def on_shut(self, row):
         process, connection = self.processes[int(row[1])], self.connection(row)
+        if connection is not None and connection.seat is not None:
+            self.part(row[0], int(row[1]), process, int(row[3]), connection)
         for seat in [seat for seat, other in process.seated.items() if other is connection]:
             del process.seated[seat]
 

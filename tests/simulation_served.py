@@ -14,6 +14,39 @@ class Served:
     def begin_served(self):
         # When each command of the list was chosen.
         self.moments = []
+        # Of each bot the number of the connection that it dialled last, and when; those that weren't taken in yet; and the bots that
+        # closed theirs since.
+        self.dialled, self.waiting, self.parted = {}, {}, set()
+
+    def calm_since(self, node):
+        """Since when a node has been well for a while with more than half of all."""
+        return min(since for group, since in self.groups.items() if node in group) + WELL
+
+    def dial(self, moment, bot, number, node):
+        """A bot dials a node: it gives up its dial before, or the connection that it had."""
+        self.taken(moment, self.dialled.get(bot))
+        self.dialled[bot], self.waiting[number] = number, (moment, node)
+        self.parted.discard(bot)
+
+    def taken(self, moment, number):
+        """A dial is answered, or given up. A node that is well, and has nothing to learn, takes a bot in at once."""
+        begun, node = self.waiting.pop(number, (moment, None))
+        process = self.processes.get(node)
+        if process is None or process.known < self.front or self.front in process.disk.store.entries:
+            return
+        if max(begun, self.last, self.calm_since(node)) + SOON < moment:
+            raise Wrong("taken", moment, f"node {node} left a bot waiting that dialled it at {begun}")
+
+    def part(self, moment, node, process, number, connection):
+        """A node closes the connection of a bot that sits there: one that is well does so where the bot closed it, or the match is over."""
+        seat = connection.seat
+        if seat not in process.sits or process.seated.get(seat) is not connection or self.dealt.is_over():
+            return
+        bot = connection.dialler
+        if bot in self.parted or self.dialled.get(bot) != number or self.readings[number].is_too_long:
+            return
+        if self.calm_since(node) < moment:
+            raise Wrong("kept", moment, f"node {node} closes the connection of seat {seat}, whose bot stays")
 
     def look_at_nodes(self, moment):
         """Looks at each node that has been well for a while."""

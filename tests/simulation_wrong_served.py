@@ -70,6 +70,21 @@ def a_seat_that_nobody_took(it):
     it.insert(it.first(lambda row: row[2:4] == ["note", "Quorum"] and row[1] == "1"), "1", "note", "Seated", "{", "seat:", "1", "}")
 
 
+@wrong("taken", "late")
+def a_bot_that_is_not_taken_in(it):
+    """A bot dials a node that is well, waits for half a second, and dials another one."""
+    number = 1 + max(int(row[3]) for row in it.rows if row[2] == "dial")
+    for moment, node in ((3_000_000, 1), (3_500_000, 2)):
+        it.insert(it.first(lambda row: int(row[0]) > moment), "b9", "dial", number + node, node, "1")
+
+
+@wrong("kept")
+def a_seat_that_is_closed(it):
+    """A node that is well closes the connection of a bot that does nothing else than before."""
+    place = it.first(lambda row: row[1] == "-" and row[2] == "stranger")
+    it.insert(place, "0", "shut", it.rows[it.lines(0)[0]][3])
+
+
 @wrong("token", "split")
 def a_seat_without_its_token(it):
     """A bot is told lines that showed the other seat's token, which is read byte by byte."""
