@@ -69,7 +69,7 @@ class Links:
             self.connections.append(None)
         if row[1].startswith("b"):
             self.connections[connection] = Connection(row[1], rest[0], rest[1])
-            self.dial(row[0], row[1], connection, rest[0])
+            self.dial(row[0], row[1], connection, *rest)
         else:
             made = self.connections[connection] = Connection(row[1], rest[0])
             made.processes[row[1]] = self.processes[int(row[1])]

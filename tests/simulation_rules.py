@@ -100,8 +100,8 @@ class Process:
         self.beat, self.beat_front, self.doubted = None, 0, None
         # The seats that sit here, when each was taken in, and the line of each to which an answer came that waits, with the moment.
         self.sits, self.took, self.answered, self.answers_at = set(), {}, {}, {}
-        # The connection that was last taken in at each seat, none where it isn't a bot's; and when each seat last sat down.
-        self.seated, self.seated_at = {}, {}
+        # The number of the connection that is taken in at each seat, when each seat last sat down, and when its place was last left.
+        self.seated, self.seated_at, self.freed = {}, {}, {}
 
     def learn(self, moment, count):
         """It says that it has so many commands."""

@@ -74,7 +74,7 @@ class Seats(Links, StatusLines):
         if kind == "seat":
             reading.seat = seat = place - KINDS_OF_PLACES.index("seat")
             process.took.setdefault(seat, []).append(row[0])
-            process.seated[seat] = connection
+            process.seated[seat] = int(row[3])
         if connection is not None:
             connection.processes[row[1]], connection.known = process, process.known
 
@@ -82,8 +82,9 @@ class Seats(Links, StatusLines):
         process, connection = self.processes[int(row[1])], self.connection(row)
         if connection is not None and connection.seat is not None:
             self.part(row[0], int(row[1]), process, int(row[3]), connection)
-        for seat in [seat for seat, other in process.seated.items() if other is connection]:
+        for seat in [seat for seat, number in process.seated.items() if number == int(row[3])]:
             del process.seated[seat]
+            process.freed[seat] = row[0]
 
     def on_read(self, row):
         data, reading = bytes_of(row[4]), self.readings.setdefault(int(row[3]), Reading())
@@ -94,7 +95,7 @@ class Seats(Links, StatusLines):
         if connection is None:
             return
         node = int(row[1])
-        self.look_at_seat(row[0], node, self.processes[node], connection.seat, connection)
+        self.look_at_seat(row[0], node, self.processes[node], connection.seat, int(row[3]))
         if not connection.unread.startswith(data):
             raise Wrong("wire", row[0], f"node {node} reads what seat {connection.seat} didn't say: {data!r}")
         del connection.unread[: len(data)]
@@ -140,7 +141,7 @@ class Seats(Links, StatusLines):
 
     def say_to_seat(self, row, connection, data):
         process = self.own(row, connection)
-        self.look_at_seat(row[0], int(row[1]), process, connection.seat, connection)
+        self.look_at_seat(row[0], int(row[1]), process, connection.seat, int(row[3]))
         if self.has_tokens and connection.token != str(connection.seat) * TOKEN_DIGITS:
             raise Wrong("token", row[0], f"node {row[1]} tells seat {connection.seat}, whose token wasn't shown, {data!r}")
         *lines, connection.told = (connection.told + data).split(b"\r\n")

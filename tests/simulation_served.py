@@ -22,25 +22,26 @@ class Served:
         """Since when a node has been well for a while with more than half of all."""
         return min(since for group, since in self.groups.items() if node in group) + WELL
 
-    def dial(self, moment, bot, number, node):
+    def dial(self, moment, bot, number, node, seat):
         """A bot dials a node: it gives up its dial before, or the connection that it had."""
         self.taken(moment, self.dialled.get(bot))
-        self.dialled[bot], self.waiting[number] = number, (moment, node)
+        self.dialled[bot], self.waiting[number] = number, (moment, node, seat)
         self.parted.discard(bot)
 
     def taken(self, moment, number):
-        """A dial is answered, or given up. A node that is well, and has nothing to learn, takes a bot in at once."""
-        begun, node = self.waiting.pop(number, (moment, None))
+        """A dial is answered, or given up. A node that is well, has nothing to learn, and at which nobody sits at that seat, takes a bot in
+        at once."""
+        begun, node, seat = self.waiting.pop(number, (moment, None, None))
         process = self.processes.get(node)
-        if process is None or process.known < self.front or self.front in process.disk.store.entries:
+        if process is None or seat in process.seated or process.known < self.front or self.front in process.disk.store.entries:
             return
-        if max(begun, self.last, self.calm_since(node)) + SOON < moment:
+        if max(begun, self.last, process.freed.get(seat, 0), self.calm_since(node)) + SOON < moment:
             raise Wrong("taken", moment, f"node {node} left a bot waiting that dialled it at {begun}")
 
     def part(self, moment, node, process, number, connection):
         """A node closes the connection of a bot that sits there: one that is well does so where the bot closed it, or the match is over."""
         seat = connection.seat
-        if seat not in process.sits or process.seated.get(seat) is not connection or self.dealt.is_over():
+        if seat not in process.sits or process.seated.get(seat) != number or self.dealt.is_over():
             return
         bot = connection.dialler
         if bot in self.parted or self.dialled.get(bot) != number or self.readings[number].is_too_long:
@@ -54,8 +55,8 @@ class Served:
         for node, process in self.processes.items():
             if process.known < self.front:
                 self.look_at_front(moment, node, process)
-            for seat, connection in process.seated.items():
-                self.look_at_seat(moment, node, process, seat, connection)
+            for seat, number in process.seated.items():
+                self.look_at_seat(moment, node, process, seat, number)
 
     def look_at_answers(self, moment, node, seat):
         """A node orders that a seat is played for: no other one has had its answer for long, where all have been well for a while."""
@@ -74,9 +75,10 @@ class Served:
         if moment - base > limit:
             raise Wrong("behind", moment, f"node {node}, which has been well since {since}, tells {process.known} of {self.front} commands, behind {(moment - base) / 1e6:.1f} s, of {limit / 1e6:.1f} at most")
 
-    def look_at_seat(self, moment, node, process, seat, connection):
+    def look_at_seat(self, moment, node, process, seat, number):
         """A bot that sits at a node that is well: what it said is read, and the lines that the node has are told to it."""
-        if connection is None or process.seated.get(seat) is not connection or seat not in process.sits:
+        connection = self.connections[number] if number < len(self.connections) else None
+        if connection is None or process.seated.get(seat) != number or seat not in process.sits:
             return
         since = max(self.well[node], process.seated_at[seat]) + WELL
         if since + SOON >= moment:
