@@ -2,6 +2,7 @@
 
 Players are positions from 0 on. Amounts are whole chips that a player has put in during the whole hand.
 """
+import functools
 from collections import Counter
 from itertools import combinations
 from typing import NamedTuple, Sequence
@@ -45,6 +46,12 @@ def value_of_five(cards):
     if ranks == WHEEL or len(ranks) == 5 and ranks[0] - ranks[4] == 4:
         return (STRAIGHT_FLUSH if is_flush else STRAIGHT), (3 if ranks == WHEEL else ranks[0],)
     return (FLUSH if is_flush else SHAPES.get(tuple(sorted(counts.values(), reverse=True)), HIGH_CARD)), ranks
+
+
+@functools.lru_cache(maxsize=64)
+def value_of_seven(cards):
+    """The value of the best five. Those of a showdown are asked for several times."""
+    return max(map(value_of_five, combinations(cards, 5)))
 
 
 class Hand:
@@ -132,7 +139,7 @@ class Hand:
     def value(self, player):
         """The value of the best five of a player's seven cards."""
         hole = self.holes[player]
-        return max(map(value_of_five, combinations([hole[:2], hole[2:], *self.board], 5)))
+        return value_of_seven((hole[:2], hole[2:], *self.board))
 
     def pots(self):
         """The pots, the main one first: levels with the same eligible players are one."""
