@@ -83,15 +83,19 @@ def read(path, what):
         raise Wrong(f"the {what} {path} can't be read: {why.strerror}") from why
 
 
+class Lacking(Exception):
+    """A file lacks a key, or its value is none of what is wanted."""
+
+
 def text_of(entries, key):
     """The text of a key."""
     return entry_of(entries, key, str, "text")
 
 
 def entry_of(entries, key, kind, what):
-    """The value of a key, which is of a kind; a KeyError where there is none."""
+    """The value of a key, which is of a kind."""
     if type(entries.get(key)) is not kind:
-        raise KeyError(key, what)
+        raise Lacking(f"{key} is missing, or is no {what}")
     return entries[key]
 
 
@@ -127,5 +131,5 @@ def source_of(words):
         if "player" in entries and "port" in entries:
             return RoomSource(Path(words.file).resolve(), entries, words)
         return LeagueSource(Path(words.file).resolve(), words, hiding_of)
-    except KeyError as why:
-        raise Wrong("{}: {} is missing, or is no {}".format(words.file, *why.args)) from why
+    except Lacking as why:
+        raise Wrong(f"{words.file}: {why}") from why
