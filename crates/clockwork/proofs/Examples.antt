@@ -14,6 +14,7 @@ use Rattle.clockwork.specs.Ranks.{is_before, rank_by_number, turn, comes_sooner,
 use Rattle.clockwork.specs.Helping.{lag_within, lagging, has_passed, lagging_left, least_left, help_left, one_lags}
 use Rattle.clockwork.specs.Standings.{idle_since, gone_since, standing_over, standing_behind, standing_to}
 use Rattle.clockwork.specs.Work.{has_work, is_reopened, one_reopened, steps_by_number, steps_behind, is_untold, idle_wait, row_left, one_campaigns, campaigns_by, yield_left, back_left, work_left}
+use Rattle.clockwork.specs.Teaching.{told_by_leader, teaches, teaching_left, taught_left}
 use Rattle.clockwork.specs.Dues.{due_in, behind_left, awaited, due_of}
 use Rattle.clockwork.specs.Laws.{replays, LongAgo, HasWaited, IsReason, to_catch_up, for_a_peer, to_work, to_be_heard, IsLinkPast, longest_wait, heard_again}
 
@@ -114,7 +115,7 @@ more_than_64_seconds_count_as_64 = refl
 
 -- a peer that told this front at a second
 abbrev beat_of : ℕ → PeerReport
-beat_of front = record { front = front; below = 1000000; campaigns = false; told = 1000000; over = false }
+beat_of front = record { front = front; below = 1000000; campaigns = false; told = 1000000; over = false; risen = 1000000 }
 
 abbrev heard_at : ℕ → Option PeerReport → Link
 heard_at heard beat = Open (record { opened = 500000; heard = heard; unanswered = false; beat = beat })
@@ -434,8 +435,67 @@ unfolding due_of slowest pace_of is_quorate present told due_in silence_of
 not_without_a_quorum any = refl
 
 one_that_is_behind_waits : (any : Known) → due_of (record (with_peers any (peer_at 0 (Closed 4999000) ∷ peer_at 2 (heard_at 5000000 (Some (beat_of 8))) ∷ [])) { act_waits = true; behind_since = 4900000 }) ≡ Nothing 6000000
-unfolding due_of slowest pace_of is_quorate present told awaited is_behind is_above behind_left one_can_help can_help steps_by_number rank_by_number is_before due_in silence_of lag_of most_of
+unfolding due_of slowest pace_of is_quorate present told awaited is_behind is_above behind_left one_can_help can_help steps_by_number rank_by_number is_before due_in silence_of lag_of most_of taught_left told_by_leader teaching_left
 one_that_is_behind_waits any = refl
+
+-- ---- a node that is behind, and its leader
+
+-- node 0 leads; its front is 8, and rose then
+abbrev leader_risen : ℕ → PeerReport
+leader_risen moment = record (beat_of 8) { campaigns = true; risen = moment }
+
+it_teaches_for_a_second : teaches 5000000 1000 7 (Some (leader_risen 4000001)) ≡ true
+unfolding teaches pace_of
+it_teaches_for_a_second = refl
+
+and_then_no_longer : teaches 5000000 1000 7 (Some (leader_risen 4000000)) ≡ false
+unfolding teaches pace_of
+and_then_no_longer = refl
+
+not_what_is_known_here : teaches 5000000 1000 8 (Some (leader_risen 5000000)) ≡ false
+unfolding teaches
+not_what_is_known_here = refl
+
+not_once_its_match_is_over : teaches 5000000 1000 7 (Some (record (leader_risen 5000000) { over = true })) ≡ false
+unfolding teaches
+not_once_its_match_is_over = refl
+
+so_much_is_left : teaching_left 5000000 1000 7 (Some (leader_risen 4300000)) ≡ 300000
+unfolding teaching_left pace_of
+so_much_is_left = refl
+
+nothing_of_one_that_is_over : teaching_left 5000000 1000 7 (Some (record (leader_risen 4300000) { over = true })) ≡ 0
+unfolding teaching_left
+nothing_of_one_that_is_over = refl
+
+the_leader_told : (any : Known) → told_by_leader (among_two any (heard_at 5000000 (Some (leader_risen 4300000)))) 1000 (Some 0) ≡ Some (leader_risen 4300000)
+unfolding among_two told_by_leader told silence_of
+the_leader_told any = refl
+
+not_one_that_is_silent : (any : Known) → told_by_leader (among_two any (heard_at 4000000 (Some (leader_risen 4300000)))) 1000 (Some 0) ≡ None
+unfolding among_two told_by_leader told silence_of
+not_one_that_is_silent any = refl
+
+nor_itself : (any : Known) → told_by_leader (among_two any (heard_at 5000000 (Some (leader_risen 4300000)))) 1000 (Some 1) ≡ None
+unfolding among_two told_by_leader
+nor_itself any = refl
+
+nor_where_none_is_promised : (any : Known) → told_by_leader (lost any) 1000 None ≡ None
+unfolding told_by_leader
+nor_where_none_is_promised any = refl
+
+-- it has been behind for four seconds, of two that it waits
+it_leaves_its_leader_alone : (any : Known) → due_of (record (among_two any (heard_at 5000000 (Some (leader_risen 4300000)))) { act_waits = true }) ≡ Nothing 5300000
+unfolding among_two due_of slowest pace_of is_quorate present told awaited is_behind is_above behind_left one_can_help can_help steps_by_number rank_by_number is_before due_in silence_of lag_of most_of taught_left told_by_leader teaching_left
+it_leaves_its_leader_alone any = refl
+
+for_a_second : (any : Known) → due_of (among_two any (heard_at 5000000 (Some (leader_risen 4000000)))) ≡ Now
+unfolding among_two due_of slowest pace_of is_quorate present told awaited is_behind is_above behind_left one_can_help can_help steps_by_number rank_by_number is_before due_in silence_of lag_of most_of taught_left told_by_leader teaching_left
+for_a_second any = refl
+
+but_no_other_node : (any : Known) → due_of (record (among_two any (heard_at 5000000 (Some (leader_risen 4300000)))) { promised = Some 2 }) ≡ Now
+unfolding among_two due_of slowest pace_of is_quorate present told awaited is_behind is_above behind_left one_can_help can_help steps_by_number rank_by_number is_before due_in silence_of lag_of most_of taught_left told_by_leader teaching_left
+but_no_other_node any = refl
 
 -- ---- the laws' words
 
@@ -446,7 +506,10 @@ ticked_just_now : LongAgo 100000 (Some (record { last = 95001; in_vain = 1 })) 5
 ticked_just_now late = omega arith
 
 past_moments : IsLinkPast 5000000 (heard_at 5000000 (Some (beat_of 7)))
-past_moments = (omega arith, (omega arith, omega arith))
+past_moments = (omega arith, (omega arith, (omega arith, omega arith)))
+
+a_rise_that_lies_ahead : IsLinkPast 5000000 (heard_at 5000000 (Some (record (beat_of 7) { risen = 5000001 }))) → ⊥
+a_rise_that_lies_ahead past = let rise = past.1.1.1 in omega arith
 
 a_moment_that_lies_ahead : IsLinkPast 4000000 (heard_at 4000001 None) → ⊥
 a_moment_that_lies_ahead past = let first = past.0 in omega arith
@@ -473,7 +536,7 @@ an_act_is_a_reason any = to_work refl refl (inl tt)
 
 there_is_none_at_rest : (any : Known) → IsReason (lost any) → ⊥
 unfolding is_behind is_above told has_work pace_of slowest one_lags has_passed lagging lag_of is_untold silence_of
-there_is_none_at_rest any (to_catch_up is waited) = cc
+there_is_none_at_rest any (to_catch_up is untaught waited) = cc
 there_is_none_at_rest any (for_a_peer front is waited) = cc
 there_is_none_at_rest any (to_work front is waited) = cc
 there_is_none_at_rest any (to_be_heard front is waited) = cc

@@ -1,18 +1,20 @@
 -- Why the seat to act is played for, so that it is fair, and that it is.
-use Rattle.std.proofs.Common.{ℕ, zero, suc, ◌≡◌, ◌⊎◌, ◌+◌, ◌-◌, ◌*◌, ◌<◌, ◌≤◌, Bool, true, false, List, [], ◌∷◌, Option, Some, None, inl, inr, refl, arith}
+use Rattle.std.proofs.Common.{ℕ, zero, suc, ◌≡◌, ◌⊎◌, ◌+◌, ◌-◌, ◌*◌, ◌<◌, ◌≤◌, Bool, true, false, List, [], ◌∷◌, Option, Some, None, inl, inr, refl, ap, arith}
 use Rattle.std.specs.Prelude.{min, max, ◌&&◌, ◌||◌, not, if◌then◌else◌, nat_lt, nat_le, is_some}
-use Rattle.std.proofs.lemmas.Bool.{cases_Bool, and_parts, and_from, or_cases, or_left, or_right, false≢true, ltb-true, ltb-false, lt-ltb, le-ltb, le-leb, leb-true}
+use Rattle.std.proofs.lemmas.Bool.{cases_Bool, and_parts, and_from, or_cases, not-true, or_left, or_right, false≢true, ltb-true, ltb-false, lt-ltb, le-ltb, le-leb, leb-true}
 use Rattle.clockwork.specs.declared.seat_watch.At.{At}
 use Rattle.clockwork.specs.declared.seat_watch.At.TheVariants.{Gone, Empty, Sits, Taken}
 use Rattle.clockwork.specs.declared.seat_watch.Place.{Place}
 use Rattle.clockwork.specs.declared.order.Expected.{Expected}
+use Rattle.clockwork.specs.declared.answer.Due.{Due}
 use Rattle.clockwork.specs.declared.answer.Due.TheVariants.{Now, Nothing}
 use Rattle.clockwork.specs.declared.limits.TheConstants.{SLOW_TURNS, SLOW_TURN, LOOK}
 use Rattle.clockwork.specs.Waits.{left}
+use Rattle.clockwork.specs.Dues.{due_in}
 use Rattle.clockwork.specs.ActionTimeout.{is_able, order_left, seated_after, IsOrderedLongAgo}
 use Rattle.clockwork.specs.SeatWatches.{place_after, has_passed, BeginsAnewOnce, BeginsAnew}
 use Rattle.clockwork.specs.Openings.{first_after, looked_all, OpeningLook, HadQuorum, OpensOnlyThen, IsPast, OpensThen}
-use Rattle.clockwork.specs.Orders.{wait_of, longest_of, has_stood, is_its_turn, is_to_order, turn_left, order_due_of, IsAble, IsItsTurn, HasBeenPatient, IsOrderedAtTheLatest, IsOrderedInTurn, waits_together, CostsTenSeconds}
+use Rattle.clockwork.specs.Orders.{wait_of, longest_of, has_stood, is_its_turn, may_be_kept_out, turn_since, is_to_order, turn_left, order_due_of, turn_wait, more_of, IsAble, IsItsTurn, HasBeenPatient, IsOrderedAtTheLatest, IsOrderedInTurn, WaitsBehindACrowd, uncrowded, IsWaitedForAsEver, waits_together, CostsTenSeconds}
 use Rattle.clockwork.proofs.Ticking.{max_parts, none_left, tick_of_none, none_of_tick, until_of, cases_none}
 use Rattle.clockwork.proofs.Ordering.{long_ago, none_of_long_ago}
 
@@ -41,17 +43,17 @@ able_by expected so =
     (record { able = first.0; awake = second.0; opened = third.0 }, third.1)
 
 parts_of_none : (expected : Expected) → turn_left expected ≡ 0
-    → (min (left expected.awaited.time expected.awaited.since (wait_of expected)) (left expected.awaited.time expected.stood (longest_of expected)) ≡ 0)
+    → (min (left expected.awaited.time (turn_since expected) (wait_of expected)) (left expected.awaited.time expected.stood (longest_of expected)) ≡ 0)
     × (order_left expected.awaited.time expected.awaited.ordered expected.awaited.patience ≡ 0)
 unfolding turn_left
 parts_of_none expected none =
-    max_parts (min (left expected.awaited.time expected.awaited.since (wait_of expected)) (left expected.awaited.time expected.stood (longest_of expected)))
+    max_parts (min (left expected.awaited.time (turn_since expected) (wait_of expected)) (left expected.awaited.time expected.stood (longest_of expected)))
     (order_left expected.awaited.time expected.awaited.ordered expected.awaited.patience) none
 
 pub has_been_patient : (expected : Expected) → turn_left expected ≡ 0 → HasBeenPatient expected
 has_been_patient expected none =
-    elim (cases_none (left expected.awaited.time expected.awaited.since (wait_of expected)) (left expected.awaited.time expected.stood (longest_of expected)) (parts_of_none expected none).0) [
-      | inl turn ↦ inl (none_left (wait_of expected) (expected.awaited.time - expected.awaited.since) turn)
+    elim (cases_none (left expected.awaited.time (turn_since expected) (wait_of expected)) (left expected.awaited.time expected.stood (longest_of expected)) (parts_of_none expected none).0) [
+      | inl turn ↦ inl (none_left (wait_of expected) (expected.awaited.time - turn_since expected) turn)
       | inr longest ↦ inr (none_left (longest_of expected) (expected.awaited.time - expected.stood) longest)
     ]
 
@@ -84,10 +86,10 @@ pub in_turn : (expected : Expected) → IsOrderedInTurn expected
 unfolding order_due_of turn_left
 in_turn expected = λ able turn waited ago.
     let so = to_order expected able turn in
-    let first = none_of_long (wait_of expected) (expected.awaited.time - expected.awaited.since) waited in
+    let first = none_of_long (wait_of expected) (expected.awaited.time - turn_since expected) waited in
     let last = none_of_long_ago expected.awaited.time expected.awaited.ordered expected.awaited.patience ago in
     rw so (tick_of_none expected.awaited.time (turn_left expected) (none_of_first
-    (left expected.awaited.time expected.awaited.since (wait_of expected)) (left expected.awaited.time expected.stood (longest_of expected))
+    (left expected.awaited.time (turn_since expected) (wait_of expected)) (left expected.awaited.time expected.stood (longest_of expected))
     (order_left expected.awaited.time expected.awaited.ordered expected.awaited.patience) first last))
 
 pub at_the_latest : (expected : Expected) → IsOrderedAtTheLatest expected
@@ -97,8 +99,46 @@ at_the_latest expected = λ able long ago.
     let second = none_of_long (longest_of expected) (expected.awaited.time - expected.stood) long in
     let last = none_of_long_ago expected.awaited.time expected.awaited.ordered expected.awaited.patience ago in
     rw so (tick_of_none expected.awaited.time (turn_left expected) (none_of_second
-    (left expected.awaited.time expected.awaited.since (wait_of expected)) (left expected.awaited.time expected.stood (longest_of expected))
+    (left expected.awaited.time (turn_since expected) (wait_of expected)) (left expected.awaited.time expected.stood (longest_of expected))
     (order_left expected.awaited.time expected.awaited.ordered expected.awaited.patience) second last))
+
+-- ---- a seat that may be kept out
+
+-- it isn't given up
+not_given_up : (expected : Expected) → may_be_kept_out expected ≡ true → is_some expected.turns ≡ false
+not_given_up expected may =
+    let second = and_parts (not expected.awaited.sits_here) (not expected.awaited.sits_elsewhere && not (is_some expected.turns)) may in
+    not-true (is_some expected.turns) (and_parts (not expected.awaited.sits_elsewhere) (not (is_some expected.turns)) second.1).1
+
+whole_patience : (patience : ℕ) (turns : Option ℕ) → is_some turns ≡ false → turn_wait patience turns ≡ patience
+whole_patience patience None none = refl
+whole_patience patience (Some turns) none = cc
+
+later_of : (patience wait more time since crowded : ℕ) → wait ≡ patience → wait + more ≤ time - max since crowded → patience ≤ time - crowded
+later_of patience wait more time since crowded same long = omega (arith, same, long)
+
+pub waits_behind_a_crowd : (expected : Expected) → WaitsBehindACrowd expected
+waits_behind_a_crowd expected = λ may is. elim (has_been_patient expected (order_by expected is).1) [
+  | inl long ↦
+      let past : wait_of expected ≤ expected.awaited.time - max expected.awaited.since expected.crowded = rw may at long in
+      inl (later_of expected.awaited.patience (turn_wait expected.awaited.patience expected.turns) (more_of expected) expected.awaited.time expected.awaited.since expected.crowded
+      (whole_patience expected.awaited.patience expected.turns (not_given_up expected may)) past)
+  | inr longest ↦ inr (le-leb (longest_of expected) (expected.awaited.time - expected.stood) longest)
+]
+
+same_since : (test : Bool) (since crowded : ℕ) → (test ≡ false) ⊎ (crowded ≤ since) → (if test then max since crowded else since) ≡ (if test then max since 0 else since)
+same_since false since crowded other = refl
+same_since true since crowded (inl is) = cc
+same_since true since crowded (inr before) = omega (arith, before)
+
+due_of_since : Expected → ℕ → Due
+due_of_since expected since =
+    if is_to_order expected then due_in expected.awaited.time (max (min (left expected.awaited.time since (wait_of expected)) (left expected.awaited.time expected.stood (longest_of expected))) (order_left expected.awaited.time expected.awaited.ordered expected.awaited.patience))
+    else due_in expected.awaited.time LOOK
+
+pub waited_for_as_ever : (expected : Expected) → IsWaitedForAsEver expected
+unfolding order_due_of turn_left is_to_order is_able due_of_since
+waited_for_as_ever expected = λ other. ap (due_of_since expected) (same_since (may_be_kept_out expected) expected.awaited.since expected.crowded other)
 
 -- ---- turns of a seat that is given up
 

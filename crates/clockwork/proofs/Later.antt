@@ -22,6 +22,7 @@ use Rattle.clockwork.specs.Ranks.{is_before, rank_by_number, comes_sooner, rank_
 use Rattle.clockwork.specs.Helping.{lag_within, waits_since, lagging, has_passed, lagging_left, least_left, help_left, one_lags}
 use Rattle.clockwork.specs.Standings.{idle_since, gone_since, standing_by, standing_over, standing_behind, standing_to, standing, is_campaign, is_follower}
 use Rattle.clockwork.specs.Work.{has_work, one_reopened, steps_by_number, steps_behind, is_untold, idle_wait, row_left, votes_alone, one_campaigns, yield_left, back_left, work_left}
+use Rattle.clockwork.specs.Teaching.{told_over, told_by_leader, teaching_left, taught_left}
 use Rattle.clockwork.specs.Dues.{behind_left, awaited, slow_in, due_by, due_of}
 use Rattle.clockwork.specs.Laws.{IsBeatPast, IsLinkPast, IsPast, longest_wait, heard_again, peer_at, known_at, after_the_wait, ComesInTime}
 use Rattle.clockwork.proofs.Lists.{each_of_all, each_changed, count_alike, count_fewer, fold_alike, any_alike, found_of_each, least_is_none}
@@ -29,11 +30,11 @@ use Rattle.clockwork.proofs.Ticking.{tick_of_none}
 
 -- ---- numbers
 
-either_none : (test : Bool) (a b : ℕ) → a ≡ 0 → b ≡ 0 → (if test then a else b) ≡ 0
+pub either_none : (test : Bool) (a b : ℕ) → a ≡ 0 → b ≡ 0 → (if test then a else b) ≡ 0
 either_none true a b first second = first
 either_none false a b first second = second
 
-max_none : (a b : ℕ) → a ≡ 0 → b ≡ 0 → max a b ≡ 0
+pub max_none : (a b : ℕ) → a ≡ 0 → b ≡ 0 → max a b ≡ 0
 max_none a b first second = omega arith
 
 left_none : (time wait since length : ℕ) → since ≤ time → length ≤ wait → left (time + wait) since length ≡ 0
@@ -43,7 +44,7 @@ silence_some : (slow : ℕ) → SHORTEST ≤ silence_of slow
 unfolding silence_of
 silence_some slow = omega arith
 
-lag_short : (slow : ℕ) → lag_of slow ≤ pace_of slow
+pub lag_short : (slow : ℕ) → lag_of slow ≤ pace_of slow
 unfolding lag_of pace_of
 lag_short slow = omega arith
 
@@ -56,7 +57,7 @@ unfolding soon_of pace_of
 soon_short slow = omega arith
 
 -- a shorter wait is shorter when doubled
-doubled_short : (one other ticks most more : ℕ) → one ≤ other → most ≤ more → doubled one ticks most ≤ doubled other ticks more
+pub doubled_short : (one other ticks most more : ℕ) → one ≤ other → most ≤ more → doubled one ticks most ≤ doubled other ticks more
 doubled_short one other ticks most more short bound = at_most (one * times ticks) (other * times ticks) (mul-le-mul_right (times ticks) short)
   where
     at_most : (a b : ℕ) → a ≤ b → max one (min most a) ≤ max other (min more b)
@@ -76,7 +77,7 @@ spaced_none time wait (Some ticks) past long = omega arith
 both_past : (a b time : ℕ) → a ≤ time → b ≤ time → max a b ≤ time
 both_past a b time first second = omega arith
 
-steps_few : (rank count : ℕ) → rank ≤ count → STEP * rank ≤ STEP * count
+pub steps_few : (rank count : ℕ) → rank ≤ count → STEP * rank ≤ STEP * count
 steps_few rank count within = omega arith
 
 sum_short : (a b long steps wait : ℕ) → a ≤ long → b ≤ steps → long + steps ≤ wait → a + b ≤ wait
@@ -86,7 +87,7 @@ most_of_both : (test : Bool) (a b wait : ℕ) → a + b ≤ wait → (if test th
 most_of_both true a b wait short = omega arith
 most_of_both false a b wait short = short
 
-few_of_both : (test : Bool) (lag pace : ℕ) → lag ≤ pace → max lag (if test then BEHIND else ALONE) ≤ max BEHIND pace
+pub few_of_both : (test : Bool) (lag pace : ℕ) → lag ≤ pace → max lag (if test then BEHIND else ALONE) ≤ max BEHIND pace
 few_of_both true lag pace short = omega (arith, short)
 few_of_both false lag pace short = omega (arith, short)
 
@@ -107,7 +108,7 @@ late_of_both time false a b first second = second
 
 -- ---- who is present
 
-before_is_told : (beat : Option PeerReport) (peer number : ℕ) → is_before beat peer number ≡ true → is_some beat ≡ true
+pub before_is_told : (beat : Option PeerReport) (peer number : ℕ) → is_before beat peer number ≡ true → is_some beat ≡ true
 unfolding is_before
 before_is_told None peer number is = is
 before_is_told (Some beat) peer number is = refl
@@ -171,12 +172,15 @@ module _ (time slow later : ℕ) (after : time ≤ later) where
   idle_past : (beat : Option PeerReport) → IsBeatPast time beat → IfSome (idle_since beat) (λ since. since ≤ time)
   unfolding idle_since
   idle_past None past = tt
-  idle_past (Some beat) past = elim (cases_Bool beat.campaigns) [ inl so ↦ rw so tt | inr not_so ↦ rw not_so (past.1) ]
+  idle_past (Some beat) past = elim (cases_Bool beat.campaigns) [ inl so ↦ rw so tt | inr not_so ↦ rw not_so past.1.0 ]
 
   told_past : (link : Link) → IsLinkPast time link → IsBeatPast time (told time slow link)
   unfolding told
   told_past (Closed since) past = tt
   told_past (Open connection) past = elim (cases_Bool (nat_lt (time - connection.heard) (silence_of slow))) [ inl so ↦ rw so (past.1) | inr not_so ↦ rw not_so tt ]
+
+  report_late : (link : Link) → IsLinkPast time link → IsBeatPast time (told later slow (heard_again time slow later link))
+  report_late link past = rw (told_again link) (told_past link past)
 
   late_by : (leader : ℕ) (gone idle : Option ℕ) → IfSome gone (λ since. since ≤ time) → IfSome idle (λ since. since ≤ time) → IsLate time (standing_by leader gone idle)
   late_by leader None None first second = tt
@@ -233,7 +237,7 @@ one_of_all false second false a b c same none rest needed = elim needed [
   | inr other ↦ elim other [ inl is ↦ cc | inr help ↦ help ]
 ]
 
-tick_when : (test : Bool) (a b : Due) → test ≡ true → a ≡ Now → (if test then a else b) ≡ Now
+pub tick_when : (test : Bool) (a b : Due) → test ≡ true → a ≡ Now → (if test then a else b) ≡ Now
 tick_when true a b is tick = tick
 tick_when false a b is tick = cc
 
@@ -267,6 +271,22 @@ module _ (known : Known) (past : IsPast known) (slow wait : ℕ) (enough : most_
       (late_of_both known.time (not known.was_led) Fresh _ tt
       (late_of_both known.time (leader == known.number) Led _ tt
       (not_late leader)))
+
+  -- ---- the front of the leader then
+
+  told_late : (found : Option Peer) → IfSome found (λ peer. IsBeatPast known.time (told (known.time + wait) slow peer.link)) → IsBeatPast known.time (told_over (known.time + wait) slow found)
+  told_late None late = tt
+  told_late (Some peer) late = late
+
+  leader_late : (promised : Option ℕ) → IsBeatPast known.time (told_by_leader (then_known known slow wait) slow promised)
+  unfolding told_by_leader
+  leader_late None = tt
+  leader_late (Some leader) =
+      let Was : Peer → Type 0 = λ peer. IsLinkPast known.time peer.link in
+      let Is : Peer → Type 0 = λ peer. IsBeatPast known.time (told (known.time + wait) slow peer.link) in
+      let each = each_changed Was Is (peer_at known.time slow (known.time + wait)) (λ peer. report_late known.time slow (known.time + wait) past_time peer.link) known.peers.now
+      (each_of_all Was known.peers.now past.peers) in
+      told_late (find (λ (peer : Peer). peer.number == leader) (then_known known slow wait).peers.now) (found_of_each Is (λ (peer : Peer). peer.number == leader) (then_known known slow wait).peers.now each)
 
   -- ---- how long each wait is
 
@@ -369,14 +389,30 @@ module _ (known : Known) (past : IsPast known) (slow wait : ℕ) (enough : most_
   behind_most : behind_wait (known.time + wait) slow known.front (then_known known slow wait).peers.now ≤ most_wait known slow
   behind_most = let first = first_short in let short = behind_first in omega (arith, first, short)
 
+  pace_alone : pace_of slow ≤ wait
+  pace_alone = let first = first_short in alone (pace_of slow) (omega (arith, first))
+
+  teaching_none : (report : Option PeerReport) → IsBeatPast known.time report → teaching_left (known.time + wait) slow known.front report ≡ 0
+  unfolding teaching_left
+  teaching_none None late = refl
+  teaching_none (Some report) late =
+      either_none (nat_lt known.front report.front && not report.over) (left (known.time + wait) report.risen (pace_of slow)) 0
+      (left_none known.time wait report.risen (pace_of slow) late.1.1 pace_alone) refl
+
+  taught_none : taught_left (then_known known slow wait) slow ≡ 0
+  unfolding taught_left
+  taught_none = teaching_none (told_by_leader (then_known known slow wait) slow known.promised) (leader_late known.promised)
+
   behind_none : behind_left (then_known known slow wait) slow ≡ 0
   unfolding behind_left
   behind_none =
       let first = behind_wait (known.time + wait) slow known.front (then_known known slow wait).peers.now in
       max_none _ _
+      (max_none _ _
       (left_none known.time wait (max known.behind_since known.moved) (first + steps_by_number (then_known known slow wait) slow)
       (both_past known.behind_since known.moved known.time past.behind_since past.moved) (sum_within first (steps_by_number (then_known known slow wait) slow) behind_most by_number))
-      (again_within first (most_of slow) behind_first (omega arith))
+      (again_within first (most_of slow) behind_first (omega arith)))
+      taught_none
 
   help_none : one_lags known slow ≡ true → help_left (then_known known slow wait) slow ≡ 0
   unfolding one_lags help_left least_left

@@ -3,6 +3,8 @@ mod WatchExamples
 mod Lists
 mod Ticking
 mod Later
+mod Turning
+mod Catching
 mod Ordering
 mod Measures
 mod Fairness

@@ -15,7 +15,7 @@ use Rattle.clockwork.specs.Dues.{due_in}
 use Rattle.clockwork.specs.SeatWatches.{place_after, since_of, given_up_after, seat_of, looked_at, turns_of, Sighting, IsAway}
 use Rattle.clockwork.specs.Openings.{opening_of, looked, OpeningLook, CouldOpen}
 use Rattle.clockwork.specs.Wakings.{asleep, is_enough, is_awake, waking_behind, behind_sleep, further, HasHeardEnough}
-use Rattle.clockwork.specs.Orders.{turn_wait, is_to_order, turn_left, order_due_of, HasBeenPatient, waits_together}
+use Rattle.clockwork.specs.Orders.{turn_wait, may_be_kept_out, is_to_order, turn_left, order_due_of, HasBeenPatient, waits_together}
 
 -- ---- a seat at a node
 
@@ -227,7 +227,7 @@ abbrev held : Awaited
 held = record { time = 50000000; patience = 20000000; over = false; hand_runs = true; quorate = true; replays = false; sits_here = true; sits_elsewhere = false; rank = 0; since = 40000000; ordered = None }
 
 abbrev known : Expected
-known = record { awaited = held; is_awake = true; is_open = true; turns = None; stood = 40000000; slept = 0; nodes = 3 }
+known = record { awaited = held; is_awake = true; is_open = true; turns = None; stood = 40000000; slept = 0; nodes = 3; crowded = 0 }
 
 ten_are_left : order_due_of known ≡ Nothing 51000000
 unfolding order_due_of is_to_order is_able turn_left due_in
@@ -323,6 +323,40 @@ and_no_less = refl
 then_nothing : order_due_of (record known { awaited = record held { sits_here = false; since = 50000000 }; turns = Some 20; stood = 50000000 }) ≡ Now
 unfolding order_due_of is_to_order is_able turn_left due_in
 then_nothing = refl
+
+-- it sits nowhere, and callers at its port were last kept out five seconds ago; it is waited for since forty seconds, of eighty
+abbrev kept_out : Expected
+kept_out = record known { awaited = record held { sits_here = false; since = 10000000 }; stood = 10000000; crowded = 45000000 }
+
+it_may_be_kept_out : may_be_kept_out kept_out ≡ true
+it_may_be_kept_out = refl
+
+not_where_it_is_given_up : may_be_kept_out (record kept_out { turns = Some 0 }) ≡ false
+not_where_it_is_given_up = refl
+
+its_patience_counts_from_then : order_due_of kept_out ≡ Nothing 51000000
+unfolding order_due_of is_to_order is_able turn_left due_in
+its_patience_counts_from_then = refl
+
+not_a_moment_before_that_has_passed : order_due_of (record kept_out { crowded = 30000001 }) ≡ Nothing 50000001
+unfolding order_due_of is_to_order is_able turn_left due_in
+not_a_moment_before_that_has_passed = refl
+
+then_it_is_played_for : order_due_of (record kept_out { crowded = 30000000 }) ≡ Now
+unfolding order_due_of is_to_order is_able turn_left due_in
+then_it_is_played_for = refl
+
+for_the_longest_at_most : order_due_of (record kept_out { awaited = record held { patience = 10000000; sits_here = false; since = 10000000 } }) ≡ Now
+unfolding order_due_of is_to_order is_able turn_left due_in
+for_the_longest_at_most = refl
+
+not_one_that_sits_here : order_due_of (record kept_out { awaited = record held { since = 30000000 } }) ≡ Now
+unfolding order_due_of is_to_order is_able turn_left due_in
+not_one_that_sits_here = refl
+
+nor_one_that_is_given_up : order_due_of (record kept_out { awaited = record held { sits_here = false; since = 49500000 }; turns = Some 0; stood = 49500000 }) ≡ Now
+unfolding order_due_of is_to_order is_able turn_left due_in
+nor_one_that_is_given_up = refl
 
 it_has_held_the_table : HasBeenPatient (record known { awaited = record held { since = 30000000 } })
 it_has_held_the_table = inl (omega arith)

@@ -4,6 +4,7 @@ use Rattle.std.specs.Prelude.{min, max, if◌then◌else◌, ◌&&◌, ◌==◌,
 use Rattle.std.specs.List.{list_any}
 use Rattle.std.proofs.lemmas.Bool.{cases_Bool, cases_eq, and_parts, eqb-true, eqb-false, ltb-false, le-ltb}
 use Rattle.clockwork.specs.declared.known.Ticks.{Ticks}
+use Rattle.clockwork.specs.declared.known.PeerReport.{PeerReport}
 use Rattle.clockwork.specs.declared.known.Peer.{Peer}
 use Rattle.clockwork.specs.declared.known.Known.{Known}
 use Rattle.clockwork.specs.declared.helping.Wait.{Wait}
@@ -16,6 +17,7 @@ use Rattle.clockwork.specs.Ranks.{rank_as_far}
 use Rattle.clockwork.specs.Helping.{lagging, has_passed, lagging_left, least_left, help_left, one_lags}
 use Rattle.clockwork.specs.Standings.{standing, is_campaign, is_follower}
 use Rattle.clockwork.specs.Work.{has_work, one_reopened, steps_by_number, is_untold, row_left, yield_left, back_left, work_left}
+use Rattle.clockwork.specs.Teaching.{told_by_leader, teaches, teaching_left, is_taught, taught_left}
 use Rattle.clockwork.specs.Dues.{due_in, behind_left, awaited, slow_in, due_by, due_of}
 use Rattle.clockwork.specs.Laws.{quorate, behind, LongAgo, HasWaited, behind_wait_in, IsReason, to_catch_up, for_a_peer, to_work, to_be_heard}
 use Rattle.clockwork.proofs.Lists.{one_is_none}
@@ -142,11 +144,32 @@ work_of_none known stance none = elim (cases_Bool (is_campaign stance && one_reo
 
 -- ---- all reasons
 
+stands_of_none : (time slow front : ℕ) (told : Option PeerReport) → teaching_left time slow front told ≡ 0 → teaches time slow front told ≡ false
+unfolding teaching_left teaches
+stands_of_none time slow front None none = refl
+stands_of_none time slow front (Some report) none = elim (cases_Bool (nat_lt front report.front)) [
+  | inl above ↦ elim (cases_Bool report.over) [
+    | inl over ↦ rw above (rw over refl)
+    | inr goes_on ↦
+        let at_once = rw above at none in
+        let none_now = rw goes_on at at_once in
+        let far = none_left (pace_of slow) (time - report.risen) none_now in
+        rw above (rw goes_on (le-ltb (time - report.risen) (pace_of slow) far))
+  ]
+  | inr not_above ↦ rw not_above refl
+]
+
+untaught : (known : Known) (slow : ℕ) → taught_left known slow ≡ 0 → is_taught known slow ≡ false
+unfolding taught_left is_taught
+untaught known slow none = stands_of_none known.time slow known.front (told_by_leader known slow known.promised) none
+
 behind_of_none : (known : Known) → behind known ≡ true → behind_left known (slow_in known) ≡ 0 → IsReason known
 unfolding behind_left
 behind_of_none known is none =
-    let both = max_parts (left known.time (max known.behind_since known.moved) (behind_wait_in known + steps_by_number known (slow_in known))) (again known.time known.ticks (behind_wait_in known) (most_of (slow_in known))) none in
-    to_catch_up is (has_waited known known.ticks (behind_wait_in known) (most_of (slow_in known)) both.1)
+    let slow = slow_in known in
+    let all = max_parts (max (left known.time (max known.behind_since known.moved) (behind_wait_in known + steps_by_number known slow)) (again known.time known.ticks (behind_wait_in known) (most_of slow))) (taught_left known slow) none in
+    let both = max_parts (left known.time (max known.behind_since known.moved) (behind_wait_in known + steps_by_number known slow)) (again known.time known.ticks (behind_wait_in known) (most_of slow)) all.0 in
+    to_catch_up is (untaught known slow all.1) (has_waited known known.ticks (behind_wait_in known) (most_of slow) both.1)
 
 pub cases_none : (a b : ℕ) → min a b ≡ 0 → (a ≡ 0) ⊎ (b ≡ 0)
 cases_none a b is = elim (cases_eq a 0) [ inl none ↦ inl none | inr some ↦ inr (omega (arith, some)) ]

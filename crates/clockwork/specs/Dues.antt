@@ -9,6 +9,7 @@ use Rattle.clockwork.specs.Presence.{slowest, most_of, is_quorate, is_behind, be
 use Rattle.clockwork.specs.Work.{has_work, steps_by_number, work_left}
 use Rattle.clockwork.specs.Standings.{standing}
 use Rattle.clockwork.specs.Helping.{help_left}
+use Rattle.clockwork.specs.Teaching.{taught_left}
 
 -- a tick where nothing is left, else the next look
 unfoldable pub due_in : ℕ → ℕ → Due
@@ -16,9 +17,10 @@ due_in time left = if left == 0 then Now else Nothing (time + min left LOOK)
 
 abbrev pub behind_left_by : Known → ℕ → ℕ → ℕ
 behind_left_by known slow wait =
-    max (left known.time (max known.behind_since known.moved) (wait + steps_by_number known slow)) (again known.time known.ticks wait (most_of slow))
+    max (max (left known.time (max known.behind_since known.moved) (wait + steps_by_number known slow)) (again known.time known.ticks wait (most_of slow)))
+    (taught_left known slow)
 
--- what is left for a node that is behind
+-- what is left for a node that is behind: nothing comes of it while the node whose ballot it has promised tells it what it lacks
 unfoldable pub behind_left : Known → ℕ → ℕ
 behind_left known slow = behind_left_by known slow (behind_wait known.time slow known.front known.peers.now)
 

@@ -13,6 +13,7 @@ use Rattle.clockwork.specs.Waits.{doubled, in_vain}
 use Rattle.clockwork.specs.Presence.{pace_of, most_of, silence_of, lag_of, soon_of, present, is_quorate, is_behind, behind_wait}
 use Rattle.clockwork.specs.Work.{has_work, one_reopened, is_untold}
 use Rattle.clockwork.specs.Helping.{one_lags}
+use Rattle.clockwork.specs.Teaching.{told_by_leader, is_taught}
 use Rattle.clockwork.specs.Dues.{slow_in, due_of}
 
 -- by all that is known
@@ -25,6 +26,10 @@ behind known = is_behind known.time (slow_in known) known.front known.peers.now
 -- the node learns what was chosen before: its match isn't over, and a vote of its own stands at its front, or it is behind
 abbrev pub replays : Known → Bool
 replays known = not known.over && (known.vote_waits || behind known)
+
+-- the node whose ballot it has promised is present, its match goes on, and its front is above this node's and has risen within the wait for answers
+abbrev pub taught : Known → Bool
+taught known = is_taught known (slow_in known)
 
 abbrev pub lags : Known → Bool
 lags known = one_lags known (slow_in known)
@@ -47,7 +52,7 @@ behind_wait_in known = behind_wait known.time (slow_in known) known.front known.
 -- why a node ticks, and after which doubled wait; where it has work, also because a connection opened since its last tick, unless two were in
 -- vain; where its act never went on to the node whose ballot is promised, after a shorter one
 pub data IsReason (known : Known) : Type 0 where
-  to_catch_up : behind known ≡ true → HasWaited known known.ticks (behind_wait_in known) (most_of (slow_in known)) → IsReason known
+  to_catch_up : behind known ≡ true → taught known ≡ false → HasWaited known known.ticks (behind_wait_in known) (most_of (slow_in known)) → IsReason known
   for_a_peer : behind known ≡ false → lags known ≡ true → HasWaited known known.ticks (lag_of (slow_in known)) MOST_HELP → IsReason known
   to_work : behind known ≡ false → has_work known ≡ true → (HasWaited known known.ticks (pace_of (slow_in known)) (most_of (slow_in known)) ⊎ ((one_reopened known ≡ true) × (in_vain known.ticks ≤ 1))) → IsReason known
   to_be_heard : behind known ≡ false → is_untold known ≡ true → HasWaited known known.ticks (soon_of (slow_in known)) (most_of (slow_in known)) → IsReason known
@@ -57,7 +62,7 @@ pub data IsReason (known : Known) : Type 0 where
 -- what is known of a peer lies behind
 abbrev pub IsBeatPast : ℕ → Option PeerReport → Type 0
 IsBeatPast time None = Unit {0}
-IsBeatPast time (Some beat) = (beat.below ≤ time) × (beat.told ≤ time)
+IsBeatPast time (Some beat) = (beat.below ≤ time) × ((beat.told ≤ time) × (beat.risen ≤ time))
 
 abbrev pub IsLinkPast : ℕ → Link → Type 0
 IsLinkPast time (Closed since) = since ≤ time
@@ -99,3 +104,23 @@ IsNeeded known = (behind known ≡ true) ⊎ ((has_work known ≡ true) ⊎ (lag
 -- where a quorate node needs a tick, one is due after that wait
 abbrev pub ComesInTime : Known → Type 0
 ComesInTime known = IsPast known → quorate known ≡ true → IsNeeded known → due_of (after_the_wait known) ≡ Now
+
+-- when the front last rose that the node told whose ballot is promised
+abbrev pub rise_of : Option PeerReport → ℕ
+rise_of None = 0
+rise_of (Some report) = report.risen
+
+abbrev pub risen : Known → ℕ
+risen known = rise_of (told_by_leader known (slow_in known) known.promised)
+
+abbrev pub last_tick : Option Ticks → ℕ
+last_tick None = 0
+last_tick (Some ticks) = ticks.last
+
+-- the latest of the moments since which a node that is behind waits: it became that, its front moved, its leader's rose, and it ticked
+abbrev pub waits_from : Known → ℕ
+waits_from known = max (max known.behind_since known.moved) (max (risen known) (last_tick known.ticks))
+
+-- where a quorate node is behind, and that lies as far back as no tick waits longer, one is due: a leader whose front stands holds up nobody
+abbrev pub ComesOnceFrontsStand : Known → Type 0
+ComesOnceFrontsStand known = quorate known ≡ true → behind known ≡ true → longest_wait known ≤ known.time - waits_from known → due_of known ≡ Now

@@ -1,11 +1,13 @@
 pub mod Silence
 pub mod Measuring
+pub mod LateTurns
 pub mod Waits
 pub mod Presence
 pub mod Ranks
 pub mod Helping
 pub mod Standings
 pub mod Work
+pub mod Teaching
 pub mod Dues
 pub mod Laws
 pub mod ActionTimeout

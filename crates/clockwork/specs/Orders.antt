@@ -1,5 +1,5 @@
 -- When a node orders that the seat to act be played for, so that it is fair. Times are in microseconds.
-use Rattle.std.specs.Prelude.{◌≡◌, ◌⊎◌, ℕ, zero, suc, ◌+◌, ◌-◌, ◌*◌, ◌≤◌, min, max, Bool, true, not, ◌&&◌, ◌||◌, if◌then◌else◌, nat_lt, nat_le, Option, Some, None}
+use Rattle.std.specs.Prelude.{◌≡◌, ◌⊎◌, ℕ, zero, suc, ◌+◌, ◌-◌, ◌*◌, ◌≤◌, min, max, Bool, true, false, not, ◌&&◌, ◌||◌, if◌then◌else◌, nat_lt, nat_le, Option, Some, None, is_some}
 use Rattle.clockwork.specs.declared.order.Expected.{Expected}
 use Rattle.clockwork.specs.declared.answer.Due.{Due}
 use Rattle.clockwork.specs.declared.answer.Due.TheVariants.{Now}
@@ -27,6 +27,14 @@ longest_of expected = (expected.nodes + 1) * expected.awaited.patience + more_of
 abbrev pub has_stood : Expected → Bool
 has_stood expected = nat_le (longest_of expected) (expected.awaited.time - expected.stood)
 
+-- it sits nowhere as far as is known, and isn't given up: its bot may be among the callers that are kept out
+abbrev pub may_be_kept_out : Expected → Bool
+may_be_kept_out expected = not expected.awaited.sits_here && (not expected.awaited.sits_elsewhere && not (is_some expected.turns))
+
+-- since when this turn's wait counts: of such a seat since a caller at its port was last kept out, if that is later
+abbrev pub turn_since : Expected → ℕ
+turn_since expected = if may_be_kept_out expected then max expected.awaited.since expected.crowded else expected.awaited.since
+
 -- it sits here, or as far as is known nowhere, or has held the table for the longest
 abbrev pub is_its_turn : Expected → Bool
 is_its_turn expected = expected.awaited.sits_here || (not expected.awaited.sits_elsewhere || has_stood expected)
@@ -37,7 +45,7 @@ is_to_order expected = is_able expected.awaited && (expected.is_awake && (expect
 
 unfoldable pub turn_left : Expected → ℕ
 turn_left expected =
-    max (min (left expected.awaited.time expected.awaited.since (wait_of expected)) (left expected.awaited.time expected.stood (longest_of expected)))
+    max (min (left expected.awaited.time (turn_since expected) (wait_of expected)) (left expected.awaited.time expected.stood (longest_of expected)))
     (order_left expected.awaited.time expected.awaited.ordered expected.awaited.patience)
 
 unfoldable pub order_due_of : Expected → Due
@@ -57,7 +65,7 @@ IsItsTurn expected = is_its_turn expected ≡ true
 -- the wait of this turn has passed, or the longest
 abbrev pub HasBeenPatient : Expected → Type 0
 HasBeenPatient expected =
-    (wait_of expected ≤ expected.awaited.time - expected.awaited.since) ⊎ (longest_of expected ≤ expected.awaited.time - expected.stood)
+    (wait_of expected ≤ expected.awaited.time - turn_since expected) ⊎ (longest_of expected ≤ expected.awaited.time - expected.stood)
 
 -- where a node is able to order, it does once the longest has passed, wherever the seat sits and however often it sat down
 abbrev pub IsOrderedAtTheLatest : Expected → Type 0
@@ -67,7 +75,20 @@ IsOrderedAtTheLatest expected =
 -- and once the wait of this turn has passed, where it is its turn
 abbrev pub IsOrderedInTurn : Expected → Type 0
 IsOrderedInTurn expected =
-    IsAble expected → IsItsTurn expected → wait_of expected ≤ expected.awaited.time - expected.awaited.since → IsOrderedLongAgo expected.awaited → order_due_of expected ≡ Now
+    IsAble expected → IsItsTurn expected → wait_of expected ≤ expected.awaited.time - turn_since expected → IsOrderedLongAgo expected.awaited → order_due_of expected ≡ Now
+
+-- who may be kept out is played for only once the patience has passed since callers were, or where it has held the table for the longest
+abbrev pub WaitsBehindACrowd : Expected → Type 0
+WaitsBehindACrowd expected =
+    may_be_kept_out expected ≡ true → order_due_of expected ≡ Now → (expected.awaited.patience ≤ expected.awaited.time - expected.crowded) ⊎ (has_stood expected ≡ true)
+
+-- nobody was kept out
+abbrev pub uncrowded : Expected → Expected
+uncrowded expected = record expected { crowded = 0 }
+
+-- who sits anywhere, is given up, or was waited for anew since callers were kept out is played for when it is without them
+abbrev pub IsWaitedForAsEver : Expected → Type 0
+IsWaitedForAsEver expected = (may_be_kept_out expected ≡ false) ⊎ (expected.crowded ≤ expected.awaited.since) → order_due_of expected ≡ order_due_of (uncrowded expected)
 
 -- how long so many turns of a seat that is given up wait together
 abbrev pub waits_together : ℕ → ℕ → ℕ

@@ -20,6 +20,11 @@ abbrev pub told_since : Option PeerReport → Bool → ℕ → ℕ
 told_since None campaigns now = now
 told_since (Some earlier) campaigns now = since_same (is_alike earlier.campaigns campaigns) earlier.told now
 
+-- when it last told a greater front than before; at first, now
+abbrev pub risen_since : Option PeerReport → (front now : ℕ) → ℕ
+risen_since None front now = now
+risen_since (Some earlier) front now = since_same (not (nat_lt earlier.front front)) earlier.risen now
+
 -- by a heartbeat that tells this front, whether the peer campaigns, and whether the match is over there, where this node's front is the other one
 abbrev pub report_after : Option PeerReport → ℕ → Bool → Bool → (own now : ℕ) → PeerReport
 report_after earlier front campaigns over own now = record {
@@ -28,4 +33,5 @@ report_after earlier front campaigns over own now = record {
   campaigns = campaigns;
   told = told_since earlier campaigns now;
   over = over;
+  risen = risen_since earlier front now;
 }

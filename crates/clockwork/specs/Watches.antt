@@ -7,9 +7,10 @@ use Rattle.clockwork.specs.declared.known.Known.{Known}
 use Rattle.clockwork.specs.declared.watch.Seen.{Seen}
 use Rattle.clockwork.specs.declared.watch.Watch.{Watch}
 use Rattle.clockwork.specs.Measuring.{fresh, noted, lately}
+use Rattle.clockwork.specs.LateTurns.{punctual, late_after, counted_of}
 
 abbrev pub watch_of : Seen → ℕ → Watch
-watch_of seen now = record { seen = seen; moved = now; promised_since = now; was_led = seen.campaigns; work_since = None; behind_since = None; ticks = None; calls = fresh }
+watch_of seen now = record { seen = seen; moved = now; promised_since = now; was_led = seen.campaigns; work_since = None; behind_since = None; ticks = None; calls = fresh; lateness = punctual }
 
 abbrev pub is_same : Option ℕ → Option ℕ → Bool
 is_same (Some one) (Some other) = one == other
@@ -41,7 +42,12 @@ seen_at w seen took now = record {
   behind_since = w.behind_since;
   ticks = if seen.front == w.seen.front then w.ticks else quiet w.ticks;
   calls = noted w.calls took now;
+  lateness = w.lateness;
 }
+
+-- a turn came so much later than it was to: what counts of that counts as a call
+abbrev pub passed_in : Watch → (lost now : ℕ) → Watch
+passed_in w lost now = record w { lateness = late_after w.lateness lost now; calls = noted w.calls (counted_of (late_after w.lateness lost now)) now }
 
 -- work counts while the node isn't behind
 abbrev pub stood : Watch → Bool → Bool → ℕ → Watch

@@ -9,13 +9,14 @@ use crate::helping::help_left;
 use crate::known::Known;
 use crate::limits::LOOK;
 use crate::presence::{behind_wait, is_behind_by, is_quorate_by, most_of, slowest};
+use crate::teaching::taught_left;
 use crate::waits::{again, left, spaced};
 use crate::work::{has_work, steps_by_number, work_left};
 
 /// Whether a node is to tick, by what its process knows.
 ///
 /// It ticks only where it and its present peers are more than half of all nodes, and where it has work, a peer lags, or it
-/// is behind; never within 5 milliseconds of its last tick, and after one in vain not before the doubled wait for that
+/// is behind and the node whose ballot it has promised doesn't tell it what it lacks; never within 5 milliseconds of its last tick, and after one in vain not before the doubled wait for that
 /// reason, unless it campaigns, a peer that owes an answer from before is back since then, and that tick was the first in
 /// vain. When each such wait has ended is said by `laws::a_tick_that_is_needed_comes`.
 pub fn due(known: &Known<'_>) -> Due
@@ -91,4 +92,5 @@ fn behind_left(known: &Known<'_>, slow: u64) -> u64
         wait + steps_by_number(known, slow),
     )
     .max(again(known.time, known.ticks, wait, most_of(slow)))
+    .max(taught_left(known, slow))
 }

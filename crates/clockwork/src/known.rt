@@ -38,7 +38,8 @@ pub struct Known<'a> {
     pub behind_since: u64,
     /// This process's own ticks, where it has ticked.
     pub ticks: Option<Ticks>,
-    /// The longest call of the node in the last minute (`Longest`).
+    /// The longest in the last minute (`Longest`) of the calls of the node, and of what counts of how late turns came
+    /// (`Lateness`).
     pub longest_call: u64,
 }
 
@@ -106,4 +107,6 @@ pub struct PeerReport {
     pub told: u64,
     /// The match is over there, by its last beat.
     pub over: bool,
+    /// When its front last rose over this connection; where it hasn't, when the first beat came over it.
+    pub risen: u64,
 }

@@ -1,14 +1,16 @@
 //! What holds of what is due.
 
-ghost use Rattle.clockwork.specs.Laws.{ComesInTime};
+ghost use Rattle.clockwork.specs.Laws.{ComesInTime, ComesOnceFrontsStand};
 ghost use Rattle.clockwork.specs.Measuring.{CountForAMinute};
+ghost use Rattle.clockwork.specs.LateTurns.{OneCountsForNothing, LateOnesCount};
 ghost use Rattle.clockwork.specs.SeatWatches.{Sighting, BeginsAnewOnce, BeginsAnew, ComesExactlyThen, GivesUpOnlyThen, GivesUpThen, CountsOn};
 ghost use Rattle.clockwork.specs.Openings.{OpensOnlyThen, OpensThen, OpeningLook};
 ghost use Rattle.clockwork.specs.Wakings.{WakesExactlyThen};
-ghost use Rattle.clockwork.specs.Orders.{IsOrderedAtTheLatest, IsOrderedInTurn, CostsTenSeconds};
+ghost use Rattle.clockwork.specs.Orders.{IsOrderedAtTheLatest, IsOrderedInTurn, WaitsBehindACrowd, IsWaitedForAsEver, CostsTenSeconds};
 ghost use Rattle.std.specs.Prelude.{ℕ, List};
 
 use crate::known::Known;
+use crate::lateness::LateTurn;
 use crate::longest::Measure;
 use crate::order::Expected;
 use crate::seat_watch::{Acts, At, Place, SeatLook, SeatWatch};
@@ -16,15 +18,25 @@ use crate::waking::Happening;
 
 /// Where a node is quorate, and is behind, has work or has a peer that lags, a tick is due after the wait for answers (`pace`),
 /// or two seconds where that is shorter, doubled for each tick in vain, and a step for each present peer; if nothing else
-/// comes to be known by then but that its present peers are heard. No moment that is known may lie ahead.
+/// comes to be known by then but that its present peers are heard. No moment that is known may lie ahead. And where a node is
+/// behind, one is due once that long has passed since it became so, its front moved, the front that the node told rose whose
+/// ballot it has promised, and it ticked.
 pub fn a_tick_that_is_needed_comes(known: &Known<'_>)
-    ensures { ComesInTime known.now }
+    ensures needed { ComesInTime known.now }
+    ensures stands { ComesOnceFrontsStand known.now }
 {}
 
 /// Of all that was measured, the newest first, each counts for a minute as the longest (`Longest`), if it is that, and none
 /// that was measured half a minute before does.
 pub fn what_was_measured_counts_for_a_minute(_measures: &[Measure], _now: u64)
     ensures { CountForAMinute _measures.now _now }
+{}
+
+/// By how much one turn of a process came later than all others counts for nothing; and what all turns of a stretch and a turn
+/// behind it were late by does.
+pub fn one_late_turn_counts_for_nothing(_turn: LateTurn, _earlier: &[LateTurn], _late: u64)
+    ensures nothing { OneCountsForNothing _earlier.now _late }
+    ensures counted { LateOnesCount _turn _earlier.now _late }
 {}
 
 /// Where a node is able to order that the seat to act is played for, is awake, and the match is open: it does so, wherever the
@@ -34,6 +46,14 @@ pub fn what_was_measured_counts_for_a_minute(_measures: &[Measure], _now: u64)
 pub fn an_order_comes_at_the_latest(expected: &Expected)
     ensures latest { IsOrderedAtTheLatest expected.now }
     ensures turn { IsOrderedInTurn expected.now }
+{}
+
+/// Nobody plays for a seat that sits nowhere as far as is known, and isn't given up, before the patience has passed since a caller
+/// at its port was last kept out, unless it has held the table for (nodes + 1) times the patience. For a seat that sits anywhere or
+/// is given up it is of no account who was kept out, nor is it where that was before the wait began.
+pub fn a_flood_has_nobody_played_for(expected: &Expected)
+    ensures crowded { WaitsBehindACrowd expected.now }
+    ensures others { IsWaitedForAsEver expected.now }
 {}
 
 /// While the front stands, the wait for a seat begins anew at most once by each node, whatever is seen of the seat there: where

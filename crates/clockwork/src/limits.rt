@@ -37,6 +37,9 @@ pub const SILENT: u64 = 2;
 /// What was measured counts for twice so long, and for less than three times.
 pub const PART: u64 = 30_000_000;
 
+/// How late turns came is taken by stretches of so long.
+pub const STRETCH: u64 = 1_000_000;
+
 /// The least time for which the front of a peer has been below this node's without having moved when the peer lags.
 pub const LAG: u64 = 200_000;
 

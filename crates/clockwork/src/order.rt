@@ -4,7 +4,7 @@ ghost use Rattle.std.specs.Prelude.{◌≡◌, ◌+◌, ◌*◌, ◌≤◌, ◌<
 ghost use Rattle.clockwork.specs.declared.answer.Due.TheVariants.{Now, Nothing};
 ghost use Rattle.clockwork.specs.declared.limits.TheConstants.{LATEST, LONGEST_PATIENCE, MOST_PEERS, MOST_NODES, LOOK, STEP};
 ghost use Rattle.clockwork.specs.ActionTimeout.{IsOrderedLongAgo};
-ghost use Rattle.clockwork.specs.Orders.{turn_wait, more_of, wait_of, longest_of, has_stood, is_to_order, turn_left, order_due_of, IsAble, IsItsTurn, HasBeenPatient};
+ghost use Rattle.clockwork.specs.Orders.{turn_wait, more_of, wait_of, longest_of, has_stood, may_be_kept_out, turn_since, is_to_order, turn_left, order_due_of, IsAble, IsItsTurn, HasBeenPatient};
 
 use crate::action_timeout::{Awaited, is_able, order_left};
 use crate::answer::Due;
@@ -31,6 +31,9 @@ pub struct Expected {
     pub slept: u64,
     /// How many nodes the match has, at most `MOST_NODES`.
     pub nodes: u8,
+    /// The latest moment at which a caller at the seat's port here was closed for want of a place, or some were left in its queue
+    /// behind those that a turn takes; 0 where there was none.
+    pub crowded: u64,
 }
 
 /// How long a turn waits of a seat that isn't given up, or that is, and of which so many were played for since.
@@ -78,6 +81,24 @@ fn longest_of(expected: &Expected) -> u64
     (expected.nodes as u64 + 1) * expected.awaited.patience + more_of(expected)
 }
 
+/// Whether the seat may be kept out at its port: it sits nowhere as far as is known, and isn't given up.
+fn may_be_kept_out(expected: &Expected) -> bool
+    ensures { result ≡ may_be_kept_out expected.now }
+{
+    !expected.awaited.sits_here && !expected.awaited.sits_elsewhere && !expected.turns.is_some()
+}
+
+/// Since when it is waited for at this turn: where it may be kept out at its port, since a caller there last was at the earliest.
+fn turn_since(expected: &Expected) -> u64
+    ensures { result ≡ turn_since expected.now }
+{
+    if may_be_kept_out(expected) {
+        expected.awaited.since.max(expected.crowded)
+    } else {
+        expected.awaited.since
+    }
+}
+
 /// Whether the seat has held the table for as long as one may at most.
 fn has_stood(expected: &Expected) -> bool
     requires patience { expected.now.awaited.patience ≤ LONGEST_PATIENCE }
@@ -112,7 +133,7 @@ fn turn_left(expected: &Expected) -> u64
     ensures { result ≡ turn_left expected.now }
 {
     let awaited = &expected.awaited;
-    let turn = left(awaited.time, awaited.since, wait_of(expected));
+    let turn = left(awaited.time, turn_since(expected), wait_of(expected));
     let longest = left(awaited.time, expected.stood, longest_of(expected));
     turn.min(longest).max(order_left(awaited.time, awaited.ordered, awaited.patience))
 }
@@ -120,7 +141,7 @@ fn turn_left(expected: &Expected) -> u64
 /// Whether a node is to order now that the seat to act is played for (`Due::Now`), by what its process knows.
 ///
 /// A node at which the seat sits orders it once nothing has happened for `patience`; where the seat sits at none, the present
-/// nodes do; where it has held the table for (nodes + 1) times the patience, each does. Of several each does it a step later
+/// nodes do, and no caller at its port was kept out for as long; where it has held the table for (nodes + 1) times the patience, each does. Of several each does it a step later
 /// than the one before it. A seat that is given up is waited for half a second at each of twenty turns, and then not at all.
 /// A node that replays or slept orders nothing, and none does before each seat has come, or `start` has passed.
 /// `laws::an_order_comes_at_the_latest` says that it comes.

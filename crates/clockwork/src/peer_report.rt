@@ -1,7 +1,7 @@
 //! What a peer has told of itself.
 
 ghost use Rattle.std.specs.Prelude.{◌≡◌};
-ghost use Rattle.clockwork.specs.PeerReports.{is_alike, since_same, below_since, told_since, report_after};
+ghost use Rattle.clockwork.specs.PeerReports.{is_alike, since_same, below_since, told_since, risen_since, report_after};
 
 use crate::known::PeerReport;
 
@@ -40,6 +40,16 @@ fn told_since(earlier: &Option<PeerReport>, campaigns: bool, now: u64) -> u64
     }
 }
 
+/// When a peer last told a greater front than before, or its first.
+fn risen_since(earlier: &Option<PeerReport>, front: u32, now: u64) -> u64
+    ensures { result ≡ risen_since earlier.now front now }
+{
+    match earlier {
+        Some(report) => since_same(front <= report.front, report.risen, now),
+        None => now,
+    }
+}
+
 /// What a peer has told of itself over an open connection once a heartbeat came over it at this moment, by which its front
 /// is `front`, it campaigns or doesn't, and the match is over there or isn't. This node's front is `own`, and `earlier` is
 /// what the peer had told before over that connection.
@@ -59,5 +69,6 @@ pub fn report_after(
         campaigns,
         told: told_since(&earlier, campaigns, now),
         over,
+        risen: risen_since(&earlier, front, now),
     }
 }

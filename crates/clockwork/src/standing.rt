@@ -80,7 +80,8 @@ fn standing_behind(time: u64, slow: u64, leader: u8, peers: &[Peer]) -> Standing
     }
 }
 
-fn peer_of(number: u8, peers: &[Peer]) -> Option<Peer>
+/// The peer of this number.
+pub(crate) fn peer_of(number: u8, peers: &[Peer]) -> Option<Peer>
     ensures { result ≡ find (λ peer. peer.number == number) peers.now }
 {
     peers.iter().copied().find(|peer| peer.number == number)

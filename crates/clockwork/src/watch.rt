@@ -1,7 +1,8 @@
 ghost use Rattle.std.specs.Prelude.{◌≡◌, true};
-ghost use Rattle.clockwork.specs.Watches.{watch_of, is_same, quiet, since, seen_at, stood, ticked_at, known_of};
+ghost use Rattle.clockwork.specs.Watches.{watch_of, is_same, quiet, since, seen_at, stood, ticked_at, known_of, passed_in};
 
 use crate::known::{Known, Peer, Ticks};
+use crate::lateness::Lateness;
 use crate::longest::Longest;
 
 /// What is seen of a node between two calls.
@@ -39,8 +40,10 @@ pub struct Watch {
     pub behind_since: Option<u64>,
     /// The process's own ticks.
     pub ticks: Option<Ticks>,
-    /// How long calls of the node took.
+    /// How long calls of the node took, and what counts of how late turns came.
     pub calls: Longest,
+    /// How late turns came.
+    pub lateness: Lateness,
 }
 
 fn is_same(one: Option<u8>, other: Option<u8>) -> bool
@@ -94,6 +97,7 @@ impl Watch {
             behind_since: None,
             ticks: None,
             calls: Longest::new(),
+            lateness: Lateness::new(),
         }
     }
 
@@ -111,6 +115,15 @@ impl Watch {
         self.was_led = self.was_led || seen.campaigns;
         self.seen = seen;
         self.calls.note(took, now);
+    }
+
+    /// So much time went by beyond what the process asked to wait and the calls of its node took: what counts of it counts as a
+    /// call does.
+    pub fn pass(&mut self, lost: u64, now: u64)
+        ensures { self.new ≡ passed_in self.old lost now }
+    {
+        self.lateness.note(lost, now);
+        self.calls.note(self.lateness.counted(), now);
     }
 
     /// A peer has told that it campaigns.

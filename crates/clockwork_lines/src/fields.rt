@@ -3,15 +3,15 @@ ghost use Rattle.clockwork.specs.declared.limits.TheConstants.{LATEST, LONGEST_P
 
 use clockwork::limits::{LATEST, LONGEST_PATIENCE, MOST_NODES, MOST_PEERS};
 use clockwork::{
-    Acts, At, Awaited, Expected, Happening, Known, Link, Longest, OpenLink, Opening, Peer,
-    PeerReport, Place, SeatLook, SeatWatch, Ticks, Waking,
+    Acts, At, Awaited, Expected, Happening, Known, Lateness, Link, Longest, OpenLink, Opening,
+    Peer, PeerReport, Place, SeatLook, SeatWatch, Ticks, Waking,
 };
 use std::alloc::{AllocError, Global};
 
 /// How many words of a line tell of the process itself, and of each peer.
 const OWN: usize = 17;
 
-const OF_A_PEER: usize = 13;
+const OF_A_PEER: usize = 14;
 
 /// How many words a line has that tells of a measure and of those before it.
 pub const OF_A_MEASURE: usize = 6;
@@ -180,6 +180,7 @@ pub fn expected_of(numbers: &[Option<u64>]) -> Expected
         stood: number(numbers, 14),
         slept: number(numbers, 15),
         nodes: nodes_of(numbers, 16),
+        crowded: number(numbers, 17),
     }
 }
 
@@ -215,6 +216,17 @@ pub fn longest_of(numbers: &[Option<u64>]) -> (Longest, u64) {
     let now = number(numbers, 5);
     longest.note(number(numbers, 4), now);
     (longest, now)
+}
+
+/// What is kept of how late turns came once the one of a line came.
+pub fn lateness_of(numbers: &[Option<u64>]) -> Lateness {
+    let mut lateness = Lateness {
+        begun: number(numbers, 0),
+        newest: number(numbers, 1),
+        before: number(numbers, 2),
+    };
+    lateness.note(number(numbers, 3), number(numbers, 4));
+    lateness
 }
 
 /// What a process knows, by the first words of a line and its peers.
@@ -308,6 +320,7 @@ fn beat_of(words: &[Option<u64>]) -> Option<PeerReport> {
             campaigns: flag(words, 10),
             told: number(words, 11),
             over: flag(words, 12),
+            risen: number(words, 13),
         })
     } else {
         None

@@ -3,7 +3,7 @@
 //! A line has words with one blank between: numbers, or `-` for none. The first are `time number front moved promised
 //! promised_since campaigns was_led over hand_runs act_waits vote_waits work_since behind_since last in_vain longest_call`, as the
 //! fields of `Known` and its `Ticks`; a flag is 0 or 1. Then come those of each peer: `number accepted open since heard
-//! longest unanswered told front below campaigns told over`; `open` tells whether a connection is open, `since` when it
+//! longest unanswered told front below campaigns told over risen`; `open` tells whether a connection is open, `since` when it
 //! opened or the last one ended, the first `told` whether a beat came.
 //!
 //! The answer is `tick`, or `nothing` and until when, and then four flags and two lengths of time: whether there is work,
@@ -13,8 +13,8 @@
 //! A line of six words, `begun newest middle oldest length now`, is answered by the four fields of a `Longest` by which so long
 //! was noted, and by the longest of the last minute that it then has.
 //!
-//! A line that begins with a name has what is kept of a seat, of the opening, or of a sleep, and what was seen or happened; it is
-//! answered by the name and what is kept then:
+//! A line that begins with a name has what is kept of a seat, of the opening, of a sleep, or of late turns, and what was seen or
+//! happened; it is answered by the name and what is kept then:
 //!
 //! - `seat`, 14 words of its places at seven nodes (`sits begun`), `has_come nowhere has_sat defaults given_up`, how it is seen at
 //!   each of the seven (0 gone, 1 empty, 2 sits, 3 taken), and `has_acted defaults quorate gives_up patience moved now`; the answer
@@ -24,8 +24,10 @@
 //! - `waking has_read`, seven counts of beats, `stood slept`, what happened (0 so much time passed, 1 all is read, 2 a beat of that
 //!   node came, 3 a seat is waited for since that moment) and how much, of which node or since when, and the number of nodes; the
 //!   answer has the first ten anew, and whether it is awake;
+//! - `late begun newest before lost now`, the fields of a `Lateness`, and so much that a turn came late by then; the answer has the
+//!   first three anew, and what of it counts;
 //! - `order` has what is known of the seat to act, as the fields of `Awaited`: `time patience over hand_runs quorate replays
-//!   sits_here sits_elsewhere rank since ordered`, and `awake open turns stood slept nodes`; the answer is `tick` where it is to
+//!   sits_here sits_elsewhere rank since ordered`, and `awake open turns stood slept nodes crowded`; the answer is `tick` where it is to
 //!   be ordered that the seat is played for, or `nothing` and until when.
 //!
 //! The line `limits` is answered by seven numbers that say how processes keep connections, for a simulation of them: the
@@ -41,12 +43,12 @@ ghost use Rattle.clockwork.specs.declared.limits.TheConstants.{LATEST, LONGEST_P
 use clockwork::limits::{MOST_NODES, MOST_PEERS};
 use clockwork::silence::{A_SILENCE, SILENCES};
 use clockwork::{
-    Due, Expected, Known, Longest, Opening, Peer, SeatWatch, Waking, due, has_work, is_behind,
-    is_quorate, most_silence, order_due, pace, replays,
+    Due, Expected, Known, Lateness, Longest, Opening, Peer, SeatWatch, Waking, due, has_work,
+    is_behind, is_quorate, most_silence, order_due, pace, replays,
 };
 use fields::{
-    OF_A_MEASURE, at_of, expected_of, is_whole, known_of, longest_of, look_of, nodes_of,
-    numbers_of, opening_of, peers_of, seat_of, waking_of,
+    OF_A_MEASURE, at_of, expected_of, is_whole, known_of, lateness_of, longest_of, look_of,
+    nodes_of, numbers_of, opening_of, peers_of, seat_of, waking_of,
 };
 use node_links::limits::{CONNECT, DIALS, GREET, LONG_CONNECT};
 use node_peers::limits::STRANGER;
@@ -87,6 +89,8 @@ fn print_named(
         print_opening(rt, opening_of(words))
     } else if name == "waking" {
         print_waking(rt, &waking_of(words), nodes_of(words, 12))
+    } else if name == "late" {
+        print_lateness(rt, &lateness_of(words))
     } else if name == "order" {
         print_order(rt, &expected_of(words))
     } else {
@@ -156,6 +160,15 @@ fn print_waking(rt: &impl Print, waking: &Waking, nodes: u8) -> io::Result<()> {
     print!(rt; " {} {}", waking.stood, waking.slept)?;
     print_flag(rt, waking.is_awake(nodes))?;
     rt.println("")
+}
+
+/// Prints what is kept of how late turns came, and what of it counts.
+fn print_lateness(rt: &impl Print, lateness: &Lateness) -> io::Result<()> {
+    let counted = lateness.counted();
+    println!(rt;
+        "late {} {} {} {counted}",
+        lateness.begun, lateness.newest, lateness.before
+    )
 }
 
 /// Prints whether it is to be ordered that the seat is played for of which this is known.
