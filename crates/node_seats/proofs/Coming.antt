@@ -94,6 +94,16 @@ bot_passes tokens notice old new wired_old wired wired_new takes grows passed = 
       ∙ (append_assoc wired_old grows.more (passed_by notice) ∙ ap (λ (ps : List Passage). wired_old ++ (grows.more ++ ps)) (sym (behind_of tokens notice takes))));
 }
 
+-- something came of a bot alone
+pub bot_alone_passes : (tokens : List TokenDigest) (notice : Option SeatNotice) (old new wired_old wired_new : List Passage) → TakesNobody notice → new ≡ old → Passed notice wired_old wired_new
+    → Passes (Some tokens) notice old new wired_old wired_new
+bot_alone_passes tokens notice old new wired_old wired_new takes same passed = record {
+  more = [];
+  guested = guested_by tokens notice old [] takes tt;
+  put_down = same ∙ sym (append-nil old);
+  wired = passed ∙ ap (λ (ps : List Passage). wired_old ++ ps) (sym (behind_of tokens notice takes));
+}
+
 pub heard_passes : (tokens : List TokenDigest) (old new wired_old wired_new : List Passage) → Grows old new wired_old wired_new → Passes (Some tokens) None old new wired_old wired_new
 heard_passes tokens old new wired_old wired_new grows = record { more = grows.more; guested = grows.of_guests; put_down = grows.put_down; wired = grows.wired ∙ ap (λ (ps : List Passage). wired_old ++ ps) (sym (append-nil grows.more)) }
 
@@ -111,6 +121,17 @@ given_passes tokens seat place old new wired_old wired_new shows given wired = r
 
 pub gone_passes : (tokens : List TokenDigest) (seat : ℕ) (old new wired_old wired_new : List Passage) → new ≡ old → wired_new ≡ wired_old → Passes (Some tokens) (Some (notices.Gone seat)) old new wired_old wired_new
 gone_passes tokens seat old new wired_old wired_new same stays = record { more = []; guested = tt; put_down = same ∙ sym (append-nil old); wired = stays ∙ sym (append-nil wired_old) }
+
+-- the same of where a call began
+pub passes_from : (tokens other : List TokenDigest) (notice : Option SeatNotice) (a was b x wired y : List Passage) → other ≡ tokens → was ≡ a → wired ≡ x → Passes (Some other) notice was b wired y → Passes (Some tokens) notice a b x y
+passes_from tokens other notice a was b x wired y tokens_same same wired_same passes =
+    subst (λ (ts : List TokenDigest). Passes (Some ts) notice a b x y) tokens_same
+    (subst (λ (ps : List Passage). Passes (Some other) notice ps b x y) same (subst (λ (ps : List Passage). Passes (Some other) notice was b ps y) wired_same passes))
+
+-- and of where it ended
+pub passes_to : (tokens : Option (List TokenDigest)) (notice : Option SeatNotice) (a b is x y wired : List Passage) → is ≡ b → wired ≡ y → Passes tokens notice a b x y → Passes tokens notice a is x wired
+passes_to tokens notice a b is x y wired same wired_same passes =
+    subst (λ (ps : List Passage). Passes tokens notice a ps x wired) (sym same) (subst (λ (ps : List Passage). Passes tokens notice a b x ps) (sym wired_same) passes)
 
 -- ---- what is left of seats and of the log
 

@@ -1,6 +1,6 @@
 -- Lines as they go to a bot, lines that show tokens, and who is let in, on values.
 use Rattle.std.proofs.Common.{◌≡◌, ◌<◌, ◌⊎◌, inl, inr, ℕ, true, false, List, [], ◌∷◌, ◌++◌, length, replicate, refl, ap, ◌∙◌, arith}
-use Rattle.std.specs.Prelude.{codes, Some, None}
+use Rattle.std.specs.Prelude.{codes, Option, Some, None}
 use Rattle.std.proofs.lemmas.List.{length-append}
 use Rattle.sha2.specs.Sha256.{sha256}
 use Rattle.node_wires.specs.declared.line.Line.TheVariants.{Guest, Seat}
@@ -10,11 +10,16 @@ use Rattle.node_seats.specs.declared.seat_notice.SeatNotice.TheVariants as notic
 use Rattle.node_seats.specs.Lines.{line_of}
 use Rattle.node_seats.specs.Others.{TellsNoGuest}
 use Rattle.node_seats.specs.Writing.{AreToSeats, WritesToSeats}
-use Rattle.node_seats.specs.Tokens.{is_token_digit, IsTokenLine}
+use Rattle.node_seats.specs.Tokens.{is_token_digit, IsTokenLine, is_open}
+use Rattle.node_seats.specs.declared.guest.Guest.{Guest as Stranger}
+use Rattle.node_seats.specs.declared.crowds.Crowds.{Crowds}
+use Rattle.node_seats.specs.declared.bot.Parting.TheVariants.{Wait}
+use Rattle.node_seats.specs.Keeping.{IsFit, waits_for, KeepsFit, IsNewest, IsOneASeat}
+use Rattle.node_seats.specs.Crowding.{crowded_at, CountsAway, CountsCalled}
 use Rattle.node_seats.specs.Guesting.{ShowsToken, IsToldOf, IsGuested, Passes}
 use Rattle.node_seats.specs.declared.seat.Seat.{Seat as SeatOf}
 use Rattle.node_seats.specs.Seating.{newcomer, nobody, KeepsClosed}
-use Rattle.node_seats.specs.Telling.{IsAsked, AreSaid}
+use Rattle.node_seats.specs.Telling.{IsAsked, AreSaid, parting_line, MayPart}
 use Rattle.node_seats.specs.Hurrying.{HasTime, Hurries}
 use Rattle.node_seats.specs.declared.words.Asked.{Asked}
 use Rattle.node_seats.specs.declared.words.Asked.TheVariants as asks
@@ -195,3 +200,80 @@ seat_of words = record { bot = record { sits = true; words = words; telling = No
 
 its_words_are_lost : AreSaid asked_in_two (nobody ∷ seat_of fresh ∷ []) → ⊥
 its_words_are_lost are = let asked : asks.Nothing ≡ asks.First = ap (λ (r : Reading). r.asked) (are 1).1 in absurd (cc asked)
+
+-- ---- who keeps a place
+
+-- one who said nothing yet, and one who said half a line
+nothing_said : is_open [] ≡ true
+nothing_said = refl
+
+half_a_line : is_open (codes "#TOKEN 77") ≡ true
+half_a_line = refl
+
+wrong_first_byte : is_open (codes "G") ≡ false
+wrong_first_byte = refl
+
+wrong_word : is_open (codes "#TOKEX 77") ≡ false
+wrong_word = refl
+
+whole_line : is_open (codes "#TOKEN " ++ (55 ∷ 10 ∷ [])) ≡ false
+whole_line = refl
+
+abbrev one_who_said : ℕ → List ℕ → Option Stranger
+one_who_said seat line = Some (record { seat = seat; came = 0; line = record { items = line } })
+
+waits_for_his_seat : waits_for 1 (one_who_said 1 shown) ≡ true
+waits_for_his_seat = refl
+
+waits_for_no_other : waits_for 2 (one_who_said 1 shown) ≡ false
+waits_for_no_other = refl
+
+silent_waits_for_none : waits_for 1 (one_who_said 1 []) ≡ false
+silent_waits_for_none = refl
+
+fit_by_his_token : IsFit tokens (one_who_said 1 shown)
+fit_by_his_token = inr (record { has_one = omega arith; shown = shows_sevens })
+
+-- too short a token
+unfit : IsFit tokens (one_who_said 1 (codes "#TOKEN " ++ (55 ∷ 10 ∷ []))) → ⊥
+unfit (inl is) = let e : false ≡ true = is in cc
+unfit (inr shows) = omega (arith, (token_length (sha256 sevens) (codes "#TOKEN " ++ (55 ∷ 10 ∷ [])) shows.shown).0)
+
+-- two wait for one seat
+two_wait : IsOneASeat (one_who_said 1 shown ∷ one_who_said 1 shown ∷ []) → ⊥
+two_wait one = let e : 0 ≡ 1 = one 0 1 1 (omega arith) (omega arith) refl refl in omega (arith, e)
+
+-- at another place somebody waits for it too
+not_the_newest : IsNewest 1 (one_who_said 1 shown ∷ one_who_said 1 shown ∷ []) → ⊥
+not_the_newest newest = let e : true ≡ false = newest 1 refl 0 (omega arith) (λ e. omega (arith, e)) in cc
+
+wrong_keeps : IsFit tokens (one_who_said 1 (codes "G")) → ⊥
+wrong_keeps (inl is) = let e : false ≡ true = is in cc
+wrong_keeps (inr shows) = omega (arith, (token_length (sha256 sevens) (codes "G") shows.shown).0)
+
+-- one came to a place and said something wrong
+not_kept : KeepsFit tokens (None ∷ []) (one_who_said 1 (codes "G") ∷ []) → ⊥
+not_kept keeps = elim (keeps 0) [ inl same ↦ let e : one_who_said 1 (codes "G") ≡ None = same in cc | inr came ↦ wrong_keeps came.0 ]
+
+-- ---- what a bot is told whose node has no quorum
+
+line_of_wait : parting_line Wait ≡ codes "#WAIT"
+line_of_wait = refl
+
+who_asked_is_told : MayPart Wait (record newcomer { words = read_of (codes "#RESUME FIRST" ++ (10 ∷ [])) })
+who_asked_is_told = refl
+
+who_asked_nothing_isnt : MayPart Wait (record newcomer { words = read_of (codes "VERSION:2.0.0" ++ (10 ∷ [])) }) → ⊥
+who_asked_nothing_isnt may = let e : false ≡ true = may in cc
+
+-- ---- who is turned away
+
+abbrev quiet : Crowds
+quiet = record { counts = 0 ∷ 7 ∷ []; moments = None ∷ Some 4 ∷ [] }
+
+not_counted : CountsAway true 1 9 quiet quiet → ⊥
+not_counted counts = let e : Some 4 ≡ Some 9 = counts.here (omega arith) in grind (arith, e)
+
+-- a guest of seat 0 made room, and isn't counted
+room_not_counted : CountsCalled false (Some 0) 1 9 quiet quiet → ⊥
+room_not_counted counts = let e : crowded_at quiet 0 ≡ Some 9 = counts.1.1.here (omega arith) in cc

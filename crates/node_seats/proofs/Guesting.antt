@@ -1,5 +1,5 @@
 -- What came over the lines of guests, as more passes and as guests come and go.
-use Rattle.std.proofs.Common.{◌≡◌, inl, inr, ◌⊎◌, ◌≢◌, ℕ, ◌<◌, ◌≤◌, Bool, true, false, cond, eqb, List, [], ◌∷◌, ◌++◌, append-nil, take, length, get_or, set, Option, Some, None, arith, refl, sym, ap, subst, ◌∙◌}
+use Rattle.std.proofs.Common.{◌≡◌, inl, inr, ◌⊎◌, ◌≢◌, ℕ, ◌<◌, ◌≤◌, Bool, true, false, cond, eqb, List, [], ◌∷◌, ◌++◌, length, get_or, set, Option, Some, None, arith, refl, sym, ap, subst, ◌∙◌}
 use Rattle.std.specs.Prelude.{◌||◌}
 use Rattle.std.proofs.lemmas.Bool.{eq-eqb, ne_eqb}
 use Rattle.std.proofs.lemmas.Bool.Decides.{eqb_tells}
@@ -12,7 +12,7 @@ use Rattle.node_seats.specs.declared.guest.Guest.{Guest}
 use Rattle.node_seats.specs.declared.guest.Found.{Found}
 use Rattle.node_seats.specs.declared.token_digest.TokenDigest.{TokenDigest}
 use Rattle.node_seats.specs.Tokens.{IsTokenLine}
-use Rattle.node_seats.specs.Guesting.{IsHeard, AreHeard, Hears, HeardThrough, KeepsHeard, ShowsToken, no_digest, IsFound}
+use Rattle.node_seats.specs.Guesting.{IsHeard, AreHeard, Hears, HeardThrough, ShowsToken, no_digest, IsFound}
 
 -- ---- one passage more
 
@@ -71,28 +71,6 @@ hears_piece place piece old new passed_old passed_new line same = record {
   elsewhere = λ other differ. ap (λ (ps : List Passage). came_over ps (GuestAt other)) same ∙ piece_elsewhere passed_old place other piece differ;
 }
 
-one_byte : (bytes : List ℕ) (count d : ℕ) → length bytes ≡ 1 → count ≡ 1 → get_or bytes 0 d ∷ [] ≡ take count bytes
-one_byte [] count d one is = absurd cc
-one_byte (b ∷ []) count d one is = ap (λ (n : ℕ). take n (b ∷ [])) (sym is)
-one_byte (b ∷ c ∷ more) count d one is = absurd (omega (arith, one))
-
--- the one byte of a buffer came
-pub hears_byte : (place count d : ℕ) (bytes : List ℕ) (old new : Guest) (passed_old passed_new : List Passage) → length bytes ≡ 1 → count ≡ 1 → new.line.items ≡ old.line.items ++ get_or bytes 0 d ∷ []
-    → passed_new ≡ passed_old ++ Came (GuestAt place) (take count bytes) ∷ [] → Hears place (Some old) (Some new) passed_old passed_new
-hears_byte place count d bytes old new passed_old passed_new one is line came =
-    hears_piece place (take count bytes) old new passed_old passed_new (line ∙ ap (λ (b : List ℕ). old.line.items ++ b) (one_byte bytes count d one is)) came
-
-no_byte : (bytes : List ℕ) (count : ℕ) → length bytes ≡ 1 → count ≤ length bytes → (count ≡ 1 → ⊥) → take count bytes ≡ []
-no_byte bytes count one most isnt =
-    let none : count ≡ 0 = omega (arith, one, most, isnt) in
-    ap (λ (n : ℕ). take n bytes) none
-
-pub hears_no_byte : (place count : ℕ) (bytes : List ℕ) (old : Guest) (passed_old passed_new : List Passage) → length bytes ≡ 1 → count ≤ length bytes → (count ≡ 1 → ⊥)
-    → passed_new ≡ passed_old ++ Came (GuestAt place) (take count bytes) ∷ [] → Hears place (Some old) (Some old) passed_old passed_new
-hears_no_byte place count bytes old passed_old passed_new one most isnt came =
-    hears_piece place (take count bytes) old old passed_old passed_new
-    (sym (append-nil old.line.items) ∙ ap (λ (b : List ℕ). old.line.items ++ b) (sym (no_byte bytes count one most isnt))) came
-
 -- ---- what is found
 
 pub shows_by : (tokens : List TokenDigest) (seat : ℕ) (digest : TokenDigest) (line : List ℕ) → seat < length tokens → digest ≡ get_or tokens seat no_digest → IsTokenLine digest.bytes line → ShowsToken tokens seat line
@@ -125,9 +103,9 @@ pub heard_moved : (guests : List (Option Guest)) (place : ℕ) (old new : Option
 heard_moved guests place old new passed_old passed_new within at hears are =
     heard_set guests place new passed_old passed_new within (hears.here (at_place passed_old guests place old at are)) hears.elsewhere are
 
-pub heard_kept : (guests : List (Option Guest)) (place : ℕ) (old new : Option Guest) → place < length guests → old ≡ get_or guests place None → KeepsHeard old new → (passed : List Passage) → HeardThrough passed passed guests (set guests place new)
-heard_kept guests place old new within at keeps passed are =
-    heard_set guests place new passed passed within (keeps (came_over passed (GuestAt place)) (at_place passed guests place old at are)) (λ other differ. refl) are
+-- nobody stands any more at a place
+pub heard_closed : (guests : List (Option Guest)) (place : ℕ) (passed : List Passage) → place < length guests → HeardThrough passed passed guests (set guests place None)
+heard_closed guests place passed within are = heard_set guests place None passed passed within tt (λ other differ. refl) are
 
 pub heard_begun : (guests : List (Option Guest)) (place : ℕ) (guest : Guest) (passed_old passed_new : List Passage) → place < length guests → guest.line.items ≡ [] → passed_new ≡ passed_old ++ Began (GuestAt place) ∷ []
     → HeardThrough passed_old passed_new guests (set guests place (Some guest))

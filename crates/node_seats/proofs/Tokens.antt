@@ -1,13 +1,12 @@
 -- Lines that show tokens.
-use Rattle.std.proofs.Common.{◌≡◌, inl, inr, ℕ, ◌+◌, ◌<◌, ◌≤◌, Bool, true, eqb, IsTrue, List, [], ◌∷◌, ◌++◌, length, take, drop, append_assoc, sym, ap, subst, ◌∙◌, arith}
-use Rattle.std.specs.Prelude.{codes}
-use Rattle.std.specs.List.{list_all, ends_with}
+use Rattle.std.proofs.Common.{◌≡◌, inl, inr, ℕ, ◌+◌, ◌<◌, ◌≤◌, Bool, true, false, eqb, IsTrue, List, [], ◌∷◌, ◌++◌, length, take, drop, append_assoc, refl, sym, ap, subst, ◌∙◌, arith}
+use Rattle.std.specs.Prelude.{codes, ◌||◌}
+use Rattle.std.specs.List.{list_all, list_any}
 use Rattle.std.proofs.lemmas.List.{length-append}
-use Rattle.std.proofs.lemmas.Slice.Eq.{ends_is}
-use Rattle.std.proofs.lemmas.Bool.Decides.{Decides-eqb}
+use Rattle.std.proofs.lemmas.List.Folds.{list_any-append}
 use Rattle.std.proofs.Math.Seq.{take-append_seam, drop-append_seam}
 use Rattle.sha2.specs.Sha256.{sha256}
-use Rattle.node_seats.specs.Tokens.{is_token_digit, IsLineEnd, IsForm, IsTokenLine}
+use Rattle.node_seats.specs.Tokens.{is_token_digit, IsLineEnd, IsForm, IsTokenLine, has_end}
 
 pub line_from_parts : (digest line word rest digits end : List ℕ) → line ≡ word ++ rest → rest ≡ digits ++ end → length digits ≡ 64 → IsForm word digits end → sha256 digits ≡ digest → IsTokenLine digest line
 line_from_parts digest line word rest digits end whole behind count form right = record {
@@ -58,7 +57,11 @@ last_by : (front end : List ℕ) → IsLineEnd end → (rest : List ℕ) × (fro
 last_by front end (inl lf) = (front, ap (λ (e : List ℕ). front ++ e) lf)
 last_by front end (inr both) = (front ++ 13 ∷ [], ap (λ (e : List ℕ). front ++ e) both ∙ sym (append_assoc front (13 ∷ []) (10 ∷ [])))
 
-pub ends_line : (digest line : List ℕ) (is : Bool) → is ≡ ends_with eqb line (10 ∷ []) → IsTokenLine digest line → is ≡ true
-ends_line digest line is ends token =
+or_true : (is : Bool) → is || true ≡ true
+or_true true = refl
+or_true false = refl
+
+pub ends_line : (digest line : List ℕ) → IsTokenLine digest line → has_end line ≡ true
+ends_line digest line token =
     let last : (rest : List ℕ) × ((codes "#TOKEN " ++ token.digits) ++ token.end ≡ rest ++ 10 ∷ []) = last_by (codes "#TOKEN " ++ token.digits) token.end token.ends in
-    (ends_is Decides-eqb line (10 ∷ []) is ends).1 last.0 (token.text ∙ last.1)
+    ap has_end (token.text ∙ (sym (append_assoc (codes "#TOKEN ") token.digits token.end) ∙ last.1)) ∙ (list_any-append (λ byte. eqb byte 10) last.0 (10 ∷ []) ∙ or_true (list_any (λ byte. eqb byte 10) last.0))

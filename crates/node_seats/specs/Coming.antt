@@ -6,6 +6,7 @@ use Rattle.node_seats.specs.declared.guests.Guests.{Guests}
 use Rattle.node_seats.specs.declared.seats.Seats.{Seats}
 use Rattle.node_seats.specs.declared.token_digest.TokenDigest.{TokenDigest}
 use Rattle.node_seats.specs.Guesting.{Passes}
+use Rattle.node_seats.specs.Keeping.{KeepsFit, IsOneASeat}
 use Rattle.node_seats.specs.Seating.{Follows, Changes}
 
 -- what passed over the lines of guests, in order
@@ -32,3 +33,14 @@ pub record Comes (notice : Option SeatNotice) (old new : Seats) (wired_old wired
   pub tokens : tokens_of new ≡ tokens_of old
   pub waits : Follows notice old.seats.items new.seats.items
   pub sits : Changes notice old.seats.items new.seats.items
+
+-- without tokens nobody stands anywhere
+abbrev pub AreFit : Option Guests → Option Guests → Type 0
+AreFit None new = new ≡ None
+AreFit (Some old) None = ⊥
+AreFit (Some old) (Some new) = KeepsFit old.tokens.items old.guests.items new.guests.items
+
+-- for each seat one guest waits at most
+abbrev pub AreOneASeat : Option Guests → Type 0
+AreOneASeat None = Unit {0}
+AreOneASeat (Some guests) = IsOneASeat guests.guests.items

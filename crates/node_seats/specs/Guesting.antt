@@ -39,10 +39,6 @@ pub record Hears (place : ℕ) (old new : Option Guest) (passed_old passed_new :
 abbrev pub HeardThrough : List Passage → List Passage → List (Option Guest) → List (Option Guest) → Type 0
 HeardThrough passed_old passed_new old new = AreHeard passed_old old → AreHeard passed_new new
 
--- of whatever came of one
-abbrev pub KeepsHeard : Option Guest → Option Guest → Type 0
-KeepsHeard old new = (came : List ℕ) → IsHeard came old → IsHeard came new
-
 -- ---- tokens
 
 abbrev pub no_digest : TokenDigest

@@ -6,6 +6,8 @@ pub mod Pieces
 pub mod Others
 pub mod Writing
 pub mod Guesting
+pub mod Keeping
+pub mod Crowding
 pub mod Seating
 pub mod Hurrying
 pub mod Telling

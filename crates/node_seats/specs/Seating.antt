@@ -49,6 +49,17 @@ names_line asks.Newest = false
 names_line asks.Line = true
 names_line asks.Other = true
 
+-- it said once, by `#RESUME`, from where on it is to be told
+abbrev pub asks_once : Asked → Bool
+asks_once asks.Nothing = false
+asks_once asks.First = true
+asks_once asks.Newest = true
+asks_once asks.Line = true
+asks_once asks.Other = false
+
+abbrev pub resumes : Bot → Bool
+resumes bot = asks_once bot.words.asked
+
 abbrev pub is_here : Bot → Bool
 is_here bot = bot.sits && not (names_line bot.words.asked && is_none bot.telling)
 

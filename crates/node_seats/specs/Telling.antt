@@ -9,13 +9,13 @@ use Rattle.node_wires.specs.Passages.{Passage, Began, Came, Wrote, Gave, Logged,
 use Rattle.node_seats.specs.declared.limits.TheConstants.{BACKLOG}
 use Rattle.node_seats.specs.declared.bot.Bot.{Bot}
 use Rattle.node_seats.specs.declared.bot.Parting.{Parting}
-use Rattle.node_seats.specs.declared.bot.Parting.TheVariants.{Over, Other}
+use Rattle.node_seats.specs.declared.bot.Parting.TheVariants.{Over, Other, Wait}
 use Rattle.node_seats.specs.declared.bot.Telling.{Telling}
 use Rattle.node_seats.specs.declared.seat.Seat.{Seat}
 use Rattle.node_seats.specs.declared.seat_notice.SeatNotice.{SeatNotice}
 use Rattle.node_seats.specs.Lines.{line_of}
 use Rattle.node_seats.specs.Words.{Reading, read_of}
-use Rattle.node_seats.specs.Seating.{waits_at, sits_at, bot_at, IsOf}
+use Rattle.node_seats.specs.Seating.{waits_at, sits_at, bot_at, resumes, IsOf}
 
 -- ---- the lines that a bot was told
 
@@ -43,6 +43,7 @@ text_told (Some telling) = text_of (lines_of telling)
 abbrev pub parting_line : Parting → List ℕ
 parting_line Over = codes "#OVER"
 parting_line Other = codes "#OTHER"
+parting_line Wait = codes "#WAIT"
 
 abbrev pub parting_text : Option Parting → List ℕ
 parting_text None = []
@@ -122,10 +123,11 @@ pub record TellsBot (table : Match) (seat : ℕ) (old new : Bot) : Type 0 where
 abbrev pub Begins : Cursor → (old new : Bot) → Type 0
 Begins at old new = (new ≡ old) ⊎ ((old.words.is_over ≡ true) × ((old.telling ≡ None) × ((old.parting ≡ None) × (new ≡ record old { telling = Some (telling_from at) }))))
 
--- a bot is told this behind its lines, or all is as it was; that its line is none it is told only where it has named the version and no line was told
+-- a bot is told this behind its lines, or all is as it was; that its line is none it is told only where it has named the version and no line was told, and that it is to wait only where it asked from where on
 abbrev pub MayPart : Parting → Bot → Type 0
 MayPart Over bot = Unit {0}
 MayPart Other bot = (bot.telling ≡ None) × (bot.words.is_over ≡ true)
+MayPart Wait bot = resumes bot ≡ true
 
 abbrev pub Parts : Parting → (old new : Bot) → Type 0
 Parts parting old new = (new ≡ old) ⊎ ((old.parting ≡ None) × (MayPart parting old × (new ≡ record old { parting = Some parting })))

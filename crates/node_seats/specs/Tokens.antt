@@ -1,7 +1,8 @@
 -- What a bot says first by which it shows the token of its seat.
-use Rattle.std.specs.Prelude.{◌≡◌, ◌⊎◌, ℕ, nat_le, ◌&&◌, ◌||◌, Bool, IsTrue, List, [], ◌∷◌, ◌++◌, length, codes}
-use Rattle.std.specs.List.{list_all}
+use Rattle.std.specs.Prelude.{◌≡◌, ◌⊎◌, ℕ, nat_lt, nat_le, ◌==◌, ◌&&◌, ◌||◌, not, if◌then◌else◌, Bool, IsTrue, List, [], ◌∷◌, ◌++◌, length, take, codes, bytes_eq}
+use Rattle.std.specs.List.{list_all, list_any}
 use Rattle.sha2.specs.Sha256.{sha256}
+use Rattle.node_seats.specs.declared.limits.TheConstants.{TOKEN_LINE}
 
 -- a hexadecimal digit, small where it is a letter
 abbrev pub is_token_digit : ℕ → Bool
@@ -24,3 +25,21 @@ pub record IsTokenLine (digest line : List ℕ) : Type 0 where
   pub end : List ℕ
   pub ends : IsLineEnd end
   pub text : line ≡ codes "#TOKEN " ++ (digits ++ end)
+
+-- ---- a line of which more may come
+
+-- as far as it came, it begins as a line that shows a token
+abbrev pub begins_well : List ℕ → Bool
+begins_well line = if nat_lt (length line) 7 then bytes_eq line (take (length line) (codes "#TOKEN ")) else bytes_eq (take 7 line) (codes "#TOKEN ")
+
+-- a line feed came
+abbrev pub has_end : List ℕ → Bool
+has_end line = list_any (λ byte. byte == 10) line
+
+-- it came to its end, or is too long
+abbrev pub is_whole : List ℕ → Bool
+is_whole line = nat_le TOKEN_LINE (length line) || has_end line
+
+-- nothing is wrong so far, and more of it may come
+abbrev pub is_open : List ℕ → Bool
+is_open line = begins_well line && not (is_whole line)

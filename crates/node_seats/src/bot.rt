@@ -5,7 +5,7 @@ ghost use Rattle.line_cursor.specs.Past.{seat_line_at};
 ghost use Rattle.node_seats.specs.Lines.{line_of};
 ghost use Rattle.node_seats.specs.declared.limits.TheConstants.{BACKLOG as MOST};
 ghost use Rattle.node_seats.specs.Telling.{telling_from, one_more, Told as IsTold, TellsOn, HasAll};
-ghost use Rattle.node_seats.specs.Seating.{newcomer, no_bot, names_line, is_here};
+ghost use Rattle.node_seats.specs.Seating.{newcomer, no_bot, names_line, is_here, asks_once, resumes};
 
 use crate::limits::BACKLOG;
 use crate::words::{Asked, Words};
@@ -22,6 +22,8 @@ pub enum Parting {
     Over,
     /// The line that the bot named is none of its seat, or won't come.
     Other,
+    /// Its node can't tell it lines now, since it has no quorum: the bot dials again, this node too.
+    Wait,
 }
 
 /// The lines that a bot is told.
@@ -65,6 +67,16 @@ fn names_line(asked: Asked) -> bool
     match asked {
         Asked::Nothing | Asked::First | Asked::Newest => false,
         Asked::Line | Asked::Other => true,
+    }
+}
+
+/// Whether a bot that asks so said once from where on it is to be told.
+fn asks_once(asked: Asked) -> bool
+    ensures { result ≡ asks_once asked }
+{
+    match asked {
+        Asked::Nothing | Asked::Other => false,
+        Asked::First | Asked::Newest | Asked::Line => true,
     }
 }
 
@@ -114,6 +126,13 @@ impl Bot {
         ensures { result ≡ is_here self.now }
     {
         self.sits && !(names_line(self.words.asked()) && self.telling.is_none())
+    }
+
+    /// Whether he said once from where on he is to be told.
+    pub(crate) fn has_resumed(&self) -> bool
+        ensures { result ≡ resumes self.now }
+    {
+        asks_once(self.words.asked())
     }
 
     /// One who was taken in.

@@ -1,15 +1,19 @@
 //! One who came to a seat's port where tokens are wanted.
 
-ghost use Rattle.std.specs.Prelude.{◌≡◌, ◌+◌, ◌<◌, ◌≤◌, ◌↔◌, ℕ, List, IsTrue, true, false, [], None, Some};
+ghost use Rattle.std.specs.Prelude.{◌≡◌, ◌+◌, ◌<◌, ◌≤◌, ◌↔◌, ℕ, List, ◌++◌, length, IsTrue, true, false, [], None, Some};
 ghost use Rattle.arrayvec.specs.ArrayVec.{array_vec_len};
-ghost use Rattle.node_seats.specs.Tokens.{IsTokenLine};
+ghost use Rattle.node_seats.specs.Tokens.{IsTokenLine, begins_well, is_whole, is_open};
 ghost use Rattle.node_seats.specs.Passing.{Grows};
-ghost use Rattle.node_seats.specs.Guesting.{IsHeard, Hears, KeepsHeard, ShowsToken, IsFound};
+ghost use Rattle.node_seats.specs.Guesting.{IsHeard, Hears, ShowsToken, IsFound};
+ghost use Rattle.node_seats.specs.Keeping.{IsLeftBy};
 
-use crate::limits::{REFUSED_TIME, TOKEN_LINE, TOKEN_TIME};
-use crate::token_digest::{TokenDigest, shows_token};
+use crate::limits::{TOKEN_LINE, TOKEN_TIME};
+use crate::token_digest::{TokenDigest, begins_well, has_end, shows_token};
 use arrayvec::ArrayVec;
 use node_wires::{Halt, Line, Passages, Wire};
+
+/// The bytes of the shortest line that shows a token: LF ends it.
+const SHORTEST: usize = TOKEN_LINE - 1;
 
 /// One who came to a seat's port and hasn't shown its token yet.
 #[derive(Drop)]
@@ -18,8 +22,6 @@ pub(crate) struct Guest {
     seat: u8,
     /// When he came.
     came: u64,
-    /// When he was refused, if he was: nothing more is read of him.
-    refused: Option<u64>,
     /// What came of his line.
     line: ArrayVec<u8, TOKEN_LINE>,
 }
@@ -27,9 +29,9 @@ pub(crate) struct Guest {
 /// What is found of a guest.
 #[derive(Clone, Copy, Debug, PartialEq, Eq)]
 pub(crate) enum Found {
-    /// Nothing that is to be told.
+    /// He said nothing wrong so far, or nobody is there.
     Nothing,
-    /// He is refused from now on.
+    /// He is to be let go of: what he said shows no token, or he said too little in his time, or ended.
     Refused { seat: u8 },
     /// He showed the token of the seat to whose port he came.
     Shown { seat: u8 },
@@ -43,14 +45,6 @@ fn is_late(came: u64, now: u64) -> bool
     now.saturating_sub(came) >= TOKEN_TIME
 }
 
-/// Whether the connection of one who was refused then is to be closed.
-fn is_over(refused: u64, now: u64) -> bool
-    ensures over { refused + REFUSED_TIME ≤ now → result ≡ true }
-    ensures not_yet { now < refused + REFUSED_TIME → result ≡ false }
-{
-    now.saturating_sub(refused) >= REFUSED_TIME
-}
-
 impl Guest {
     /// One who came to the port of this seat at this moment.
     pub(crate) fn new(seat: u8, now: u64) -> Guest
@@ -59,7 +53,6 @@ impl Guest {
         Guest {
             seat,
             came: now,
-            refused: None,
             line: ArrayVec::new(),
         }
     }
@@ -67,10 +60,11 @@ impl Guest {
     /// Whether his line came to its end, or is too long.
     #[tactic(auto, using(crate::proofs::Tokens::ends_line))]
     fn is_whole(&self) -> bool
+        ensures whole { result ≡ is_whole self.now.line.items }
         ensures room { result ≡ false → array_vec_len self.now.line < TOKEN_LINE }
         ensures shown { (digest : List ℕ) → IsTokenLine digest self.now.line.items → result ≡ true }
     {
-        self.line.is_full() || self.line.as_slice().ends_with(b"\n")
+        self.line.is_full() || has_end(self.line.as_slice())
     }
 
     /// Whether what came of his line shows the token of his seat.
@@ -84,27 +78,72 @@ impl Guest {
         }
     }
 
-    /// Whether his connection is to be closed.
-    fn is_over(&self, now: u64) -> bool {
-        match self.refused {
-            Some(refused) => is_over(refused, now),
-            None => false,
-        }
+    /// These bytes more came of his line.
+    fn add(&mut self, bytes: &[u8])
+        requires { array_vec_len self.old.line + length bytes.now ≤ TOKEN_LINE }
+        ensures line { self.new.line.items ≡ self.old.line.items ++ bytes.now }
+        ensures seat { self.new.seat ≡ self.old.seat }
+    {
+        self.line.try_extend_from_slice(bytes).unwrap();
     }
 
-    /// He is refused.
-    fn refuse(&mut self, now: u64) -> Found
-        ensures line { self.new.line ≡ self.old.line }
-        ensures found { (tokens : List TokenDigest) → (ShowsToken tokens self.old.seat self.old.line.items → ⊥) → IsFound tokens self.old.line.items result }
+    /// Whether what came of his line begins as a line does that shows a token.
+    fn begins_well(&self) -> bool
+        ensures { result ≡ begins_well self.now.line.items }
     {
-        self.refused = Some(now);
-        Found::Refused { seat: self.seat }
+        begins_well(self.line.as_slice())
+    }
+
+    /// Whether he said nothing wrong so far, and his line isn't whole yet.
+    pub(crate) fn is_open(&self) -> bool
+        ensures { result ≡ is_open self.now.line.items }
+    {
+        self.begins_well() && !self.is_whole()
+    }
+
+    /// The seat to whose port he came.
+    pub(crate) fn seat(&self) -> u8
+        ensures { result ≡ self.now.seat }
+    {
+        self.seat
     }
 }
 
-/// Reads the next byte of a guest's line.
-#[tactic(auto, using(crate::proofs::Passing::nothing_grown, crate::proofs::Passing::one_grown, crate::proofs::Guesting::hears_alike, crate::proofs::Guesting::hears_byte, crate::proofs::Guesting::hears_no_byte))]
-fn read_byte<W: Wire>(
+/// How many bytes behind so many of a line may be read at once, so that nothing behind a right line is: what the shortest one
+/// lacks, and behind that one.
+fn lacking(count: usize) -> usize
+    requires { count < TOKEN_LINE }
+    ensures { count + result ≤ TOKEN_LINE }
+{
+    if count < SHORTEST {
+        SHORTEST - count
+    } else {
+        1
+    }
+}
+
+/// Reads the next piece of a guest's line, no more than the buffer holds.
+#[tactic(auto, using(crate::proofs::Passing::nothing_grown, crate::proofs::Passing::one_grown, crate::proofs::Guesting::hears_alike, crate::proofs::Guesting::hears_piece))]
+fn read_into<W: Wire>(
+    guest: &mut Guest,
+    passed: &mut Passages,
+    wire: &mut W,
+    place: u8,
+    buffer: &mut [u8],
+) -> Result<(), Halt>
+    requires { array_vec_len guest.old.line + length buffer.old ≤ TOKEN_LINE }
+    ensures grows { Grows passed.old.items passed.new.items (W.passed wire.old) (W.passed wire.new) }
+    ensures hears { Hears place (Some guest.old) (Some guest.new) passed.old.items passed.new.items }
+    ensures seat { guest.new.seat ≡ guest.old.seat }
+{
+    let count = wire.read(Line::Guest(place), buffer)?;
+    passed.came(Line::Guest(place), &buffer[..count]);
+    guest.add(&buffer[..count]);
+    Ok(())
+}
+
+/// Reads the next piece of a guest's line, so that nothing behind its end is taken.
+fn read_piece<W: Wire>(
     guest: &mut Guest,
     passed: &mut Passages,
     wire: &mut W,
@@ -113,27 +152,25 @@ fn read_byte<W: Wire>(
     requires { array_vec_len guest.old.line < TOKEN_LINE }
     ensures grows { Grows passed.old.items passed.new.items (W.passed wire.old) (W.passed wire.new) }
     ensures hears { Hears place (Some guest.old) (Some guest.new) passed.old.items passed.new.items }
+    ensures seat { guest.new.seat ≡ guest.old.seat }
 {
-    let mut byte = [0; 1];
-    let count = wire.read(Line::Guest(place), &mut byte)?;
-    passed.came(Line::Guest(place), &byte[..count]);
-    if count == 1 {
-        guest.line.push(byte[0]);
-    }
-    Ok(())
+    let mut buffer = [0; TOKEN_LINE];
+    let most = lacking(guest.line.len());
+    read_into(guest, passed, wire, place, &mut buffer[..most])
 }
 
-/// Reads what came of a guest's line, byte by byte, so that nothing behind its end is taken. False where nothing more comes.
+/// Reads what came of a guest's line, so that nothing behind its end is taken where it is right. False where nothing more comes.
 #[tactic(auto, using(crate::proofs::Passing::nothing_grown, crate::proofs::Passing::grown_on, crate::proofs::Guesting::hears_alike, crate::proofs::Guesting::hears_on))]
 fn read_line<W: Wire>(guest: &mut Guest, passed: &mut Passages, wire: &mut W, place: u8) -> bool
     ensures grows { Grows passed.old.items passed.new.items (W.passed wire.old) (W.passed wire.new) }
     ensures hears { Hears place (Some guest.old) (Some guest.new) passed.old.items passed.new.items }
+    ensures seat { guest.new.seat ≡ guest.old.seat }
 {
     for _ in 0..TOKEN_LINE {
-        if guest.is_whole() {
+        if guest.is_whole() || !guest.begins_well() {
             return true;
         }
-        match read_byte(guest, passed, wire, place) {
+        match read_piece(guest, passed, wire, place) {
             Ok(()) => {}
             Err(Halt::Later) => return true,
             Err(Halt::Ended) => return false,
@@ -142,8 +179,8 @@ fn read_line<W: Wire>(guest: &mut Guest, passed: &mut Passages, wire: &mut W, pl
     true
 }
 
-/// Hears a guest at this moment, where he isn't refused yet.
-#[tactic(auto, using(crate::proofs::Passing::nothing_grown, crate::proofs::Guesting::hears_alike, crate::proofs::Guesting::hears_on))]
+/// Hears a guest at this moment.
+#[tactic(auto, using(crate::proofs::Passing::nothing_grown, crate::proofs::Guesting::hears_alike, crate::proofs::Guesting::hears_on, crate::proofs::Keeping::shown_by, crate::proofs::Keeping::open_by))]
 fn hear<W: Wire>(
     guest: &mut Guest,
     tokens: &[TokenDigest],
@@ -155,25 +192,22 @@ fn hear<W: Wire>(
     ensures grows { Grows passed.old.items passed.new.items (W.passed wire.old) (W.passed wire.new) }
     ensures hears { Hears place (Some guest.old) (Some guest.new) passed.old.items passed.new.items }
     ensures found { IsFound tokens.now guest.new.line.items result }
+    ensures left { IsLeftBy tokens.now result (Some guest.new) }
 {
-    if guest.refused.is_some() {
-        return Found::Nothing;
-    }
     let goes_on = read_line(guest, passed, wire, place);
     if guest.is_whole() {
         if guest.shows(tokens) {
             return Found::Shown { seat: guest.seat };
         }
-        return guest.refuse(now);
+        return Found::Refused { seat: guest.seat };
     }
-    if goes_on && !is_late(guest.came, now) {
+    if goes_on && guest.begins_well() && !is_late(guest.came, now) {
         return Found::Nothing;
     }
-    guest.refuse(now)
+    Found::Refused { seat: guest.seat }
 }
 
-/// Hears who stands at a place at this moment, if anybody does, or closes his connection where he was refused for long
-/// enough.
+/// Hears who stands at a place at this moment, if anybody does.
 #[tactic(auto, using(crate::proofs::Passing::nothing_grown, crate::proofs::Guesting::hears_nobody, crate::proofs::Guesting::found_of))]
 pub(crate) fn hear_at<W: Wire>(
     guest: &mut Option<Guest>,
@@ -186,23 +220,10 @@ pub(crate) fn hear_at<W: Wire>(
     ensures grows { Grows passed.old.items passed.new.items (W.passed wire.old) (W.passed wire.new) }
     ensures hears { Hears place guest.old guest.new passed.old.items passed.new.items }
     ensures found { (came : List ℕ) → IsHeard came guest.new → IsFound tokens.now came result }
+    ensures left { IsLeftBy tokens.now result guest.new }
 {
     let Some(standing) = guest else {
         return Found::Nothing;
     };
-    if standing.is_over(now) {
-        wire.close(Line::Guest(place));
-        *guest = None;
-        return Found::Nothing;
-    }
     hear(standing, tokens, passed, wire, place, now)
-}
-
-/// Refuses who stands at a place, if anybody does.
-pub(crate) fn refuse_at(guest: &mut Option<Guest>, now: u64)
-    ensures { KeepsHeard guest.old guest.new }
-{
-    if let Some(guest) = guest {
-        guest.refused = Some(now);
-    }
 }

@@ -9,10 +9,16 @@
 //!
 //! Where seats have tokens, who comes to a seat's port is a guest first: his first line is to be `#TOKEN ` and the 64
 //! hexadecimal digits whose SHA-256 is the seat's `TokenDigest`. Then he is the seat's bot, in place of the one that sits
-//! there; else he is refused. Of a guest nothing is told but that, and nothing behind his line is read before he sits.
+//! there; else he is refused, and his connection closed. Of a guest nothing is told but that, and nothing behind his line is
+//! read before he sits.
+//!
+//! `Seats::next_caller` takes the next one off the queue of such a seat and reads once what he said, so that a crowd of callers
+//! keeps no right bot out: who showed the token sits there, or waits for it, one a seat and the newest; who said nothing wrong
+//! so far keeps a place among guests where one is for him, and is turned away where none is (`turned_away`, `crowded`).
 #![tactic(auto)]
 
 mod bot;
+mod crowds;
 mod guest;
 mod guests;
 pub mod limits;
@@ -24,6 +30,6 @@ mod words;
 
 pub use bot::Parting;
 pub use seat_notice::SeatNotice;
-pub use seats::Seats;
+pub use seats::{Called, Seats};
 pub use token_digest::TokenDigest;
 pub use words::Asked;

@@ -18,5 +18,5 @@ pub const TOKEN_TIME: u64 = 2_000_000;
 /// A bot that hasn't named the protocol's version within this time since it was taken in is let go of.
 pub const VERSION_TIME: u64 = 10_000_000;
 
-/// The connection of a guest is closed so long after he was refused.
-pub const REFUSED_TIME: u64 = 200_000;
+/// So long at most what a bot says is read on, where its node has no quorum and is to tell it so.
+pub const RESUME_TIME: u64 = 2_000_000;

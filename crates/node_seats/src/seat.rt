@@ -7,6 +7,7 @@ ghost use Rattle.node_wires.specs.Passages.{came_over};
 ghost use Rattle.node_seats.specs.Passing.{Passed, TakesNobody, seat_of, Leaves};
 ghost use Rattle.node_seats.specs.Pieces.{IsPieceOf};
 ghost use Rattle.node_seats.specs.Guesting.{ShowsToken, IsToldOf, Passes};
+ghost use Rattle.node_seats.specs.Keeping.{LeavesOnly};
 ghost use Rattle.node_seats.specs.Seating.{Sits, no_bot, newcomer, gone};
 ghost use Rattle.node_seats.specs.Telling.{parting_line, MayPart, Begins, Parts, SaysMore, TellsBot, IsToldAll};
 ghost use Rattle.node_seats.specs.Hurrying.{HasTime, Lasts, Hurries};
@@ -52,10 +53,12 @@ fn line_of(parting: Parting) -> &'static [u8]
     match parting {
         Parting::Over => b"#OVER",
         Parting::Other => b"#OTHER",
+        Parting::Wait => b"#WAIT",
     }
 }
 
-/// Whether a bot may be told this: that its line is none only where it has named the version and was told no line.
+/// Whether a bot may be told this: that its line is none only where it has named the version and was told no line, and that it is
+/// to wait only where it asked from where on it is to be told.
 fn may_part(parting: Parting, bot: &Bot) -> bool
     ensures may { result ≡ true → MayPart parting bot.now }
     ensures may_not { result ≡ false → MayPart parting bot.now → ⊥ }
@@ -63,6 +66,7 @@ fn may_part(parting: Parting, bot: &Bot) -> bool
     match parting {
         Parting::Over => true,
         Parting::Other => bot.telling.is_none() && bot.words.is_over(),
+        Parting::Wait => bot.has_resumed(),
     }
 }
 
@@ -116,7 +120,7 @@ impl Seat {
     }
 
     /// Tells the bot that sits there this behind its lines, where it wasn't told so yet; that its line is none only where it was
-    /// told no line. False without memory: then it isn't told.
+    /// told no line, and that it is to wait only where it asked from where on it is to be told. False without memory: then it isn't told.
     #[tactic(auto, using(crate::proofs::Telling::says_nothing, crate::proofs::Telling::says_parted))]
     pub(crate) fn part(&mut self, parting: Parting) -> bool
         requires { self.old.bot.sits ≡ true }
@@ -133,6 +137,13 @@ impl Seat {
         }
         self.bot.parting = Some(parting);
         true
+    }
+
+    /// When its bot was taken in, until its time for the version is seen to be over.
+    pub(crate) fn since(&self) -> Option<u64>
+        ensures { result ≡ self.now.since }
+    {
+        self.since
     }
 
     /// How many bytes wait.
@@ -297,7 +308,7 @@ impl Seat {
 
     /// Has the guest at a place sit there, who showed this seat's token. Who sits there is let go of before: then the guest is
     /// next. Where the wire fails he is let go of, and nothing is told.
-    #[tactic(auto, using(crate::proofs::Coming::gone_passes, crate::proofs::Coming::given_passes, crate::proofs::Coming::nothing_passes))]
+    #[tactic(auto, using(crate::proofs::Coming::gone_passes, crate::proofs::Coming::given_passes, crate::proofs::Coming::nothing_passes, crate::proofs::Keeping::stays_same))]
     pub(crate) fn welcome<W: Wire>(
         &mut self,
         guests: &mut Guests,
@@ -310,6 +321,7 @@ impl Seat {
         ensures passes { Passes (Some guests.old.tokens.items) result guests.old.passed.items guests.new.passed.items (W.passed wire.old) (W.passed wire.new) }
         ensures told { IsToldOf guests.old.tokens.items (came_over guests.new.passed.items (GuestAt place)) result }
         ensures tokens { guests.new.tokens ≡ guests.old.tokens }
+        ensures left { LeavesOnly guests.old.guests.items guests.new.guests.items }
         ensures seat { IfSome result (λ notice. seat_of notice ≡ number) }
         ensures waiting { Leaves result self.old.waiting.waiting self.new.waiting.waiting }
         ensures sits { Sits result self.old.bot self.new.bot }
@@ -318,7 +330,7 @@ impl Seat {
         if self.bot.sits {
             return Some(self.leave(wire, number));
         }
-        if !guests.give(wire, place, number, now) {
+        if !guests.give(wire, place, number) {
             return None;
         }
         self.sit_down(now);

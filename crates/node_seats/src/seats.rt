@@ -3,15 +3,18 @@ ghost use Rattle.std.specs.Int.{bit_at};
 ghost use Rattle.node_wires.specs.declared.line.Line.TheVariants.{Guest as GuestAt};
 ghost use Rattle.node_wires.specs.Passages.{Passage, came_over, seats_in, logged_in};
 ghost use Rattle.node_seats.specs.Passing.{Passed, HearsNothing, passed_by, seat_of};
-ghost use Rattle.node_seats.specs.Guesting.{IsToldOf, Passes};
+ghost use Rattle.node_seats.specs.Guesting.{IsToldOf, Passes, ShowsToken};
 ghost use Rattle.node_seats.specs.Others.{KeepsOthers, TellsNoGuest};
 ghost use Rattle.node_seats.specs.Writing.{WritesToSeats};
 ghost use Rattle.node_seats.specs.Seating.{Follows, Changes, KeepsClosed, bit_of, waits_at, bot_at, sits_at, is_silent, no_bot, KeepsOtherBots};
 ghost use Rattle.node_seats.specs.Hurrying.{LastsAt};
+ghost use Rattle.node_seats.specs.Pieces.{IsPieceOf};
 ghost use Rattle.node_seats.specs.Telling.{AreSaid, Loses};
 ghost use Rattle.node_seats.specs.Coming.{passed_in, tokens_in};
+ghost use Rattle.node_seats.specs.Keeping.{KeepsBut, LeavesOnly, KeepsFit, IsFit, IsNewest, stands_at};
 
 use crate::bot::Parting;
+use crate::crowds::Crowds;
 use crate::guest::Found;
 use crate::guests::Guests;
 use crate::limits::PIECE;
@@ -32,12 +35,42 @@ pub struct Seats {
     count: u8,
     /// Of each seat, by its number.
     seats: Vec<Seat>,
-    /// Where seats have tokens, who came to their ports and hasn't shown one yet.
+    /// Where seats have tokens, who came to their ports and doesn't sit yet.
     guests: Option<Guests>,
+    /// Who was turned away there.
+    crowds: Crowds,
     /// Where a piece stands while it is read.
     buffer: [u8; PIECE],
     /// Where a line of a seat stands while it is told.
     line: SeatLine,
+}
+
+/// What came of the next one who came to the port of a seat with a token.
+#[derive(Drop)]
+pub struct Called {
+    /// Somebody was there. Else nothing changed.
+    pub was_there: bool,
+    /// He was closed, since no place was for him.
+    pub turned_away: bool,
+    /// The seat of a guest who was closed since he had to make room for him, if one had to.
+    pub made_room: Option<u8>,
+    /// What is to be told of him, if anything.
+    pub notice: Option<SeatNotice>,
+}
+
+/// Nobody was there.
+fn nobody_called() -> Called
+    ensures there { result.was_there ≡ false }
+    ensures away { result.turned_away ≡ false }
+    ensures room { result.made_room ≡ None }
+    ensures notice { result.notice ≡ None }
+{
+    Called {
+        was_there: false,
+        turned_away: false,
+        made_room: None,
+        notice: None,
+    }
 }
 
 /// So many seats, where nobody sits.
@@ -85,8 +118,37 @@ fn no_guests(alloc: Global, tokens: Option<Vec<TokenDigest>>) -> Result<Option<G
     }
 }
 
+/// Has the guest at a place, who showed the token of a seat, sit there, where somebody sits there or it isn't closed.
+fn welcome<W: Wire>(
+    guests: &mut Guests,
+    seats: &mut Vec<Seat>,
+    wire: &mut W,
+    guest: (u8, u8),
+    closed: u16,
+    now: u64,
+) -> Option<SeatNotice>
+    requires { ShowsToken guests.old.tokens.items guest.1 (came_over guests.old.passed.items (GuestAt guest.0)) }
+    ensures closed { KeepsClosed closed result }
+    ensures passes { Passes (Some guests.old.tokens.items) result guests.old.passed.items guests.new.passed.items (W.passed wire.old) (W.passed wire.new) }
+    ensures told { IsToldOf guests.old.tokens.items (came_over guests.new.passed.items (GuestAt guest.0)) result }
+    ensures tokens { guests.new.tokens ≡ guests.old.tokens }
+    ensures waits { Follows result seats.old.items seats.new.items }
+    ensures sits { Changes result seats.old.items seats.new.items }
+    ensures time { (seat : ℕ) → LastsAt now result seats.old.items seats.new.items seat }
+    ensures left { LeavesOnly guests.old.guests.items guests.new.guests.items }
+{
+    let (place, seat) = guest;
+    match seats.get_mut(seat as usize) {
+        Some(at) if at.bot.sits || !is_set(closed, seat) => {
+            at.welcome(guests, wire, place, seat, now)
+        }
+        _ => None,
+    }
+}
+
 /// Hears the guest at a place: who showed the token of a seat sits there from now on, and who sits there is let go of before.
-/// Where nobody sits at a closed seat he stays a guest, and is heard again by a later call.
+/// Where nobody sits at a closed seat he stays a guest, and is heard again by a later call: whoever else waited for that seat
+/// is let go of. Who is refused is let go of too.
 #[tactic(auto, using(crate::proofs::Coming::heard_passes, crate::proofs::Coming::refused_passes, crate::proofs::Coming::passed_on, crate::proofs::Coming::nothing_passes))]
 fn hear_guest<W: Wire>(
     guests: &mut Guests,
@@ -103,19 +165,56 @@ fn hear_guest<W: Wire>(
     ensures waits { Follows result seats.old.items seats.new.items }
     ensures sits { Changes result seats.old.items seats.new.items }
     ensures time { (seat : ℕ) → LastsAt now result seats.old.items seats.new.items seat }
+    ensures kept { KeepsBut place guests.old.guests.items guests.new.guests.items }
+    ensures fit { IsFit guests.old.tokens.items (stands_at guests.new.guests.items place) }
+    ensures newest { IsNewest place guests.new.guests.items }
 {
     match guests.hear(wire, place, now) {
         Found::Nothing => None,
         Found::Refused { seat } => {
             let source = wire.source(Line::Guest(place));
+            guests.dismiss(wire, place);
             Some(SeatNotice::Refused { seat, source })
         }
-        Found::Shown { seat } => match seats.get_mut(seat as usize) {
-            Some(at) if at.bot.sits || !is_set(closed, seat) => {
-                at.welcome(guests, wire, place, seat, now)
-            }
-            _ => None,
-        },
+        Found::Shown { seat } => {
+            guests.prefer(wire, place, seat);
+            welcome(guests, seats, wire, (place, seat), closed, now)
+        }
+    }
+}
+
+/// Takes the next one off the queue of a seat's port, and reads once what he said.
+fn take_guest<W: Wire>(
+    guests: &mut Guests,
+    seats: &mut Vec<Seat>,
+    wire: &mut W,
+    seat: u8,
+    closed: u16,
+    now: u64,
+) -> Called
+    ensures nobody { result.was_there ≡ false → (result.notice ≡ None) × (W.passed wire.new ≡ W.passed wire.old) }
+    ensures empty { result.was_there ≡ false → (result.turned_away ≡ false) × (result.made_room ≡ None) }
+    ensures quiet { result.turned_away ≡ true → result.notice ≡ None }
+    ensures closed { KeepsClosed closed result.notice }
+    ensures passes { Passes (Some guests.old.tokens.items) result.notice guests.old.passed.items guests.new.passed.items (W.passed wire.old) (W.passed wire.new) }
+    ensures piece { (number most : ℕ) → IsPieceOf number most result.notice }
+    ensures tokens { guests.new.tokens ≡ guests.old.tokens }
+    ensures waits { Follows result.notice seats.old.items seats.new.items }
+    ensures sits { Changes result.notice seats.old.items seats.new.items }
+    ensures time { (number : ℕ) → LastsAt now result.notice seats.old.items seats.new.items number }
+    ensures kept { KeepsFit guests.old.tokens.items guests.old.guests.items guests.new.guests.items }
+{
+    let Some((place, made_room)) = guests.accept(wire, seat, now) else {
+        return nobody_called();
+    };
+    let notice = hear_guest(guests, seats, wire, place, closed, now);
+    let is_quiet = notice.is_none();
+    let turned_away = guests.turn_away(wire, place, is_quiet);
+    Called {
+        was_there: true,
+        turned_away,
+        made_room,
+        notice,
     }
 }
 
@@ -123,9 +222,11 @@ impl Seats {
     ghost use Rattle.node_seats.specs.Seating.{is_here_at, Flushes};
     ghost use Rattle.node_seats.specs.Telling.{Begins, TellsBot, IsToldAll, MayPart, Parts, SaysAt};
     ghost use Rattle.node_seats.specs.declared.limits.TheConstants.{BACKLOG as MOST, PIECE as LONGEST};
-    ghost use Rattle.node_seats.specs.Pieces.{IsPieceOf};
     ghost use Rattle.node_seats.specs.Hurrying.{HurriesAt, KeepsTime};
-    ghost use Rattle.node_seats.specs.Coming.{tokens_of, passed_of, Comes};
+    ghost use Rattle.node_seats.specs.Hurrying.{since_at};
+    ghost use Rattle.node_seats.specs.Coming.{tokens_of, passed_of, Comes, AreFit, AreOneASeat};
+    ghost use Rattle.node_seats.specs.Crowding.{turned_away_at, crowded_at, IsCrowded, CountsCalled};
+    ghost use Rattle.node_seats.specs.Seating.{resumes};
 
     /// So many seats, where nobody sits. With tokens, of each seat by its number, a seat takes nobody but who shows its own,
     /// and one for which there is none takes nobody.
@@ -139,6 +240,8 @@ impl Seats {
         ensures passed { IfOk result (λ seats. passed_of seats ≡ []) }
         ensures nobody { IfOk result (λ seats. (seat : ℕ) → bot_at seats.seats.items seat ≡ no_bot) }
         ensures said { IfOk result (λ seats. AreSaid [] seats.seats.items) }
+        ensures counts { IfOk result (λ seats. (seat : ℕ) → turned_away_at seats.crowds seat ≡ 0) }
+        ensures moments { IfOk result (λ seats. (seat : ℕ) → crowded_at seats.crowds seat ≡ None) }
     {
         let seats = empty_seats(alloc, count)?;
         let guests = no_guests(alloc, tokens)?;
@@ -147,13 +250,14 @@ impl Seats {
             count,
             seats,
             guests,
+            crowds: Crowds::new(),
             buffer: [0; PIECE],
             line: SeatLine::new(),
         })
     }
 
-    /// What came next of a seat. Where seats have tokens, who came to its port is a guest from now on.
-    #[tactic(auto, using(crate::proofs::Coming::plain_passes, crate::proofs::Coming::nothing_passes, crate::proofs::Coming::bot_passes))]
+    /// What came next of a seat. Where seats have tokens nobody is taken in.
+    #[tactic(auto, using(crate::proofs::Coming::plain_passes, crate::proofs::Coming::nothing_passes, crate::proofs::Coming::bot_alone_passes))]
     fn look_at_seat<W: Wire>(
         &mut self,
         wire: &mut W,
@@ -167,22 +271,21 @@ impl Seats {
         ensures time { HurriesAt greeted now number result self.old self.new }
         ensures comes { Comes result self.old self.new (W.passed wire.old) (W.passed wire.new) }
         ensures piece { IsPieceOf number LONGEST result }
+        ensures guests { self.new.guests ≡ self.old.guests }
+        ensures crowds { self.new.crowds ≡ self.old.crowds }
     {
         let seat = self.seats.get_mut(number as usize)?;
-        match &mut self.guests {
+        match &self.guests {
             None if is_set(closed, number) => {
                 seat.next_piece(self.alloc, &mut self.buffer, wire, number, greeted, now)
             }
             None => seat.next(self.alloc, &mut self.buffer, wire, number, greeted, now),
-            Some(guests) => {
-                guests.accept(wire, number, now);
-                seat.next_piece(self.alloc, &mut self.buffer, wire, number, greeted, now)
-            }
+            Some(_) => seat.next_piece(self.alloc, &mut self.buffer, wire, number, greeted, now),
         }
     }
 
     /// What came next of the guest at a place.
-    #[tactic(auto, using(crate::proofs::Coming::nothing_passes, crate::proofs::Coming::no_piece))]
+    #[tactic(auto, using(crate::proofs::Coming::nothing_passes, crate::proofs::Coming::no_piece, crate::proofs::Keeping::are_same))]
     fn look_at_guest<W: Wire>(
         &mut self,
         wire: &mut W,
@@ -195,6 +298,8 @@ impl Seats {
         ensures piece { (seat most : ℕ) → IsPieceOf seat most result }
         ensures time { (seat : ℕ) → LastsAt now result self.old.seats.items self.new.seats.items seat }
         ensures count { self.new.count ≡ self.old.count }
+        ensures kept { AreFit self.old.guests self.new.guests }
+        ensures crowds { self.new.crowds ≡ self.old.crowds }
     {
         match &mut self.guests {
             Some(guests) => hear_guest(guests, &mut self.seats, wire, place, closed, now),
@@ -203,6 +308,7 @@ impl Seats {
     }
 
     /// What came next of a seat or, by numbers behind those of all seats, of the guest at a place.
+    #[tactic(auto, using(crate::proofs::Keeping::are_same))]
     fn look<W: Wire>(
         &mut self,
         wire: &mut W,
@@ -215,6 +321,8 @@ impl Seats {
         ensures time { HurriesAt greeted now at result self.old self.new }
         ensures comes { Comes result self.old self.new (W.passed wire.old) (W.passed wire.new) }
         ensures piece { IsPieceOf at LONGEST result }
+        ensures kept { AreFit self.old.guests self.new.guests }
+        ensures crowds { self.new.crowds ≡ self.old.crowds }
     {
         match at.checked_sub(self.count) {
             None => self.look_at_seat(wire, at, greeted, closed, now),
@@ -234,15 +342,16 @@ impl Seats {
     /// What came next of one of them, by its number, if anything did. Nothing waits for one who was taken in. Of a seat one
     /// piece comes at a time, of 512 bytes at most, and of a guest none.
     ///
-    /// With tokens who was taken in was a guest who showed the token of that seat, and nothing else had come of him; who sat
-    /// there is told to be gone before. Nothing that came of a guest is told.
+    /// With tokens nobody is taken off the queue of a seat's port (`next_caller` does that): who is taken in was a guest who showed
+    /// the token of that seat, and nothing else had come of him; who sat there is told to be gone before. Nothing that came of a
+    /// guest is told. Who said anything wrong, or too little in his time, is refused and keeps no place.
     ///
     /// `closed` has the bits of the seats at which nobody is taken in now. Who comes to one of them waits at its port, or as a
     /// guest, and is taken in by a later call; who sits there still makes room for a guest who showed the token.
     ///
     /// A bot has 10 seconds to name the version. `greeted` says whether the one at this seat has. Once they are over, one more
     /// call takes what came of it, and the call behind that one lets go of it.
-    #[tactic(auto, using(crate::proofs::Coming::plain_passed, crate::proofs::Coming::seats_come, crate::proofs::Coming::log_stays, crate::proofs::Others::keeps_coming, crate::proofs::Telling::said_coming))]
+    #[tactic(auto, using(crate::proofs::Coming::plain_passed, crate::proofs::Coming::seats_come, crate::proofs::Coming::log_stays, crate::proofs::Others::keeps_coming, crate::proofs::Telling::said_coming, crate::proofs::Keeping::one_a_seat))]
     pub fn next<W: Wire>(
         &mut self,
         wire: &mut W,
@@ -261,8 +370,118 @@ impl Seats {
         ensures others { KeepsOthers (W.passed wire.old) (W.passed wire.new) }
         ensures unsaid { TellsNoGuest (W.passed wire.old) (W.passed wire.new) }
         ensures said { AreSaid (W.passed wire.old) self.old.seats.items → AreSaid (W.passed wire.new) self.new.seats.items }
+        ensures kept { AreFit self.old.guests self.new.guests }
+        ensures alone { AreOneASeat self.old.guests → AreOneASeat self.new.guests }
+        ensures crowds { self.new.crowds ≡ self.old.crowds }
     {
         self.look(wire, at, greeted, closed, now)
+    }
+
+    /// Takes the next one off the queue of a seat's port, where seats have tokens, and reads once what he said.
+    #[tactic(auto, using(crate::proofs::Coming::nothing_passes, crate::proofs::Keeping::are_fit, crate::proofs::Keeping::are_same))]
+    fn take_caller<W: Wire>(&mut self, wire: &mut W, seat: u8, closed: u16, now: u64) -> Called
+        ensures nobody { result.was_there ≡ false → (result.notice ≡ None) × (W.passed wire.new ≡ W.passed wire.old) }
+        ensures empty { result.was_there ≡ false → (result.turned_away ≡ false) × (result.made_room ≡ None) }
+        ensures quiet { result.turned_away ≡ true → result.notice ≡ None }
+        ensures closed { KeepsClosed closed result.notice }
+        ensures comes { Comes result.notice self.old self.new (W.passed wire.old) (W.passed wire.new) }
+        ensures piece { (number most : ℕ) → IsPieceOf number most result.notice }
+        ensures time { (number : ℕ) → LastsAt now result.notice self.old.seats.items self.new.seats.items number }
+        ensures count { self.new.count ≡ self.old.count }
+        ensures kept { AreFit self.old.guests self.new.guests }
+        ensures crowds { CountsCalled result.turned_away result.made_room seat now self.old.crowds self.new.crowds }
+    {
+        let Some(guests) = &mut self.guests else {
+            return nobody_called();
+        };
+        let called = take_guest(guests, &mut self.seats, wire, seat, closed, now);
+        self.crowds.count(called.turned_away, seat, now);
+        self.crowds.make_room(called.made_room, now);
+        called
+    }
+
+    /// Takes the next one off the queue of a seat's port, where seats have tokens, and reads once what he said.
+    ///
+    /// Who showed the token of the seat sits there from now on. Where somebody else sits there that one is let go of before, and
+    /// where nobody sits at a closed seat, one of whose bits is set, nobody is taken in: then he waits as a guest, one a seat, the
+    /// newest, and a later `next` takes him in. Who said anything wrong, or ended, is refused and closed. Who said nothing wrong
+    /// so far keeps a place among guests, if one is for him; where none is he is closed and counted (`turned_away`).
+    #[tactic(auto, using(crate::proofs::Coming::plain_passed, crate::proofs::Coming::seats_come, crate::proofs::Coming::log_stays, crate::proofs::Others::keeps_coming, crate::proofs::Telling::said_coming, crate::proofs::Keeping::one_a_seat))]
+    pub fn next_caller<W: Wire>(&mut self, wire: &mut W, seat: u8, closed: u16, now: u64) -> Called
+        ensures nobody { result.was_there ≡ false → (result.notice ≡ None) × (W.passed wire.new ≡ W.passed wire.old) }
+        ensures empty { result.was_there ≡ false → (result.turned_away ≡ false) × (result.made_room ≡ None) }
+        ensures quiet { result.turned_away ≡ true → result.notice ≡ None }
+        ensures time { (number : ℕ) → LastsAt now result.notice self.old.seats.items self.new.seats.items number }
+        ensures count { self.new.count ≡ self.old.count }
+        ensures comes { Comes result.notice self.old self.new (W.passed wire.old) (W.passed wire.new) }
+        ensures closed { KeepsClosed closed result.notice }
+        ensures piece { (number most : ℕ) → IsPieceOf number most result.notice }
+        ensures plain { tokens_of self.old ≡ None → Passed result.notice (W.passed wire.old) (W.passed wire.new) }
+        ensures seats { seats_in (W.passed wire.new) ≡ seats_in (W.passed wire.old) ++ seats_in (passed_by result.notice) }
+        ensures log { logged_in (W.passed wire.new) ≡ logged_in (W.passed wire.old) }
+        ensures others { KeepsOthers (W.passed wire.old) (W.passed wire.new) }
+        ensures unsaid { TellsNoGuest (W.passed wire.old) (W.passed wire.new) }
+        ensures said { AreSaid (W.passed wire.old) self.old.seats.items → AreSaid (W.passed wire.new) self.new.seats.items }
+        ensures kept { AreFit self.old.guests self.new.guests }
+        ensures alone { AreOneASeat self.old.guests → AreOneASeat self.new.guests }
+        ensures crowds { CountsCalled result.turned_away result.made_room seat now self.old.crowds self.new.crowds }
+    {
+        self.take_caller(wire, seat, closed, now)
+    }
+
+    /// How many who came to the port of a seat were closed so far, since no place was for them.
+    pub fn turned_away(&self, seat: u8) -> u64
+        ensures { result ≡ turned_away_at self.now.crowds seat }
+    {
+        self.crowds.turned_away(seat)
+    }
+
+    /// When it was last crowded at the port of a seat, if it was: somebody was closed, since no place was for him, or `crowd` said
+    /// so.
+    pub fn crowded(&self, seat: u8) -> Option<u64>
+        ensures { result ≡ crowded_at self.now.crowds seat }
+    {
+        self.crowds.crowded(seat)
+    }
+
+    /// It is crowded at the port of a seat at this moment: more stand in its queue than are taken off it in a turn.
+    pub fn crowd(&mut self, seat: u8, now: u64)
+        ensures crowded { IsCrowded seat now self.old.crowds self.new.crowds }
+        ensures seats { self.new.seats ≡ self.old.seats }
+        ensures guests { self.new.guests ≡ self.old.guests }
+        ensures count { self.new.count ≡ self.old.count }
+    {
+        self.crowds.note(seat, now);
+    }
+
+    /// Whether the bot of a seat said once, by `#RESUME`, from where on it is to be told.
+    pub fn has_resumed(&self, seat: u8) -> bool
+        ensures { result ≡ resumes (bot_at self.now.seats.items seat) }
+    {
+        match self.seats.get(seat as usize) {
+            Some(seat) => seat.bot.has_resumed(),
+            None => false,
+        }
+    }
+
+    /// Whether the bot of a seat named the version, or said another line that asks for nothing: behind that no `#RESUME` is read.
+    pub fn has_named(&self, seat: u8) -> bool
+        ensures { result ≡ (bot_at self.now.seats.items seat).words.is_over }
+    {
+        match self.seats.get(seat as usize) {
+            Some(seat) => seat.bot.words.is_over(),
+            None => false,
+        }
+    }
+
+    /// When the bot of a seat was taken in, until its time for the version is seen to be over.
+    pub fn since(&self, seat: u8) -> Option<u64>
+        ensures { result ≡ since_at self.now.seats.items seat }
+    {
+        match self.seats.get(seat as usize) {
+            Some(seat) => seat.since(),
+            None => None,
+        }
     }
 
     /// From now on the bot of a seat is told the lines of its seat from this place on, where it has named the version, isn't told

@@ -3,7 +3,7 @@
 ghost use Rattle.std.specs.Prelude.{◌≡◌, ◌↔◌, IsTrue};
 ghost use Rattle.std.specs.List.{list_all};
 ghost use Rattle.sha2.specs.Sha256.{sha256};
-ghost use Rattle.node_seats.specs.Tokens.{IsTokenLine, IsLineEnd, IsForm, is_token_digit};
+ghost use Rattle.node_seats.specs.Tokens.{IsTokenLine, IsLineEnd, IsForm, is_token_digit, begins_well, has_end};
 
 use sha2::{Digest, Sha256};
 
@@ -45,6 +45,24 @@ fn is_digest_of(bytes: &[u8], digest: &TokenDigest) -> bool
     ensures { IsTrue result ↔ (sha256 bytes.now ≡ digest.now.bytes) }
 {
     Sha256::digest(bytes) == digest.bytes
+}
+
+/// Whether a line, as far as it came, begins as one that shows a token.
+pub(crate) fn begins_well(line: &[u8]) -> bool
+    ensures { result ≡ begins_well line.now }
+{
+    if line.len() < WORD.len() {
+        line == &WORD[..line.len()]
+    } else {
+        &line[..WORD.len()] == WORD.as_slice()
+    }
+}
+
+/// Whether a line came to its end.
+pub(crate) fn has_end(line: &[u8]) -> bool
+    ensures { result ≡ has_end line.now }
+{
+    line.iter().any(|byte| *byte == 10)
 }
 
 /// Whether a line, with its end, shows the token of this digest.

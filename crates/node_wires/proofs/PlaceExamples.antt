@@ -8,7 +8,7 @@ use Rattle.node_wires.specs.declared.coming.Stander.{Stander}
 use Rattle.node_wires.specs.declared.coming.Coming.{Coming}
 use Rattle.node_wires.specs.declared.nodes.Nodes.{Nodes}
 use Rattle.node_wires.specs.Nodes.{is_same, is_source, source_of, is_home}
-use Rattle.node_wires.specs.Places.{places_of, first_of, is_stranger_of, is_open_to, rank_of, IsLeast, better}
+use Rattle.node_wires.specs.Places.{places_of, first_of, is_stranger_of, is_open_to, is_open_to_guest, rank_of, IsLeast, better}
 
 abbrev host : ℕ → IpAddr
 host last = V4 (record { octets = 10 ∷ 0 ∷ 0 ∷ last ∷ [] })
@@ -47,8 +47,24 @@ no_place_of_others nodes home = rw home refl
 all_callers : places_of Caller ≡ 30
 all_callers = refl
 
-first_guest : first_of Guest ≡ 47
+first_guest : first_of (Guest 3) ≡ 54
 first_guest = refl
+
+-- behind the places of guests of any seat two are of seat 0, and the next two of seat 1
+place_of_any_seat : is_open_to_guest 1 25 ≡ true
+place_of_any_seat = refl
+
+place_of_another_seat : is_open_to_guest 1 27 ≡ false
+place_of_another_seat = refl
+
+place_of_its_own : is_open_to_guest 1 28 ≡ true
+place_of_its_own = refl
+
+last_of_its_own : is_open_to_guest 1 29 ≡ true
+last_of_its_own = refl
+
+all_guests : places_of (Guest 1) ≡ 46
+all_guests = refl
 
 -- ---- who makes room
 
@@ -71,8 +87,18 @@ not_before = refl
 at_once_where_it_is_kept : rank_of (one false Caller) 16 (Some (who (Some 7) 1000000)) ≡ Some 7
 at_once_where_it_is_kept = refl
 
-guests_at_once : rank_of (one false Guest) 3 (Some (who (Some 7) 1000000)) ≡ Some 7
-guests_at_once = refl
+guests_after_their_time : rank_of (one false (Guest 1)) 3 (Some (who (Some 7) 700000)) ≡ Some 7
+guests_after_their_time = refl
+
+no_guest_before : rank_of (one false (Guest 1)) 3 (Some (who (Some 7) 700001)) ≡ None
+no_guest_before = refl
+
+-- a place of a seat alone is taken last, whoever stands elsewhere
+last_of_all : rank_of (one true (Guest 1)) 28 None ≡ Some 18446744073709551615
+last_of_all = refl
+
+nobody_who_waits_there : rank_of (one true (Guest 1)) 28 (Some (who None 0)) ≡ None
+nobody_who_waits_there = refl
 
 nobody_who_is_known : rank_of (one false Caller) 3 (Some (who None 0)) ≡ None
 nobody_who_is_known = refl

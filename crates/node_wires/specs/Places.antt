@@ -1,7 +1,7 @@
 -- Which place one who comes by himself is given, and who makes room for him.
-use Rattle.std.specs.Prelude.{◌≡◌, ℕ, zero, suc, ◌+◌, ◌-◌, ◌/◌, ◌<◌, ◌≤◌, nat_lt, nat_le, Bool, true, false, not, ◌&&◌, ◌||◌, if◌then◌else◌, List, slice_get, slice_set, Option, Some, None, is_some}
+use Rattle.std.specs.Prelude.{◌≡◌, ℕ, zero, suc, ◌+◌, ◌-◌, ◌/◌, ◌<◌, ◌≤◌, ◌==◌, nat_lt, nat_le, Bool, true, false, not, ◌&&◌, ◌||◌, if◌then◌else◌, List, slice_get, slice_set, Option, Some, None, is_some}
 use Rattle.std.specs.declared.net.ip_addr.IpAddr.{IpAddr}
-use Rattle.node_wires.specs.declared.limits.TheConstants.{NODES, OTHERS, KEPT, CALLERS, SEATS, GUESTS, ASKERS, STRANGERS, STANDS}
+use Rattle.node_wires.specs.declared.limits.TheConstants.{NODES, DIALLED, OTHERS, KEPT, CALLERS, SEATS, ORDINARY, DOORS, GUESTS, ASKERS, STRANGERS, STANDS, LAST}
 use Rattle.node_wires.specs.declared.comer.Comer.{Comer}
 use Rattle.node_wires.specs.declared.comer.Comer.TheVariants.{Caller, Guest, Asker}
 use Rattle.node_wires.specs.declared.coming.Stander.{Stander}
@@ -14,14 +14,14 @@ use Rattle.node_wires.specs.Nodes.{is_same, dials_from, is_home}
 -- how many places there are
 abbrev pub places_of : Comer → ℕ
 places_of Caller = CALLERS
-places_of Guest = GUESTS
+places_of (Guest seat) = GUESTS
 places_of Asker = ASKERS
 
 -- where the first of them is among those of all lines
 abbrev pub first_of : Comer → ℕ
-first_of Caller = NODES
-first_of Guest = NODES + CALLERS + SEATS
-first_of Asker = NODES + CALLERS + SEATS + GUESTS
+first_of Caller = DIALLED
+first_of (Guest seat) = DIALLED + CALLERS + SEATS
+first_of Asker = DIALLED + CALLERS + SEATS + GUESTS
 
 -- ---- who stands there
 
@@ -52,15 +52,24 @@ strangers_below lines comer address (suc place) =
 -- a node dials from where he comes, so places are kept for him
 abbrev pub is_kept_for : Comer → Nodes → IpAddr → Bool
 is_kept_for Caller nodes address = is_home nodes address
-is_kept_for Guest nodes address = false
+is_kept_for (Guest seat) nodes address = false
 is_kept_for Asker nodes address = false
+
+-- a guest of a seat may have the places of guests of any seat, and those behind them that are of his seat alone
+abbrev pub is_open_to_guest : ℕ → ℕ → Bool
+is_open_to_guest seat place = (if nat_lt place ORDINARY then true else (place - ORDINARY) / DOORS == seat)
+
+abbrev pub is_door : Comer → ℕ → Bool
+is_door Caller place = false
+is_door (Guest seat) place = nat_le ORDINARY place
+is_door Asker place = false
 
 -- a caller's place that is kept for a node is for who comes from where that node dials; the places of others are for those
 -- who come from where no node does
 abbrev pub is_open_to : Comer → Nodes → IpAddr → ℕ → Bool
 is_open_to Caller nodes address place =
     (if nat_lt place OTHERS then not (is_home nodes address) else dials_from nodes ((place - OTHERS) / KEPT) address)
-is_open_to Guest nodes address place = true
+is_open_to (Guest seat) nodes address place = is_open_to_guest seat place
 is_open_to Asker nodes address place = true
 
 -- too many strangers of one address stand there, and no place is kept for it
@@ -72,16 +81,20 @@ is_crowded lines comer nodes address = not (is_kept_for comer nodes address) && 
 -- for how long at least one stands at a place before he does
 abbrev pub stay_of : Comer → ℕ → ℕ
 stay_of Caller place = (if nat_lt place OTHERS then STANDS else 0)
-stay_of Guest place = 0
+stay_of (Guest seat) place = STANDS
 stay_of Asker place = 0
 
 -- he has stood for so long, and where too many of one address stand he came from there
 abbrev pub may_go : Coming → ℕ → Stander → Bool
 may_go coming stay who = nat_le stay (coming.now - who.since) && (not coming.is_crowded || is_same who.address coming.address)
 
--- a free place is taken first, and none that is free where it is crowded; then that of the stranger who came first
+-- a free place is taken first, and none that is free where it is crowded; but one of a seat alone last of all
+abbrev pub free_rank : Coming → ℕ → Option ℕ
+free_rank coming place = (if is_door coming.comer place then Some LAST else if coming.is_crowded then None else Some 0)
+
+-- behind the free ones that of the stranger who came first
 abbrev pub rank_of : Coming → ℕ → Option Stander → Option ℕ
-rank_of coming place None = (if coming.is_crowded then None else Some 0)
+rank_of coming place None = free_rank coming place
 rank_of coming place (Some who) = (if may_go coming (stay_of coming.comer place) who then who.turn else None)
 
 -- one comes from an address at a moment

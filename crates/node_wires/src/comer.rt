@@ -1,7 +1,7 @@
 ghost use Rattle.std.specs.Prelude.{◌≡◌};
 ghost use Rattle.node_wires.specs.Places.{places_of, first_of};
 
-use crate::limits::{ASKERS, CALLERS, GUESTS, NODES, SEATS};
+use crate::limits::{ASKERS, CALLERS, DIALLED, GUESTS, SEATS};
 use crate::line::Line;
 
 /// Those who come by themselves, by the kind of port that they come to. Each kind has places of its own.
@@ -9,8 +9,8 @@ use crate::line::Line;
 pub(crate) enum Comer {
     /// Who dials this node.
     Caller,
-    /// Who comes to a seat's port and is to show a token.
-    Guest,
+    /// Who comes to the port of this seat and is to show its token.
+    Guest(u8),
     /// Who comes to the status port.
     Asker,
 }
@@ -20,7 +20,7 @@ impl Comer {
     pub(crate) fn line(self, place: u8) -> Line {
         match self {
             Comer::Caller => Line::Caller(place),
-            Comer::Guest => Line::Guest(place),
+            Comer::Guest(_) => Line::Guest(place),
             Comer::Asker => Line::Asker(place),
         }
     }
@@ -28,7 +28,7 @@ impl Comer {
     /// Whether it is a bot, or one who may become one.
     pub(crate) fn is_of_bot(self) -> bool {
         match self {
-            Comer::Guest => true,
+            Comer::Guest(_) => true,
             Comer::Caller | Comer::Asker => false,
         }
     }
@@ -39,7 +39,7 @@ impl Comer {
     {
         match self {
             Comer::Caller => CALLERS as u8,
-            Comer::Guest => GUESTS as u8,
+            Comer::Guest(_) => GUESTS as u8,
             Comer::Asker => ASKERS as u8,
         }
     }
@@ -49,9 +49,9 @@ impl Comer {
         ensures { result ≡ first_of self }
     {
         match self {
-            Comer::Caller => NODES,
-            Comer::Guest => NODES + CALLERS + SEATS,
-            Comer::Asker => NODES + CALLERS + SEATS + GUESTS,
+            Comer::Caller => DIALLED,
+            Comer::Guest(_) => DIALLED + CALLERS + SEATS,
+            Comer::Asker => DIALLED + CALLERS + SEATS + GUESTS,
         }
     }
 }

@@ -1,10 +1,10 @@
 //! Who stands at a place, who comes, and who makes room for whom.
 
 ghost use Rattle.std.specs.Prelude.{◌≡◌};
-ghost use Rattle.node_wires.specs.Places.{stay_of, is_stranger_of, may_go, rank_of, better};
+ghost use Rattle.node_wires.specs.Places.{is_door, stay_of, is_stranger_of, may_go, free_rank, rank_of, better};
 
 use crate::comer::Comer;
-use crate::limits::{OTHERS, STANDS};
+use crate::limits::{LAST, ORDINARY, OTHERS, STANDS};
 use crate::nodes::is_same;
 use std::net::IpAddr;
 
@@ -36,13 +36,24 @@ pub(crate) struct Best {
     pub(crate) rank: u64,
 }
 
+/// Whether this place is one of those that are of one seat alone.
+fn is_door(comer: Comer, place: u8) -> bool
+    ensures { result ≡ is_door comer place }
+{
+    match comer {
+        Comer::Caller => false,
+        Comer::Guest(_) => place as usize >= ORDINARY,
+        Comer::Asker => false,
+    }
+}
+
 /// For how long at least one stands at this place before he makes room.
 fn stay_of(comer: Comer, place: u8) -> u64
     ensures { result ≡ stay_of comer place }
 {
     match comer {
         Comer::Caller => { if (place as usize) < OTHERS { STANDS } else { 0 } }
-        Comer::Guest => 0,
+        Comer::Guest(_) => STANDS,
         Comer::Asker => 0,
     }
 }
@@ -65,6 +76,17 @@ impl Coming {
             && (!self.is_crowded || is_same(who.address, self.address))
     }
 
+    /// How soon he is to take this place where nobody stands there: none where too many of his address stand, but one of his
+    /// seat alone after all others.
+    fn free_rank(self, place: u8) -> Option<u64>
+        ensures { result ≡ free_rank self place }
+    {
+        if is_door(self.comer, place) {
+            return Some(LAST);
+        }
+        if self.is_crowded { None } else { Some(0) }
+    }
+
     /// How soon he is to take this place, at which this one stands or nobody.
     pub(crate) fn rank(self, place: u8, standing: Option<Stander>) -> Option<u64>
         ensures { result ≡ rank_of self place standing }
@@ -77,7 +99,7 @@ impl Coming {
                     None
                 }
             }
-            None => { if self.is_crowded { None } else { Some(0) } }
+            None => self.free_rank(place),
         }
     }
 }

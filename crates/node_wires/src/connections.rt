@@ -7,7 +7,7 @@ ghost use Rattle.node_wires.specs.declared.wired.Wired.{Wired};
 
 use crate::comer::Comer;
 use crate::coming::Stander;
-use crate::keep_alive::keep_alive;
+use crate::keep_alive::{keep_alive, send_again_soon};
 use crate::limits::LINES;
 use crate::line::Line;
 use crate::nodes::Nodes;
@@ -127,6 +127,9 @@ impl Connections {
         }
         if self.ends_lost_peers || is_of_bot {
             keep_alive(&stream)?;
+        } else {
+            // A system that doesn't know how sends again as it always does.
+            let _ = send_again_soon(&stream);
         }
         self.lines[place] = Some(Wired::watch(self.alloc, poll, stream, place, who)?);
         Ok(())

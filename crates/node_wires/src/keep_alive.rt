@@ -1,5 +1,5 @@
-//! How soon the system ends a connection whose other end is lost without a word: a machine without power, a link that was
-//! cut for good.
+//! How soon the system ends a connection whose other end is lost without a word, a machine without power or a link that was
+//! cut for good; and how soon it sends again what was lost in a cut that is over.
 
 use libc::net as c;
 use mio::net::TcpStream;
@@ -18,6 +18,13 @@ const QUESTIONS: i32 = 4;
 /// For how many milliseconds what was sent may stay unacknowledged before it ends the connection: as long as the silence
 /// and all questions together.
 const UNACKNOWLEDGED_MILLISECONDS: i32 = 30_000;
+
+/// For how many milliseconds at most it waits until it sends again what is unacknowledged. Of its own it waits twice as long each
+/// time, up to two minutes: so after a cut of 15 seconds it would stay silent for as long again.
+const SENT_AGAIN_MILLISECONDS: i32 = 1_000;
+
+/// The option of TCP that says so, as `linux/tcp.h` has it (`TCP_RTO_MAX_MS`). Linux knows it from 6.15 on.
+const SENT_AGAIN: i32 = 44;
 
 /// The value of an option that is one number.
 fn value_of(number: i32) -> [u8; 16] {
@@ -63,4 +70,19 @@ pub(crate) fn keep_alive(stream: &TcpStream) -> io::Result<()> {
         )
     })?;
     checked(unsafe { c::setsockopt(connection, socket, c::SO_KEEPALIVE, &value_of(1), 4) })
+}
+
+/// Has the system send again within a second what a connection to another node lost. An `Err` says that the system doesn't know how:
+/// the connection stays as it is.
+pub(crate) fn send_again_soon(stream: &TcpStream) -> io::Result<()> {
+    let connection = stream.as_raw_fd();
+    checked(unsafe {
+        c::setsockopt(
+            connection,
+            c::IPPROTO_TCP,
+            SENT_AGAIN,
+            &value_of(SENT_AGAIN_MILLISECONDS),
+            4,
+        )
+    })
 }

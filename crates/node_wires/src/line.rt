@@ -1,12 +1,13 @@
 ghost use Rattle.std.specs.Prelude.{◌≡◌, ◌<◌};
 ghost use Rattle.node_wires.specs.Lines.{within, place_of};
 
-use crate::limits::{ASKERS, CALLERS, GUESTS, NODES, SEATS};
+use crate::limits::{ASKERS, CALLERS, DIALLED, GUESTS, SEATS};
 
 /// A connection of a node's process, by whom it is with. A line has one connection at a time, or none.
 #[derive(Clone, Copy, Debug, PartialEq, Eq)]
 pub enum Line {
-    /// With the peer of this number, which this node dialled.
+    /// With the peer of this number, which this node dialled; a number from `NODES` on is that of a second line to the node whose
+    /// number is so much less.
     Peer(u8),
     /// With one who dialled this node, by its place among those.
     Caller(u8),
@@ -40,11 +41,11 @@ impl Line {
         ensures { result ≡ place_of self }
     {
         match self {
-            Line::Peer(number) => within(number, NODES, 0),
-            Line::Caller(place) => within(place, CALLERS, NODES),
-            Line::Seat(number) => within(number, SEATS, NODES + CALLERS),
-            Line::Guest(place) => within(place, GUESTS, NODES + CALLERS + SEATS),
-            Line::Asker(place) => within(place, ASKERS, NODES + CALLERS + SEATS + GUESTS),
+            Line::Peer(number) => within(number, DIALLED, 0),
+            Line::Caller(place) => within(place, CALLERS, DIALLED),
+            Line::Seat(number) => within(number, SEATS, DIALLED + CALLERS),
+            Line::Guest(place) => within(place, GUESTS, DIALLED + CALLERS + SEATS),
+            Line::Asker(place) => within(place, ASKERS, DIALLED + CALLERS + SEATS + GUESTS),
         }
     }
 }

@@ -5,27 +5,34 @@ ghost use Rattle.node_wires.specs.Passages.{logged_in};
 ghost use Rattle.node_wires.specs.Logs.{IsLogged, logged_prop};
 
 use crate::comer::Comer;
-use crate::limits::{GUESTS, LINES};
+use crate::coming::{Coming, Stander, better};
+use crate::limits::{GUESTS, LINES, SEATS, STRANGERS};
 use crate::line::Line;
 use crate::passages::Passages;
 use crate::pipe::Pipe;
+use crate::places::is_open_to_guest;
 use crate::wire::{Halt, Wire, WireFault};
 use std::alloc::{AllocError, Global};
 use std::net::{IpAddr, Ipv4Addr};
 
 /// Wires in memory, for tests: who holds them puts in what comes, takes out what was written, and says what time it is.
 pub struct MemoryWire {
+    alloc: Global,
     moment: u64,
     /// Of each line, by its place.
     pipes: Vec<Pipe>,
     /// How many have dialled and aren't taken in yet.
     callers: u8,
-    /// Of which seats somebody waits at the port, a bit each.
-    bots: u16,
+    /// How many wait at the port of each seat.
+    bots: [u16; SEATS],
+    /// What some of them said meanwhile.
+    calls: Vec<Call>,
     /// How many have come to the status port and aren't taken in yet.
     askers: u8,
-    /// The place of the guest who makes room next.
-    crowded: u8,
+    /// Who stands at each place of guests.
+    guests: Vec<Option<Stander>>,
+    /// How many guests were taken in so far.
+    count: u64,
     /// Where all are who are at the other ends of lines.
     address: IpAddr,
     /// How often bytes were drawn.
@@ -38,16 +45,28 @@ pub struct MemoryWire {
     ghost logged: { IsLogged log.items passed.items } by { logged_prop log.items passed.items },
 }
 
+/// What one who waits at the port of a seat said meanwhile.
+#[derive(Drop)]
+struct Call {
+    seat: u8,
+    said: Vec<u8>,
+    /// He ended his connection behind it.
+    has_ended: bool,
+}
+
 /// By hand, so that letting one go is one call for whoever owns it (docs/ARCHITECTURE.md, Habits).
 impl Drop for MemoryWire {
     fn drop(self) {
         let MemoryWire {
+            alloc: _,
             moment: _,
             pipes: _,
             callers: _,
             bots: _,
+            calls: _,
             askers: _,
-            crowded: _,
+            guests: _,
+            count: _,
             address: _,
             drawn: _,
             log: _,
@@ -64,6 +83,15 @@ fn no_pipes(alloc: Global) -> Result<Vec<Pipe>, AllocError> {
         pipes.push(Pipe::new(alloc))?;
     }
     Ok(pipes)
+}
+
+/// Nobody stands at any place of guests.
+fn no_guests(alloc: Global) -> Result<Vec<Option<Stander>>, AllocError> {
+    let mut guests = Vec::with_capacity(alloc, GUESTS)?;
+    for _ in 0..GUESTS {
+        guests.push(None)?;
+    }
+    Ok(guests)
 }
 
 /// Counts a call, and says whether it is the one that fails.
@@ -110,13 +138,106 @@ fn is_open(pipes: &[Pipe], line: Line) -> bool {
 }
 
 /// Whether somebody waits at the port of a seat.
-fn is_there(bots: u16, seat: u8) -> bool {
-    seat < 16 && bots & (1 << seat) != 0
+fn is_there(bots: &[u16], seat: u8) -> bool {
+    match bots.get(seat as usize) {
+        Some(count) => *count > 0,
+        None => false,
+    }
 }
 
-/// Nobody waits at the port of a seat any more.
-fn without(bots: u16, seat: u8) -> u16 {
-    if seat < 16 { bots & !(1 << seat) } else { bots }
+/// One more waits at the port of a seat.
+fn add_bot(bots: &mut [u16; SEATS], seat: u8) {
+    if let Some(count) = bots.get_mut(seat as usize) {
+        *count = count.saturating_add(1);
+    }
+}
+
+/// One who waited at the port of a seat was taken in.
+fn take_bot(bots: &mut [u16; SEATS], seat: u8) {
+    if let Some(count) = bots.get_mut(seat as usize) {
+        *count = count.saturating_sub(1);
+    }
+}
+
+/// What the one said who is the next of those at the port of a seat who said anything.
+fn take_call(calls: &mut Vec<Call>, seat: u8) -> Option<Call> {
+    let position = calls.iter().position(|call| call.seat == seat)?;
+    Some(calls.remove(position))
+}
+
+/// What one said before he was taken in comes over his line. Without memory for it nothing does.
+fn say(pipes: &mut Vec<Pipe>, line: Line, call: Option<Call>) {
+    let Some(call) = call else {
+        return;
+    };
+    if let Some(pipe) = at_mut(pipes, line) {
+        let _ = pipe.come(&call.said);
+        if call.has_ended {
+            pipe.end();
+        }
+    }
+}
+
+/// How many strangers of an address stand at places of guests.
+fn strangers(guests: &[Option<Stander>], address: IpAddr) -> usize {
+    let mut count = 0usize;
+    for place in 0..guests.len() {
+        if let Some(who) = guests[place] {
+            if who.is_stranger_of(address) {
+                count = count.saturating_add(1);
+            }
+        }
+    }
+    count
+}
+
+/// Who stands at a place of guests.
+fn standing(guests: &[Option<Stander>], place: u8) -> Option<Stander> {
+    *guests.get(place as usize)?
+}
+
+/// How soon one who comes to the port of a seat takes a place of guests.
+fn rank(guests: &[Option<Stander>], coming: Coming, seat: u8, place: u8) -> Option<u64> {
+    if is_open_to_guest(seat, place) {
+        coming.rank(place, standing(guests, place))
+    } else {
+        None
+    }
+}
+
+/// The place of guests that one who comes to the port of a seat takes, as over TCP.
+fn place_of_guest(guests: &[Option<Stander>], seat: u8, address: IpAddr, now: u64) -> Option<u8> {
+    let comer = Comer::Guest(seat);
+    let is_crowded = STRANGERS <= strangers(guests, address);
+    let coming = Coming {
+        comer,
+        address,
+        now,
+        is_crowded,
+    };
+    let mut best = None;
+    for place in 0..comer.places() {
+        let rank = rank(guests, coming, seat, place);
+        best = better(best, place, rank);
+    }
+    match best {
+        Some(best) => Some(best.place),
+        None => None,
+    }
+}
+
+/// This one stands at a place of guests from now on, or nobody.
+fn stand(guests: &mut Vec<Option<Stander>>, place: u8, who: Option<Stander>) {
+    if let Some(standing) = guests.get_mut(place as usize) {
+        *standing = who;
+    }
+}
+
+/// It is known who stands at a place of guests.
+fn know(guests: &mut Vec<Option<Stander>>, place: u8) {
+    if let Some(Some(who)) = guests.get_mut(place as usize) {
+        who.turn = None;
+    }
 }
 
 /// A connection begins; false of a line that there isn't.
@@ -185,12 +306,15 @@ impl MemoryWire {
         ensures { IfOk result (λ wire. passed_of wire ≡ []) }
     {
         Ok(MemoryWire {
+            alloc,
             moment: 0,
             pipes: no_pipes(alloc)?,
             callers: 0,
-            bots: 0,
+            bots: [0; SEATS],
+            calls: Vec::new(alloc),
             askers: 0,
-            crowded: 0,
+            guests: no_guests(alloc)?,
+            count: 0,
             address: IpAddr::V4(Ipv4Addr::LOCALHOST),
             drawn: 0,
             log: Vec::new(alloc),
@@ -209,11 +333,24 @@ impl MemoryWire {
         self.callers = self.callers.saturating_add(1);
     }
 
-    /// A bot comes to the port of a seat.
+    /// A bot comes to the port of a seat, where nobody waits there yet.
     pub fn come_to_seat(&mut self, seat: u8) {
-        if seat < 16 {
-            self.bots |= 1 << seat;
+        if !is_there(&self.bots, seat) {
+            add_bot(&mut self.bots, seat);
         }
+    }
+
+    /// A bot comes to the port of a seat, waits there behind those who came before, and says these bytes meanwhile; its connection
+    /// may end behind them. An `Err`, for want of memory, changes nothing.
+    pub fn call_seat(&mut self, seat: u8, said: &[u8], ends: bool) -> Result<(), AllocError> {
+        let said = Vec::from_slice(self.alloc, said)?;
+        self.calls.push(Call {
+            seat,
+            said,
+            has_ended: ends,
+        })?;
+        add_bot(&mut self.bots, seat);
+        Ok(())
     }
 
     /// Somebody comes to the status port.
@@ -226,23 +363,26 @@ impl MemoryWire {
         self.address = address;
     }
 
-    /// The place of the next guest: a free one, or that of one who makes room.
-    fn place_of_guest(&mut self) -> u8
+    /// The next one who came to the port of a seat stands at a place of guests, if there is one for him, which is answered.
+    fn begin_guest(&mut self, seat: u8) -> Option<u8>
         ensures passed { self.new.passed ≡ self.old.passed }
         ensures log { self.new.log ≡ self.old.log }
     {
-        match free_place(&self.pipes, Comer::Guest) {
-            Some(place) => place,
-            None => {
-                let place = self.crowded;
-                self.crowded = if place.saturating_add(1) < GUESTS as u8 {
-                    place.saturating_add(1)
-                } else {
-                    0
-                };
-                place
-            }
+        take_bot(&mut self.bots, seat);
+        let call = take_call(&mut self.calls, seat);
+        let place = place_of_guest(&self.guests, seat, self.address, self.moment)?;
+        if !begin(&mut self.pipes, Line::Guest(place)) {
+            return None;
         }
+        say(&mut self.pipes, Line::Guest(place), call);
+        self.count = self.count.saturating_add(1);
+        let who = Stander {
+            address: self.address,
+            turn: Some(self.count),
+            since: self.moment,
+        };
+        stand(&mut self.guests, place, Some(who));
+        Some(place)
     }
 
     /// Whether a line has a connection.
@@ -341,27 +481,25 @@ impl Wire for MemoryWire {
 
     #[tactic(auto, using(crate::proofs::Logged::when_began))]
     fn accept_seat(&mut self, seat: u8) -> bool {
-        if !is_there(self.bots, seat) || count_down(&mut self.left) {
+        if !is_there(&self.bots, seat) || count_down(&mut self.left) {
             return false;
         }
         if !begin(&mut self.pipes, Line::Seat(seat)) {
             return false;
         }
-        self.bots = without(self.bots, seat);
+        take_bot(&mut self.bots, seat);
+        let call = take_call(&mut self.calls, seat);
+        say(&mut self.pipes, Line::Seat(seat), call);
         self.passed.began(Line::Seat(seat));
         true
     }
 
     #[tactic(auto, using(crate::proofs::Logged::when_began))]
     fn accept_guest(&mut self, seat: u8) -> Option<u8> {
-        if !is_there(self.bots, seat) || count_down(&mut self.left) {
+        if !is_there(&self.bots, seat) || count_down(&mut self.left) {
             return None;
         }
-        let place = self.place_of_guest();
-        if !begin(&mut self.pipes, Line::Guest(place)) {
-            return None;
-        }
-        self.bots = without(self.bots, seat);
+        let place = self.begin_guest(seat)?;
         self.passed.began(Line::Guest(place));
         Some(place)
     }
@@ -371,6 +509,7 @@ impl Wire for MemoryWire {
         if count_down(&mut self.left) || !seat_guest(&mut self.pipes, place, seat) {
             return false;
         }
+        stand(&mut self.guests, place, None);
         self.passed.gave(place, seat);
         true
     }
@@ -409,11 +548,18 @@ impl Wire for MemoryWire {
     /// All that was written is on the way.
     fn flush(&mut self) {}
 
-    /// All who dial come in.
-    fn know(&mut self, _line: Line) {}
+    /// All who dial come in, so it counts of guests alone.
+    fn know(&mut self, line: Line) {
+        if let Line::Guest(place) = line {
+            know(&mut self.guests, place);
+        }
+    }
 
     fn close(&mut self, line: Line) {
         close(&mut self.pipes, line);
+        if let Line::Guest(place) = line {
+            stand(&mut self.guests, place, None);
+        }
     }
 
     #[tactic(auto, using(crate::proofs::Logged::when_logged))]

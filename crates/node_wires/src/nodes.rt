@@ -68,9 +68,9 @@ impl Nodes {
         }
     }
 
-    /// Where a node is dialled.
-    pub(crate) fn address(&self, node: u8) -> Option<SocketAddr> {
-        self.addresses.get(node as usize).copied()
+    /// Where a node is dialled, by the number of a line to it.
+    pub(crate) fn address(&self, line: u8) -> Option<SocketAddr> {
+        self.addresses.get(line as usize % NODES).copied()
     }
 
     /// Whether a node is dialled at this address, whatever the port.

@@ -1,13 +1,25 @@
 //! Which place one who comes by himself is given.
 
 ghost use Rattle.std.specs.Prelude.{◌≡◌, MatchOption};
-ghost use Rattle.node_wires.specs.Places.{places_of};
+ghost use Rattle.node_wires.specs.Places.{places_of, is_open_to_guest};
 
 use crate::comer::Comer;
 use crate::coming::{Best, Coming, Stander, better};
 use crate::connections::Connections;
-use crate::limits::{KEPT, OTHERS, STRANGERS};
+use crate::limits::{DOORS, KEPT, ORDINARY, OTHERS, STRANGERS};
 use std::net::IpAddr;
+
+/// Whether a guest of a seat may have this place: one of those of any seat, or of its own.
+pub(crate) fn is_open_to_guest(seat: u8, place: u8) -> bool
+    ensures { result ≡ is_open_to_guest seat place }
+{
+    let place = place as usize;
+    if place < ORDINARY {
+        true
+    } else {
+        (place - ORDINARY) / DOORS == seat as usize
+    }
+}
 
 impl Connections {
     ghost use Rattle.node_wires.specs.Places.{standing_at, is_stranger_at, strangers_below, is_kept_for, is_open_to, is_crowded, coming_by, rank, IsBest, IsFor, IsForNobody};
@@ -52,7 +64,7 @@ impl Connections {
     {
         match comer {
             Comer::Caller => self.nodes.is_home(address),
-            Comer::Guest => false,
+            Comer::Guest(_) => false,
             Comer::Asker => false,
         }
     }
@@ -71,7 +83,7 @@ impl Connections {
                     self.nodes.dials_from(node as u8, address)
                 }
             }
-            Comer::Guest => true,
+            Comer::Guest(seat) => is_open_to_guest(seat, place),
             Comer::Asker => true,
         }
     }
@@ -121,7 +133,7 @@ impl Connections {
 
     /// The place for one who comes from an address at this moment, if there is one: of those that are open to him a free one,
     /// else that of the stranger who came first; where too many of his address stand there, that of the first of them. No
-    /// stranger makes room before his time.
+    /// stranger makes room before his time. A guest for whom there is none has a free one of his seat alone.
     #[tactic(auto, using(crate::proofs::Choosing::is_for))]
     pub(crate) fn place_for(&self, comer: Comer, address: IpAddr, now: u64) -> Option<u8>
         ensures { MatchOption result (IsForNobody self.now.nodes self.now.lines.items comer address now) (IsFor self.now.nodes self.now.lines.items comer address now) }

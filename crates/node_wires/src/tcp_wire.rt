@@ -3,8 +3,8 @@
 ghost use Rattle.std.specs.Prelude.{◌≡◌, ◌≢◌, ◌≤◌, ◌++◌, ◌∷◌, [], length, take, IfOk, OnOk, OnErr, IfSome, IsNone};
 ghost use Rattle.node_wires.specs.Lines.{place_of};
 ghost use Rattle.node_wires.specs.Passages.{Began, Wrote};
-ghost use Rattle.node_wires.specs.declared.line.Line.TheVariants.{Caller};
-ghost use Rattle.node_wires.specs.declared.comer.Comer.TheVariants.{Caller as Calling};
+ghost use Rattle.node_wires.specs.declared.line.Line.TheVariants.{Caller, Guest};
+ghost use Rattle.node_wires.specs.declared.comer.Comer.TheVariants.{Caller as Calling, Guest as Guesting};
 
 use crate::bind_fault::{BindFault, Failed};
 use crate::comer::Comer;
@@ -392,9 +392,16 @@ impl Wire for TcpWire<'_> {
         true
     }
 
-    fn accept_guest(&mut self, seat: u8) -> Option<u8> {
+    /// He has a place of those of any seat: a free one, or that of the stranger who came first and has stood 0.3 seconds there;
+    /// where there is none, or too many of his address stand there, a free one of his seat alone.
+    fn accept_guest(&mut self, seat: u8) -> Option<u8>
+        ensures began { IfSome result (λ place. self.new.passed.items ≡ self.old.passed.items ++ Began (Guest place) ∷ []) }
+        ensures none { IsNone result → self.new.passed.items ≡ self.old.passed.items }
+        ensures taken { IfSome result (IsTakenIn (Guesting seat) self.old.connections.nodes self.old.connections.lines.items self.new.connections.lines.items) }
+        ensures stay { IsNone result → self.new.connections.lines.items ≡ self.old.connections.lines.items }
+    {
         let came = self.ports.next_at_seat(seat);
-        let place = self.take_in(Comer::Guest, came)?;
+        let place = self.take_in(Comer::Guest(seat), came)?;
         self.passed.began(Line::Guest(place));
         Some(place)
     }

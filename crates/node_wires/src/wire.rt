@@ -53,7 +53,8 @@ pub trait Wire {
         ensures { passed self.new ≡ passed self.old };
 
     /// Begins a connection to a peer, in place of the one that its line has. Whether it is answered shows by a later read or
-    /// write.
+    /// write. By a number that is greater by `NODES` a second one to it is begun, beside that; wires that have one line to each
+    /// peer alone fail then.
     fn dial(&mut self, peer: u8) -> Result<(), WireFault>
         ensures began { OnOk result (passed self.new ≡ passed self.old ++ Began (Peer peer) ∷ []) }
         ensures failed { OnErr result (passed self.new ≡ passed self.old) };

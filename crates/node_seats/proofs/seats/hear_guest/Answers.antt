@@ -1,13 +1,53 @@
-use Rattle.std.proofs.Common.{List, subst}
-use Rattle.std.specs.Prelude.{Some}
+use Rattle.std.proofs.Common.{List, ap, subst, sym, ◌∙◌}
+use Rattle.std.specs.Prelude.{Some, Option}
+use Rattle.node_seats.specs.declared.guest.Guest.{Guest}
 use Rattle.node_seats.specs.declared.token_digest.TokenDigest.{TokenDigest}
-use Rattle.node_seats.specs.Guesting.{Passes}
-use Rattle.node_seats.proofs.Coming.{passed_on, heard_passes}
+use Rattle.node_seats.specs.Keeping.{IsShown, stands_at}
+use Rattle.node_seats.proofs.Coming.{passed_on, heard_passes, passes_from}
+use Rattle.node_seats.proofs.Keeping.{but_on, leaves_of, nobody_fit, fit_open, fit_shown, fit_still, newest_gone, newest_open, newest_shown, newest_still}
 use Rattle.node_seats.proofs.seats.hear_guest.Goals as goal
 
-pub returns-in-Some-clause-passes : goal.returns-in-Some-clause-passes
-returns-in-Some-clause-passes g c =
+pub returns-in-Nothing-clause-fit : goal.returns-in-Nothing-clause-fit
+returns-in-Nothing-clause-fit g c = fit_open c.args.guests.now.tokens.items (stands_at c.hear.new.self.guests.items c.args.place) c.in-Nothing.ensures.left
+
+pub returns-in-Nothing-clause-newest : goal.returns-in-Nothing-clause-newest
+returns-in-Nothing-clause-newest g c = newest_open c.args.place c.hear.new.self.guests.items c.in-Nothing.ensures.left
+
+pub returns-in-Refused-clause-fit : goal.returns-in-Refused-clause-fit
+returns-in-Refused-clause-fit g c = nobody_fit c.args.guests.now.tokens.items (stands_at c.dismiss.new.self.guests.items c.args.place) c.dismiss.ensures.gone
+
+pub returns-in-Refused-clause-newest : goal.returns-in-Refused-clause-newest
+returns-in-Refused-clause-newest g c = newest_gone c.args.place c.dismiss.new.self.guests.items c.dismiss.ensures.gone
+
+pub returns-in-Refused-clause-kept : goal.returns-in-Refused-clause-kept
+returns-in-Refused-clause-kept g c =
+    but_on c.args.place c.args.guests.now.guests.items c.hear.new.self.guests.items c.dismiss.new.self.guests.items c.hear.ensures.kept
+    (leaves_of c.hear.new.self.guests.items c.dismiss.new.self.guests.items c.args.place c.dismiss.ensures.gone c.dismiss.ensures.others)
+
+pub returns-in-Shown-clause-fit : goal.returns-in-Shown-clause-fit
+returns-in-Shown-clause-fit g c =
+    let tokens : List TokenDigest = c.args.guests.now.tokens.items in
+    fit_still tokens c.prefer.new.self.guests.items c.welcome.new.guests.guests.items c.args.place
+    (fit_still tokens c.hear.new.self.guests.items c.prefer.new.self.guests.items c.args.place (fit_shown tokens c.in-Shown.seat (stands_at c.hear.new.self.guests.items c.args.place) c.in-Shown.ensures.left) c.prefer.ensures.left)
+    c.welcome.ensures.left
+
+pub returns-in-Shown-clause-newest : goal.returns-in-Shown-clause-newest
+returns-in-Shown-clause-newest g c =
+    let tokens : List TokenDigest = c.args.guests.now.tokens.items in
+    newest_still c.prefer.new.self.guests.items c.welcome.new.guests.guests.items c.args.place
+    (newest_shown tokens c.in-Shown.seat c.args.place c.prefer.new.self.guests.items (subst (λ (one : Option Guest). IsShown tokens c.in-Shown.seat one) (sym c.prefer.ensures.here) c.in-Shown.ensures.left) c.prefer.ensures.alone)
+    c.welcome.ensures.left
+
+pub returns-in-Shown-clause-kept : goal.returns-in-Shown-clause-kept
+returns-in-Shown-clause-kept g c =
+    but_on c.args.place c.args.guests.now.guests.items c.prefer.new.self.guests.items c.welcome.new.guests.guests.items
+    (but_on c.args.place c.args.guests.now.guests.items c.hear.new.self.guests.items c.prefer.new.self.guests.items c.hear.ensures.kept c.prefer.ensures.left)
+    c.welcome.ensures.left
+
+pub returns-in-Shown-clause-passes : goal.returns-in-Shown-clause-passes
+returns-in-Shown-clause-passes g c =
     let tokens : List TokenDigest = c.args.guests.now.tokens.items in
     passed_on (Some tokens) c.welcome.result c.args.guests.now.passed.items c.hear.new.self.passed.items c.welcome.new.guests.passed.items (g.W.Wire.passed c.args.wire.now) (g.W.Wire.passed c.hear.new.wire) (g.W.Wire.passed c.welcome.new.wire)
     (heard_passes tokens c.args.guests.now.passed.items c.hear.new.self.passed.items (g.W.Wire.passed c.args.wire.now) (g.W.Wire.passed c.hear.new.wire) c.hear.ensures.grows)
-    (subst (λ t. Passes (Some t.items) c.welcome.result c.hear.new.self.passed.items c.welcome.new.guests.passed.items (g.W.Wire.passed c.hear.new.wire) (g.W.Wire.passed c.welcome.new.wire)) c.hear.ensures.tokens c.welcome.ensures.passes)
+    (passes_from tokens c.prefer.new.self.tokens.items c.welcome.result c.hear.new.self.passed.items c.prefer.new.self.passed.items c.welcome.new.guests.passed.items (g.W.Wire.passed c.hear.new.wire) (g.W.Wire.passed c.prefer.new.wire)
+    (g.W.Wire.passed c.welcome.new.wire) (ap (λ ts. ts.items) (c.prefer.ensures.tokens ∙ c.hear.ensures.tokens)) (ap (λ ps. ps.items) c.prefer.ensures.passed) c.prefer.ensures.wired c.welcome.ensures.passes)

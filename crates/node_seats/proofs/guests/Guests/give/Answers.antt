@@ -1,7 +1,4 @@
 use Rattle.node_seats.proofs.guests.Guests.give.Goals as goal
 
 pub invariant_of-self : goal.invariant_of-self
-invariant_of-self g c = record { heard = c.refuse_in.ensures c.args.self.now.passed.items c.args.self.now.heard }
-
-pub invariant_of-self-2 : goal.invariant_of-self-2
-invariant_of-self-2 g c = record { heard = c.clear.ensures c.args.self.now.passed.items c.gave.new.self.items c.args.seat c.gave.ensures c.args.self.now.heard }
+invariant_of-self g c = record { heard = c.clear.ensures.given c.args.self.now.passed.items c.gave.new.self.items c.args.seat c.gave.ensures c.args.self.now.heard }
