@@ -48,10 +48,10 @@ use Rattle.node_links.specs.Telling.{read_behind}
 use Rattle.node_links.specs.Talks.{Talk, way_behind, bytes_of, role_of, hellos_of, their_way, IsHelloIn, IsWritten, TakesCoded, SaysCoded, SaysFurther, HeardBy, SaysHeard}
 use Rattle.node_links.specs.Going.{Begins, HasHello, Awaits, Proved, CodedAt, CodedOn, CodedGoes, GoesOn, Goes, peer_of, Tells}
 
-abbrev Told : Type 0
+abbrev pub Told : Type 0
 Told = Result Heard PeerFault
 
-abbrev Came : Type 0
+abbrev pub Came : Type 0
 Came = Result Event ConnectionFault
 
 -- each event goes by what stood in front of what came
@@ -64,10 +64,10 @@ BeginsEach = (old : Channel) → ChannelBegins old (begun_next old)
 
 -- ---- a channel that has told an event has read a record
 
-none_is_told : (came : Came) → Some came ≡ None → ⊥
+pub none_is_told : (came : Came) → Some came ≡ None → ⊥
 none_is_told came e = absurd cc
 
-fault_is_told : (event : Event) (fault : ConnectionFault) → ◌≡◌ {A = Option Came} (Some (Ok event)) (Some (Err fault)) → ⊥
+pub fault_is_told : (event : Event) (fault : ConnectionFault) → ◌≡◌ {A = Option Came} (Some (Ok event)) (Some (Err fault)) → ⊥
 fault_is_told event fault e = absurd cc
 
 reads_by : (phase : Phase) (old new : Channel) (event : Event) → Next phase old (Some (Ok event)) new → Reads old new (Ok event)
@@ -78,13 +78,13 @@ reads_by (phases.Greeting own) old new event next = next
 reads_by (phases.Proving theirs ways) old new event next = next
 reads_by (phases.Open ways) old new event next = next
 
-read_of : (old new : Channel) (event : Event) → Next old.phase old (Some (Ok event)) new → Reads old new (Ok event)
+pub read_of : (old new : Channel) (event : Event) → Next old.phase old (Some (Ok event)) new → Reads old new (Ok event)
 read_of old new event next = reads_by old.phase old new event next
 
-key_kept : (old new : Channel) (told : Came) → Reads old new told → new.key ≡ old.key
+pub key_kept : (old new : Channel) (told : Came) → Reads old new told → new.key ≡ old.key
 key_kept old new told reads = ap (λ (c : Channel). c.key) reads.others
 
-front_taken : (old new : Channel) (told : Came) → Reads old new told → old.came.waiting ≡ front old.came.waiting ++ new.came.waiting
+pub front_taken : (old new : Channel) (told : Came) → Reads old new told → old.came.waiting ≡ front old.came.waiting ++ new.came.waiting
 front_taken old new told reads = sym (take-append-drop (needed old.came.waiting) old.came.waiting) ∙ ap (λ (t : List ℕ). front old.came.waiting ++ t) (sym reads.came)
 
 -- ---- what is said first
@@ -114,14 +114,14 @@ version_same First Second e = absurd cc
 version_same Second First e = absurd cc
 version_same Second Second e = refl
 
-abbrev OfVersion : Option Hello → Hello → Type 0
+abbrev pub OfVersion : Option Hello → Hello → Type 0
 OfVersion mine hello = IfSome mine (λ own. own.version ≡ hello.version)
 
 of_same : (mine : Option Hello) (hello : Hello) → OfVersion mine hello → of_version mine (Some hello) ≡ Some hello
 of_same None hello same = refl
 of_same (Some mine) hello same = ap (λ (b : Bool). cond b (Some hello) None) (version_same mine.version hello.version same)
 
-step_behind : (key : List ℕ) (mine : Option Hello) (bytes : List ℕ) (hello : Hello) → IsHelloIn hello bytes → OfVersion mine hello → (front_step key (phases.Greeting mine) bytes).phase ≡ (greeted key mine (Some hello)).phase
+pub step_behind : (key : List ℕ) (mine : Option Hello) (bytes : List ℕ) (hello : Hello) → IsHelloIn hello bytes → OfVersion mine hello → (front_step key (phases.Greeting mine) bytes).phase ≡ (greeted key mine (Some hello)).phase
 unfolding front_step stepped
 step_behind key mine bytes hello is same =
     ap (λ (k : Result Kind _). (step_by key (phases.Greeting mine) k (drop 5 bytes)).phase) is.0 ∙ ap (λ (h : Option Hello). (greeted key mine (of_version mine h)).phase) is.1 ∙ ap (λ (h : Option Hello). (greeted key mine h).phase) (of_same mine hello same)

@@ -2,6 +2,7 @@
 use Rattle.std.proofs.Common.{◌≡◌, ℕ, ◌-◌, List, [], ◌∷◌, ◌++◌, replicate, true, false, Option, Some, None, Result, Ok, Err, refl, ap, codes}
 use Rattle.std.specs.Fmt.{digits}
 use Rattle.peer_codes.specs.declared.fault.RecordFault.TheVariants.{BadLength, BadKind, BadHello}
+use Rattle.paxos_wire.specs.declared.ballot.Ballot.{Ballot}
 use Rattle.peer_codes.specs.declared.hello.Life.{Life}
 use Rattle.peer_codes.specs.declared.hello.Link.{Link}
 use Rattle.peer_codes.specs.declared.hello.Link.TheVariants.{Plain, Coded}
@@ -41,6 +42,7 @@ use Rattle.node_links.specs.Pausing.{pause_after, closed_pause}
 use Rattle.node_links.specs.Noting.{fault_place, is_told}
 use Rattle.node_links.specs.Pulses.{wait_of, beat_of, heard_at}
 use Rattle.node_links.specs.Asking.{asked_slot, is_again}
+use Rattle.node_links.specs.declared.accepted.LastAccepted.{LastAccepted}
 use Rattle.node_links.specs.Repeating.{accepted_slot, ends_block, is_due}
 use Rattle.node_links.specs.Forwarding.{is_forward, forwarded_after, again_in}
 use Rattle.node_links.specs.declared.forwarded.Forwarded.{Forwarded}
@@ -50,6 +52,7 @@ use Rattle.node_links.specs.declared.owed.Question.{Question}
 use Rattle.node_links.specs.declared.owed.Owed.{Owed}
 use Rattle.node_links.specs.declared.refusals.Refusals.{Refusals}
 use Rattle.node_links.specs.Frames.{frame_of}
+use Rattle.node_links.specs.Promising.{promise_in, promises_less, higher}
 use Rattle.node_links.specs.Owing.{question_in, answered_in, lost_of, asked_by, heard_by, serves}
 use Rattle.node_links.specs.Refusing.{refused_by, due_at}
 use Rattle.node_links.specs.declared.own.Known.TheVariants.{Nothing, One, Two}
@@ -67,6 +70,9 @@ use Rattle.node_links.specs.Versions.{turn_behind}
 
 pub store_replaced_line : peer_fault_line (faults.StoreReplaced whose.Own) ≡ codes "127 StoreReplaced"
 store_replaced_line = refl
+
+pub store_older_line : peer_fault_line (faults.StoreOlder whose.Other) ≡ codes "130 StoreOlder"
+store_older_line = refl
 
 pub other_digest_line : peer_fault_line (faults.OtherMatch (Digest (record { here = 439041101; there = 10 }))) ≡ codes "123 OtherMatch digest: here 1a2b3c4d, there 0000000a"
 unfolding digits
@@ -225,6 +231,46 @@ settings_as_bytes = refl
 pub bytes_as_settings : settings_of (settings_text settings) ≡ Ok settings
 bytes_as_settings = refl
 
+-- ---- the ballot that a node is known to have promised
+
+abbrev ballot : ℕ → ℕ → Ballot
+ballot round node = record { round = round; node = node }
+
+-- a Refuse of (1, 0) at slot 0 by who promised (3, 1)
+pub refuse_shows_its_promise : promise_in (0 ∷ 0 ∷ 0 ∷ 16 ∷ 2 ∷ 3 ∷ 0 ∷ 0 ∷ 0 ∷ 1 ∷ 0 ∷ 0 ∷ 0 ∷ 0 ∷ 0 ∷ 0 ∷ 0 ∷ 0 ∷ 3 ∷ 1 ∷ []) ≡ Some (ballot 3 1)
+refuse_shows_its_promise = refl
+
+pub promise_shows_its_ballot : promise_in (0 ∷ 0 ∷ 0 ∷ 12 ∷ 2 ∷ 2 ∷ 0 ∷ 0 ∷ 0 ∷ 2 ∷ 2 ∷ 0 ∷ 0 ∷ 0 ∷ 0 ∷ 0 ∷ []) ≡ Some (ballot 2 2)
+promise_shows_its_ballot = refl
+
+-- who prepares (2, 2) needn't have promised it
+pub prepare_shows_none : promise_in (0 ∷ 0 ∷ 0 ∷ 11 ∷ 2 ∷ 1 ∷ 0 ∷ 0 ∷ 0 ∷ 2 ∷ 2 ∷ 0 ∷ 0 ∷ 0 ∷ 0 ∷ []) ≡ None
+prepare_shows_none = refl
+
+pub accept_shows_none : promise_in (0 ∷ 0 ∷ 0 ∷ 19 ∷ 2 ∷ 4 ∷ 0 ∷ 0 ∷ 0 ∷ 2 ∷ 2 ∷ 0 ∷ 0 ∷ 0 ∷ 0 ∷ 1 ∷ 3 ∷ 0 ∷ 0 ∷ 0 ∷ 0 ∷ 0 ∷ 0 ∷ []) ≡ None
+accept_shows_none = refl
+
+pub older_copy : promises_less (Some (ballot 2 2)) (Some (ballot 3 0)) ≡ true
+older_copy = refl
+
+pub same_promise : promises_less (Some (ballot 3 0)) (Some (ballot 3 0)) ≡ false
+same_promise = refl
+
+pub nothing_promised : promises_less None (Some (ballot 1 0)) ≡ true
+nothing_promised = refl
+
+pub nothing_known : promises_less None None ≡ false
+nothing_known = refl
+
+pub greater_stays : higher (Some (ballot 3 0)) (Some (ballot 2 2)) ≡ Some (ballot 3 0)
+greater_stays = refl
+
+pub ballot_is_told : further_of 3 (record { kind = 6; bytes = record { items = 0 ∷ 0 ∷ 1 ∷ 2 ∷ 4 ∷ [] } }) ≡ Ok (furthers.Promised (ballot 258 4))
+ballot_is_told = refl
+
+pub ballot_of_four_bytes : further_of 3 (record { kind = 6; bytes = record { items = 0 ∷ 0 ∷ 1 ∷ 2 ∷ [] } }) ≡ Err BadLength
+ballot_of_four_bytes = refl
+
 -- a kind that isn't known here is passed over, of whatever bytes
 pub unknown_passed_over : further_of 3 (record { kind = 9; bytes = record { items = 1 ∷ 2 ∷ [] } }) ≡ Ok furthers.Unknown
 unknown_passed_over = refl
@@ -303,7 +349,7 @@ refused_hello_closes = refl
 -- ---- what waits, and what is written
 
 abbrev waits : Waits
-waits = record { beat = Some beat; lives = Some three_lives; settings = None; frames = frame ∷ [] }
+waits = record { beat = Some beat; lives = Some three_lives; settings = None; promised = None; frames = frame ∷ [] }
 
 pub beat_first : next_of Second waits ≡ Some (record_of.Beat beat)
 beat_first = refl
@@ -321,7 +367,7 @@ nothing_waits = refl
 pub frame_behind : next_of First (rest_of First waits) ≡ Some (record_of.Frame frame)
 frame_behind = refl
 
-pub lives_wait_on : rest_of First (rest_of First waits) ≡ record { beat = None; lives = Some three_lives; settings = None; frames = [] }
+pub lives_wait_on : rest_of First (rest_of First waits) ≡ record { beat = None; lives = Some three_lives; settings = None; promised = None; frames = [] }
 lives_wait_on = refl
 
 abbrev three : List ℕ
@@ -344,7 +390,7 @@ abbrev idle : Phase → Option Hello → PlainConnection
 idle phase mine = record { phase = phase; came = record { waiting = []; room = 0 }; out = record { hello = mine; begun = record { items = [] }; written = 0 } }
 
 -- on an open connection the beat is begun, and the frame waits on
-pub beat_begun : (begun_next (idle (phases.Open hello) None) waits).1 ≡ record { beat = None; lives = Some three_lives; settings = None; frames = frame ∷ [] }
+pub beat_begun : (begun_next (idle (phases.Open hello) None) waits).1 ≡ record { beat = None; lives = Some three_lives; settings = None; promised = None; frames = frame ∷ [] }
 unfolding begun_next
 beat_begun = refl
 
@@ -514,13 +560,17 @@ forward_is_one = refl
 pub ask-no_forward : is_forward (0 ∷ 0 ∷ 0 ∷ 6 ∷ 2 ∷ 7 ∷ 0 ∷ 0 ∷ 0 ∷ 1 ∷ []) ≡ false
 ask-no_forward = refl
 
-pub forward_goes_again : (frame : Frame) → again_in (record { last = Some frame; sent = 1000 }) 21000 ≡ 0
+pub forward_goes_again : (frame : Frame) → again_in (record { last = Some frame; sent = 1000 }) 21000 7000 ≡ 0
 forward_goes_again frame = refl
 
-pub forward-not_so_soon : (frame : Frame) → again_in (record { last = Some frame; sent = 1000 }) 20999 ≡ 1
+pub forward-not_so_soon : (frame : Frame) → again_in (record { last = Some frame; sent = 1000 }) 20999 7000 ≡ 1
 forward-not_so_soon frame = refl
 
-pub forward-none_kept : again_in (record { last = None; sent = 1000 }) 21000 ≡ 1000000
+-- over a way there and back of 90 ms
+pub forward-waits_for_the_way : (frame : Frame) → again_in (record { last = Some frame; sent = 1000 }) 21000 90000 ≡ 70000
+forward-waits_for_the_way frame = refl
+
+pub forward-none_kept : again_in (record { last = None; sent = 1000 }) 21000 7000 ≡ 1000000
 forward-none_kept = refl
 
 pub ask-keeps_no_forward : (frame : Frame) (old : Forwarded) → forwarded_after (is_forward (0 ∷ 0 ∷ 0 ∷ 6 ∷ 2 ∷ 7 ∷ 0 ∷ 0 ∷ 0 ∷ 1 ∷ [])) frame 5 old ≡ old
@@ -618,8 +668,8 @@ other_ballot = refl
 abbrev refusals : Refusals
 refusals = record {
   peer = None;
-  since = None ∷ None ∷ None ∷ Some (record { count = 1; fault = faults.OtherMatch (Nodes (record { said = 5; expected = 3 })) }) ∷ None ∷ None ∷ Some (record { count = 2; fault = faults.UnexpectedRecord }) ∷ None ∷ None ∷ [];
-  noted = None ∷ None ∷ None ∷ None ∷ None ∷ None ∷ Some 5000 ∷ None ∷ None ∷ [];
+  since = None ∷ None ∷ None ∷ Some (record { count = 1; fault = faults.OtherMatch (Nodes (record { said = 5; expected = 3 })) }) ∷ None ∷ None ∷ Some (record { count = 2; fault = faults.UnexpectedRecord }) ∷ None ∷ None ∷ None ∷ [];
+  noted = None ∷ None ∷ None ∷ None ∷ None ∷ None ∷ Some 5000 ∷ None ∷ None ∷ None ∷ [];
 }
 
 pub not_noted_yet : due_at refusals 6 1004999 ≡ None
@@ -635,8 +685,15 @@ other_number_noted = refl
 pub counted : due_at (refused_by (faults.OtherMatch (Number (Called (record { said = 2; expected = 0 })))) refusals) 3 5001 ≡ Some (record { count = 2; fault = faults.OtherMatch (Number (Called (record { said = 2; expected = 0 }))) })
 counted = refl
 
-pub none_goes_again : is_due (record { last = None; sent = 0 }) 900000 ≡ false
+pub none_goes_again : is_due (record { last = None; sent = 0 }) 900000 0 ≡ false
 none_goes_again = refl
+
+pub accepted_goes_again : (last : LastAccepted) → is_due (record { last = Some last; sent = 1000 }) 101000 7000 ≡ true
+accepted_goes_again last = refl
+
+-- over a way there and back of 250 ms
+pub accepted-waits_for_the_way : (last : LastAccepted) → is_due (record { last = Some last; sent = 1000 }) 250999 250000 ≡ false
+accepted-waits_for_the_way last = refl
 
 -- ---- notes of a peer's faults
 

@@ -1,9 +1,10 @@
--- Lives and settings read back as they were told.
-use Rattle.std.proofs.Common.{◌≡◌, inl, inr, ℕ, zero, suc, ◌+◌, ◌*◌, ◌<◌, ◌≤◌, ◌==◌, Bool, true, false, cond, List, [], ◌++◌, length, take, drop, get_or, set, replicate, Option, Some, None, IfSome, Result, Ok, Err, refl, sym, ap, subst, ◌∙◌, add-one, length-append, arith}
+-- What records of further kinds tell reads back as it was told.
+use Rattle.std.proofs.Common.{◌≡◌, inl, inr, ℕ, zero, suc, ◌+◌, ◌*◌, ◌<◌, ◌≤◌, ◌==◌, Bool, true, false, cond, List, [], ◌∷◌, ◌++◌, length, take, drop, get_or, set, replicate, Option, Some, None, IfSome, Result, Ok, Err, refl, sym, ap, subst, ◌∙◌, add-one, length-append, arith}
 use Rattle.std.proofs.lemmas.Bool.Decides.{eqb_tells, leb_tells}
 use Rattle.std.proofs.lemmas.Bool.{le-leb, eq-eqb}
 use Rattle.std.proofs.lemmas.List.{take_all, take-append-le, drop_at, drop-take, get_or-set_same, get_or-set_other, length-set, ext_get_or}
 use Rattle.std.specs.Prelude.{min, nat_le, ◌&&◌}
+use Rattle.paxos_wire.specs.declared.ballot.Ballot.{Ballot}
 use Rattle.peer_codes.specs.declared.hello.Life.{Life}
 use Rattle.peer_codes.specs.Fits.{IsLife, are_zeros}
 use Rattle.peer_codes.specs.Reading.{kept_of}
@@ -14,6 +15,7 @@ use Rattle.peer_codes.specs.declared.fault.RecordFault.TheVariants.{BadLength}
 use Rattle.node_links.specs.declared.lives.Lives.{Lives}
 use Rattle.node_links.specs.declared.settings.Settings.{Settings}
 use Rattle.node_links.specs.Telling.{settings_of, settings_text, SettingsReadBack}
+use Rattle.node_links.specs.Promising.{PromisedReadsBack}
 use Rattle.node_links.specs.Lives.{life_at, lives_in, lives_of, life_text, text_of, lives_text, AreLives, LivesReadBack}
 
 -- ---- one place more
@@ -151,3 +153,12 @@ settings_read_back s are =
     (big_number-reads_back 4 s.away s.tokens are.away)
     refl
     (let long = are.tokens in omega (arith, long))
+
+-- ---- ballots
+
+abbrev ReadBallot : Type 0
+ReadBallot = Result Ballot RecordFault
+
+pub promised_reads_back : PromisedReadsBack
+promised_reads_back ballot below =
+    ap (λ (round : ℕ). let r : ReadBallot = Ok (record { round = round; node = ballot.node }) in r) (big_number-reads_back 4 ballot.round (ballot.node ∷ []) below)

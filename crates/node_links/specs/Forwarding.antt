@@ -1,5 +1,5 @@
 -- The last act that went on to a peer, and when it goes again.
-use Rattle.std.specs.Prelude.{ℕ, ◌-◌, ◌==◌, ◌&&◌, nat_le, Bool, true, false, List, length, slice_index, Option, Some, None}
+use Rattle.std.specs.Prelude.{ℕ, ◌-◌, ◌==◌, ◌&&◌, nat_le, max, Bool, true, false, List, length, slice_index, Option, Some, None}
 use Rattle.peer_codes.specs.declared.frame.Frame.{Frame}
 use Rattle.node_links.specs.declared.limits.TheConstants.{FORWARD_AGAIN, LOOK}
 use Rattle.node_links.specs.declared.forwarded.Forwarded.{Forwarded}
@@ -17,6 +17,6 @@ abbrev pub left_of : Option Frame → ℕ → ℕ
 left_of None left = LOOK
 left_of (Some frame) left = left
 
--- it goes again each time that so long has passed
-abbrev pub again_in : Forwarded → ℕ → ℕ
-again_in f now = left_of f.last (FORWARD_AGAIN - (now - f.sent))
+-- it goes again each time that so long has passed, and the way there and back
+abbrev pub again_in : Forwarded → ℕ → ℕ → ℕ
+again_in f now round_trip = left_of f.last (max FORWARD_AGAIN round_trip - (now - f.sent))

@@ -17,6 +17,7 @@ pub mod Pulses
 pub mod Asking
 pub mod Repeating
 pub mod Forwarding
+pub mod Promising
 pub mod Owing
 pub mod Refusing
 pub mod Histories
@@ -26,4 +27,5 @@ pub mod Noting
 pub mod Coding
 pub mod Talks
 pub mod Going
+pub mod Speaking
 pub mod Kinds

@@ -20,6 +20,7 @@ peer_fault_code faults.WrongTag = 125
 peer_fault_code faults.UnexpectedRecord = 126
 peer_fault_code (faults.StoreReplaced whose) = 127
 peer_fault_code faults.AlreadyHere = 128
+peer_fault_code (faults.StoreOlder whose) = 130
 
 -- the zeros in front of the hexadecimal digits of a number below 2 ^ 32, so that there are eight
 abbrev pub zeros : ℕ → List ℕ
@@ -69,3 +70,4 @@ peer_fault_line faults.WrongTag = codes "125 WrongTag"
 peer_fault_line faults.UnexpectedRecord = codes "126 UnexpectedRecord"
 peer_fault_line (faults.StoreReplaced whose) = codes "127 StoreReplaced"
 peer_fault_line faults.AlreadyHere = codes "128 AlreadyHere"
+peer_fault_line (faults.StoreOlder whose) = codes "130 StoreOlder"

@@ -22,6 +22,8 @@ fault_place faults.UnexpectedRecord = 8
 fault_place (faults.StoreReplaced Own) = 9
 fault_place (faults.StoreReplaced Other) = 10
 fault_place faults.AlreadyHere = 11
+fault_place (faults.StoreOlder Own) = 12
+fault_place (faults.StoreOlder Other) = 13
 
 -- one that wasn't told yet, or so long ago
 abbrev pub is_told : Option ℕ → ℕ → Bool

@@ -13,6 +13,7 @@ is_standing faults.WrongTag = false
 is_standing faults.UnexpectedRecord = false
 is_standing (faults.StoreReplaced whose) = true
 is_standing faults.AlreadyHere = true
+is_standing (faults.StoreOlder whose) = true
 
 -- twice as long as the last one, from REFUSED to LONGEST; 0 stands for none
 abbrev pub longer : ℕ → ℕ

@@ -23,6 +23,7 @@ number_of faults.WrongTag = 5
 number_of faults.UnexpectedRecord = 6
 number_of (faults.StoreReplaced whose) = 7
 number_of faults.AlreadyHere = 8
+number_of (faults.StoreOlder whose) = 9
 
 -- one more of the number of this fault
 abbrev pub refused_by : PeerFault → Refusals → Refusals
@@ -43,5 +44,5 @@ behind_note number now old = record old { since = set old.since number None; not
 
 -- what is due of one number is noted, and nothing only where of none anything is due
 abbrev pub Notes : Refusals → ℕ → Option Refused → Refusals → Type 0
-Notes old now None new = (new ≡ old) × ((number : ℕ) → number < 9 → due_at old number now ≡ None)
+Notes old now None new = (new ≡ old) × ((number : ℕ) → number < 10 → due_at old number now ≡ None)
 Notes old now (Some refused) new = (number : ℕ) × (due_at old number now ≡ Some refused) × (new ≡ behind_note number now old)

@@ -1,5 +1,5 @@
 -- The last Accepted that went to a peer, and when it goes again.
-use Rattle.std.specs.Prelude.{ℕ, ◌-◌, ◌%◌, ◌==◌, ◌&&◌, nat_le, Bool, if◌then◌else◌, List, length, drop, slice_index, Option, Some, None, is_some}
+use Rattle.std.specs.Prelude.{ℕ, ◌-◌, ◌%◌, ◌==◌, ◌&&◌, nat_le, max, Bool, if◌then◌else◌, List, length, drop, slice_index, Option, Some, None, is_some}
 use Rattle.byteorder.specs.Endian.{big_number}
 use Rattle.peer_codes.specs.declared.frame.Frame.{Frame}
 use Rattle.node_links.specs.declared.limits.TheConstants.{BLOCK, REPEAT}
@@ -26,9 +26,9 @@ slot_of (Some last) = Some last.slot
 abbrev pub slot_in : Accepted → Option ℕ
 slot_in a = slot_of a.last
 
--- it goes again each time that so long has passed
-abbrev pub is_due : Accepted → ℕ → Bool
-is_due a now = is_some a.last && nat_le REPEAT (now - a.sent)
+-- it goes again each time that so long has passed, and the way there and back
+abbrev pub is_due : Accepted → ℕ → ℕ → Bool
+is_due a now round_trip = is_some a.last && nat_le (max REPEAT round_trip) (now - a.sent)
 
 -- the same frame, if there is one
 abbrev pub copy_of : Option LastAccepted → Option Frame

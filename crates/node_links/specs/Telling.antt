@@ -7,12 +7,14 @@ use Rattle.peer_codes.specs.declared.version.Version.{Version}
 use Rattle.peer_codes.specs.declared.version.Version.TheVariants.{First, Second}
 use Rattle.peer_codes.specs.declared.hello.Hello.{Hello}
 use Rattle.peer_codes.specs.declared.more.More.{More}
-use Rattle.node_links.specs.declared.limits.TheConstants.{LIVES, SETTINGS, SETTINGS_BYTES, TOKENS_BYTES}
+use Rattle.paxos_wire.specs.declared.ballot.Ballot.{Ballot}
+use Rattle.node_links.specs.declared.limits.TheConstants.{LIVES, SETTINGS, PROMISED, SETTINGS_BYTES, TOKENS_BYTES}
 use Rattle.node_links.specs.declared.lives.Lives.{Lives}
 use Rattle.node_links.specs.declared.settings.Settings.{Settings}
 use Rattle.node_links.specs.declared.further.Further.{Further}
 use Rattle.node_links.specs.declared.further.Further.TheVariants as furthers
 use Rattle.node_links.specs.Lives.{lives_of}
+use Rattle.node_links.specs.Promising.{promised_of}
 
 -- ---- settings
 
@@ -49,12 +51,17 @@ abbrev pub settings_further : Result Settings RecordFault → Result Further Rec
 settings_further (Ok settings) = Ok (furthers.Settings settings)
 settings_further (Err fault) = Err fault
 
--- lives and settings are read, and what isn't known is passed over
+abbrev pub promised_further : Result Ballot RecordFault → Result Further RecordFault
+promised_further (Ok ballot) = Ok (furthers.Promised ballot)
+promised_further (Err fault) = Err fault
+
+-- lives, settings and a ballot are read, and what isn't known is passed over
 abbrev pub further_of : ℕ → More → Result Further RecordFault
 further_of nodes more =
     if more.kind == LIVES then lives_further (lives_of nodes more.bytes.items)
     else (if more.kind == SETTINGS then settings_further (settings_of more.bytes.items)
-    else Ok furthers.Unknown)
+    else (if more.kind == PROMISED then promised_further (promised_of more.bytes.items)
+    else Ok furthers.Unknown))
 
 -- behind Hellos of the first version none comes
 abbrev pub read_by : Version → ℕ → More → Result Further RecordFault

@@ -110,11 +110,11 @@ impl Accepted {
         }
     }
 
-    /// Whether it goes again now, where the peer is behind.
-    pub fn is_due(&self, now: u64) -> bool
-        ensures { result ≡ is_due self.now now }
+    /// Whether it goes again now, where the peer is behind and the way there and back takes so long.
+    pub fn is_due(&self, now: u64, round_trip: u64) -> bool
+        ensures { result ≡ is_due self.now now round_trip }
     {
-        self.last.is_some() && REPEAT <= now.saturating_sub(self.sent)
+        self.last.is_some() && REPEAT.max(round_trip) <= now.saturating_sub(self.sent)
     }
 
     /// The last that went goes again now.

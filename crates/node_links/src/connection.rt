@@ -1,4 +1,4 @@
-ghost use Rattle.std.specs.Prelude.{◌≡◌, ◌≤◌, ◌<◌, ◌++◌, List, ℕ, length, Some, None, OnOk, OnErr};
+ghost use Rattle.std.specs.Prelude.{◌≡◌, ◌≤◌, ◌<◌, ◌++◌, ◌∷◌, [], List, ℕ, length, Some, None, OnOk, OnErr};
 ghost use Rattle.node_links.specs.declared.own.Own as owns;
 ghost use Rattle.node_links.specs.declared.connection.Connection.TheVariants.{Coded};
 ghost use Rattle.node_links.specs.Talks.{Talk};
@@ -6,6 +6,7 @@ ghost use Rattle.node_links.specs.Judging.{IsKnown};
 ghost use Rattle.node_links.specs.Waiting.{IsBegun};
 ghost use Rattle.node_links.specs.Arriving.{told};
 ghost use Rattle.node_links.specs.Kinds.{IsCalling, IsListening, room_of, TakesIn, NextBy, answered_coded, answered_by, settled_by, begun_by, Writes};
+ghost use Rattle.node_links.specs.Speaking.{OwnHello, Spoke, SpeaksOn, SpeaksOnWith, SpeaksOnWritten, SpeaksAs, SpeaksOf};
 ghost use Rattle.node_links.specs.Going.{Goes, GoesOn, GoesOnWith, GoesOnWritten, IsOfKey, Tells, OpensAs, silence, unwritten_of, peer_of, taken_of, fault_of};
 
 use crate::arrived::Arrived;
@@ -14,7 +15,9 @@ use crate::outbox::Outbox;
 use crate::own::{Met, Own};
 use crate::peer_fault::PeerFault;
 use crate::plain_connection::PlainConnection;
-use peer_codes::{Frame, Hello, Key, Link, calls_happen, events_stand_in_front};
+use peer_codes::{
+    Frame, Hello, Key, Link, calls_happen, events_stand_in_front, own_proofs_are_said,
+};
 use std::alloc::{AllocError, Global};
 
 /// A connection between two nodes, as a machine without sockets, with codes where the node has a key.
@@ -26,6 +29,10 @@ use std::alloc::{AllocError, Global};
 ///
 /// Each call keeps what a connection goes by (`Goes`), of all that came over it and was written to it; so of each frame,
 /// beat and record of a further kind that is told is known how it came (`next`).
+///
+/// Each call keeps too that what was written, with what is begun, is this side's own (`Spoke`): its Hello, with codes its proof
+/// and then coded records; each frame of them was handed over for the node at the other end. That holds whatever came, also of
+/// one that is closed.
 #[derive(Drop)]
 pub enum Connection {
     /// Of a node without a key.
@@ -38,6 +45,7 @@ pub enum Connection {
 fn answer_coded(coded: &mut CodedConnection, own: Hello)
     ensures answers { coded.new ≡ answered_coded own.link own coded.old }
     ensures goes { GoesOn (Coded coded.old) (Coded coded.new) }
+    ensures speaks { SpeaksAs (Coded coded.old) (Coded coded.new) own }
 {
     match own.link {
         Link::Plain => (),
@@ -52,6 +60,7 @@ impl Connection {
         requires { IsOfKey key own.link }
         ensures goes { (own : owns.Own) (number : ℕ) → own.key ≡ key → Goes own (silence (Some number)) result }
         ensures calls { IsCalling own result }
+        ensures speaks { (node : owns.Own) (number : ℕ) → node.key ≡ key → Spoke (OwnHello own ∷ []) node (silence (Some number)) result }
     {
         match key {
             None => Connection::Plain(PlainConnection::call(alloc, own)),
@@ -63,6 +72,7 @@ impl Connection {
     pub fn listen(alloc: Global, key: Option<Key>) -> Connection
         ensures goes { (own : owns.Own) → own.key ≡ key → Goes own (silence None) result }
         ensures listens { IsListening result }
+        ensures speaks { (node : owns.Own) → node.key ≡ key → Spoke [] node (silence None) result }
     {
         match key {
             None => Connection::Plain(PlainConnection::listen(alloc)),
@@ -75,6 +85,7 @@ impl Connection {
     pub fn take(&mut self, piece: &[u8]) -> Result<(), AllocError>
         ensures ok { OnOk result (GoesOnWith self.old self.new piece.now) }
         ensures takes { OnOk result (TakesIn piece.now self.old self.new) }
+        ensures speaks { OnOk result (SpeaksOnWith self.old self.new piece.now) }
         ensures err { OnErr result (self.new ≡ self.old) }
         ensures full { OnErr result (room_of self.old < length piece.now) }
     {
@@ -94,11 +105,13 @@ impl Connection {
         ensures next { NextBy self.old (told result frame.new) self.new }
         ensures goes { GoesOn self.old self.new }
         ensures tells { Tells (told result frame.new) self.old self.new }
+        ensures speaks { SpeaksOn self.old self.new }
     {
         match self {
             Connection::Plain(plain) => plain.next(frame),
             Connection::Coded(coded) => {
                 events_stand_in_front();
+                own_proofs_are_said();
                 calls_happen();
                 coded.next(frame)
             }
@@ -110,6 +123,7 @@ impl Connection {
     pub fn answer(&mut self, own: Hello)
         ensures answers { self.new ≡ answered_by own self.old }
         ensures goes { GoesOn self.old self.new }
+        ensures speaks { SpeaksAs self.old self.new own }
     {
         match self {
             Connection::Plain(plain) => plain.answer(own),
@@ -123,6 +137,7 @@ impl Connection {
         ensures settles { self.new ≡ settled_by own.now dialled met.now self.old }
         ensures known { IsKnown own.now met.now (taken_of self.old) (taken_of self.new) }
         ensures goes { (talk : Talk) → talk.dialled ≡ dialled → Goes own.now talk self.old → Goes own.now talk self.new }
+        ensures speaks { SpeaksOn self.old self.new }
     {
         match self {
             Connection::Plain(plain) => plain.settle(own, dialled, met),
@@ -169,6 +184,7 @@ impl Connection {
         ensures rest { waiting.new ≡ (begun_by self.old waiting.old).1 }
         ensures goes { GoesOn self.old self.new }
         ensures waiting { IsBegun waiting.old waiting.new }
+        ensures speaks { SpeaksOf self.old self.new (peer_of self.old) waiting.old.frames }
     {
         match self {
             Connection::Plain(plain) => plain.begin(waiting),
@@ -194,6 +210,7 @@ impl Connection {
         requires { count ≤ length (unwritten_of self.old) }
         ensures writes { Writes count self.old self.new }
         ensures goes { GoesOnWritten self.old self.new count }
+        ensures speaks { SpeaksOnWritten self.old self.new count }
     {
         match self {
             Connection::Plain(plain) => plain.wrote(count),

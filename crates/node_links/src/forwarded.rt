@@ -83,12 +83,14 @@ impl Forwarded {
         }
     }
 
-    /// How long it is until it goes again; 0 where it does.
-    pub fn wait(&self, now: u64) -> u64
-        ensures { result ≡ again_in self.now now }
+    /// How long it is until it goes again, where the way there and back takes so long; 0 where it does.
+    pub fn wait(&self, now: u64, round_trip: u64) -> u64
+        ensures { result ≡ again_in self.now now round_trip }
     {
         match &self.last {
-            Some(_) => FORWARD_AGAIN.saturating_sub(now.saturating_sub(self.sent)),
+            Some(_) => FORWARD_AGAIN
+                .max(round_trip)
+                .saturating_sub(now.saturating_sub(self.sent)),
             None => LOOK,
         }
     }

@@ -3,9 +3,11 @@
 ghost use Rattle.std.specs.Prelude.{◌≡◌};
 ghost use Rattle.node_links.specs.Telling.{more_in, further_of, read_behind};
 
-use crate::limits::{LIVES, SETTINGS};
+use crate::limits::{LIVES, PROMISED, SETTINGS};
 use crate::lives::{Lives, lives_of};
+use crate::promised::promised_of;
 use crate::settings::{Settings, settings_of};
+use paxos_wire::Ballot;
 use peer_codes::{Hello, RecordFault, Version};
 
 /// What a record of a further kind tells.
@@ -15,6 +17,8 @@ pub enum Further {
     Lives(Lives),
     /// The settings of the other's process.
     Settings(Settings),
+    /// The ballot that the other knows this node to have promised.
+    Promised(Ballot),
     /// Something of a kind that isn't known here: it is passed over.
     Unknown,
 }
@@ -31,6 +35,10 @@ fn further_of(nodes: u8, kind: u8, bytes: &[u8]) -> Result<Further, RecordFault>
         },
         SETTINGS => match settings_of(bytes) {
             Ok(settings) => Ok(Further::Settings(settings)),
+            Err(fault) => Err(fault),
+        },
+        PROMISED => match promised_of(bytes) {
+            Ok(ballot) => Ok(Further::Promised(ballot)),
             Err(fault) => Err(fault),
         },
         _ => Ok(Further::Unknown),

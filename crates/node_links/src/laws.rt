@@ -26,6 +26,7 @@ ghost use Rattle.node_links.specs.Dialling.{WaitsEnd, DialsAreApart, PausesAreKe
 ghost use Rattle.node_links.specs.Hearing.{SaidIsHeard};
 ghost use Rattle.node_links.specs.Histories.{Happening, Judged, phase_after, phase_behind, HasRead, IsTaken};
 ghost use Rattle.node_links.specs.Lives.{LivesReadBack};
+ghost use Rattle.node_links.specs.Promising.{PromisedReadsBack};
 ghost use Rattle.node_links.specs.Steps.{step_by, settled};
 ghost use Rattle.node_links.specs.Telling.{SettingsReadBack, read_behind};
 ghost use Rattle.node_links.specs.Versions.{FirstIsForOlder, OlderIsMet, NewerIsMet};
@@ -86,8 +87,9 @@ pub fn dials_take_turns()
     ensures newer { NewerIsMet }
 {}
 
-/// The lives and the settings that a node tells read back as those that it told.
+/// The lives, the settings and the ballot that a node tells read back as those that it told.
 pub fn what_is_told_reads_back()
     ensures lives { LivesReadBack }
     ensures settings { SettingsReadBack }
+    ensures promised { PromisedReadsBack }
 {}

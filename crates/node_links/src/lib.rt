@@ -10,7 +10,7 @@
 //!
 //! Hellos are of two versions, and a connection is of the version of both its Hellos. Behind the second records of further
 //! kinds come too (`Further`): `Lives`, which stores' lives the other knows, by which two lives of one store are found
-//! (`Known`), and `Settings`. Who was dialled answers in the version that came; `next_turn` says in which a peer is dialled, by
+//! (`Known`), `Settings`, and which ballot the other knows this node to have promised (`promise_in`). Who was dialled answers in the version that came; `next_turn` says in which a peer is dialled, by
 //! how its last dial ended (`DialEnd`), and `Heading` which version a Hello had that was refused.
 //!
 //! Beside it stand the small clocks of a connection, which are told the moment and look at no clock: `Dial`, when a peer
@@ -26,9 +26,10 @@
 //! open connection, of a record that was read (`frames_come_from_open_connections`), and one that is open is so by a Hello
 //! that was taken, of the version in which this side dialled (`open_connections_were_judged`). A peer is dialled neither too
 //! soon nor later than was told (`peers_are_dialled_in_time`), and in the first version only
-//! where it is known to be an older node (`dials_take_turns`). Lives and settings read back as they were told (`what_is_told_reads_back`).
+//! where it is known to be an older node (`dials_take_turns`). What records of further kinds tell reads back as it was told
+//! (`what_is_told_reads_back`).
 //!
-//! Faults: `PeerFault`, 120 to 128; each closes the connection, and is told again from then on.
+//! Faults: `PeerFault`, 120 to 128 and 130; each closes the connection, and is told again from then on.
 #![tactic(auto)]
 
 mod accepted;
@@ -58,6 +59,7 @@ mod pausing;
 mod peer_fault;
 mod phase;
 mod plain_connection;
+mod promised;
 mod pulse;
 mod refusals;
 mod settings;
@@ -87,6 +89,7 @@ pub use pausing::{closed_pause, longer, pause_after};
 pub use peer_fault::{Digests, Mismatch, Numbers, PeerFault, Whose, WrongNumber};
 pub use phase::Phase;
 pub use plain_connection::PlainConnection;
+pub use promised::{higher, promise_in, promises_less};
 pub use pulse::{OwnReport, Probe, Pulse};
 pub use refusals::{Refusals, Refused};
 pub use settings::{Settings, settings_of};

@@ -6,8 +6,11 @@ pub const NODES: usize = peer_codes::limits::NODES as usize;
 /// The byte of the kind of records that tell lives,
 pub const LIVES: u8 = 4;
 
-/// and of those that tell settings.
+/// of those that tell settings,
 pub const SETTINGS: u8 = 5;
+
+/// and of those that tell a ballot which the other is known to have promised.
+pub const PROMISED: u8 = 6;
 
 /// As many bytes as a record of lives has at most behind its kind.
 pub const LIVES_BYTES: usize = peer_codes::limits::LIFE_BYTES * NODES;
@@ -17,6 +20,9 @@ pub const SETTINGS_BYTES: usize = 12 + TOKENS_BYTES;
 
 /// so many of them of the digest over all tokens.
 pub const TOKENS_BYTES: usize = 8;
+
+/// As many bytes as a record of a ballot has behind its kind: its round, and its node.
+pub const PROMISED_BYTES: usize = 5;
 
 /// The most bytes of the record of a Hello: a length, a kind, and a Hello with a nonce.
 pub const HEADING_BYTES: usize = peer_codes::limits::LENGTH_BYTES
@@ -63,10 +69,12 @@ pub const LOOK: u64 = 1_000_000;
 /// The least time in which no two Asks of the same block of slots go to a peer.
 pub const AGAIN: u64 = 20_000;
 
-/// An act that went on to a peer goes again each time that so long has passed, while the front stands.
+/// An act that went on to a peer goes again each time that so long has passed, or the way there and back if that is longer, while
+/// the front stands.
 pub const FORWARD_AGAIN: u64 = 20_000;
 
-/// While a peer is behind, the last Accepted that was sent to it is sent again each time that so long has passed.
+/// While a peer is behind, the last Accepted that was sent to it is sent again each time that so long has passed, or the way there and
+/// back if that is longer.
 pub const REPEAT: u64 = 100_000;
 
 /// Of callers who aren't known and were refused, a note is made so long after the one before at the soonest.

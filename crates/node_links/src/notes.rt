@@ -8,7 +8,7 @@ use crate::peer_fault::{Mismatch, PeerFault, Whose};
 use peer_codes::RecordFault;
 
 /// How many faults there are.
-const FAULTS: usize = 12;
+const FAULTS: usize = 14;
 
 /// When each fault of a peer was told last, in whole microseconds: the same is told once in ten seconds.
 #[derive(Clone, Copy, Debug, PartialEq, Eq)]
@@ -19,7 +19,7 @@ pub struct Notes {
 /// Each fault's place among them.
 fn place(fault: PeerFault) -> usize
     ensures place { result ≡ fault_place fault }
-    ensures within { result < 12 }
+    ensures within { result < 14 }
 {
     match fault {
         PeerFault::Record(RecordFault::BadLength) => 0,
@@ -34,6 +34,8 @@ fn place(fault: PeerFault) -> usize
         PeerFault::StoreReplaced(Whose::Own) => 9,
         PeerFault::StoreReplaced(Whose::Other) => 10,
         PeerFault::AlreadyHere => 11,
+        PeerFault::StoreOlder(Whose::Own) => 12,
+        PeerFault::StoreOlder(Whose::Other) => 13,
     }
 }
 
@@ -50,7 +52,7 @@ fn is_told(last: Option<u64>, now: u64) -> bool
 impl Notes {
     /// None was told.
     pub fn new() -> Notes
-        ensures { result ≡ record { told = replicate 12 None } }
+        ensures { result ≡ record { told = replicate 14 None } }
     {
         Notes {
             told: [None; FAULTS],

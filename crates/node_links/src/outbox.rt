@@ -7,17 +7,20 @@ ghost use Rattle.node_links.specs.Waiting.{newest, has_more, has_next, more_of, 
 use crate::kept_frame::KeptFrame;
 use crate::lives::Lives;
 use crate::owed::Question;
+use crate::promised::promised_more;
 use crate::settings::Settings;
+use paxos_wire::Ballot;
 use peer_codes::limits::MOST_FRAME;
 use peer_codes::{Beat, Frame, More, Version};
 use std::alloc::Global;
 use std::collections::VecDeque;
 use std::marker::Model;
 
-/// What waits to be said to a peer: the newest beat, the newest lives, the settings, and frames.
+/// What waits to be said to a peer: the newest beat, the newest lives, the settings, the ballot that it is known to have promised,
+/// and frames.
 ///
-/// A beat goes first, and behind it lives and settings, where the connection is of the second version: over another they
-/// aren't said, and wait. The frames go in the order in which they were put there. Where too many wait the oldest are
+/// A beat goes first, and behind it lives, settings and the ballot, where the connection is of the second version: over another
+/// they aren't said, and wait. The frames go in the order in which they were put there. Where too many wait the oldest are
 /// dropped, as they are where there is no memory: a frame may be lost, and what is sent again mends it.
 #[derive(Drop)]
 pub struct Outbox {
@@ -25,6 +28,7 @@ pub struct Outbox {
     beat: Option<Beat>,
     lives: Option<Lives>,
     settings: Option<Settings>,
+    promised: Option<Ballot>,
     frames: VecDeque<KeptFrame>,
 }
 
@@ -33,19 +37,20 @@ impl Model for Outbox {
 
     ghost Value = { Waits };
 
-    ghost view = { λ o. record { beat = o.beat; lives = o.lives; settings = o.settings; frames = o.frames.items } };
+    ghost view = { λ o. record { beat = o.beat; lives = o.lives; settings = o.settings; promised = o.promised; frames = o.frames.items } };
 }
 
 impl Outbox {
     /// Nothing waits. It takes no memory.
     pub fn new(alloc: Global) -> Outbox
-        ensures { result ≡ record { beat = None; lives = None; settings = None; frames = [] } }
+        ensures { result ≡ record { beat = None; lives = None; settings = None; promised = None; frames = [] } }
     {
         Outbox {
             alloc,
             beat: None,
             lives: None,
             settings: None,
+            promised: None,
             frames: VecDeque::new(alloc),
         }
     }
@@ -69,6 +74,20 @@ impl Outbox {
         ensures { self.new ≡ record self.old { settings = Some settings } }
     {
         self.settings = Some(settings);
+    }
+
+    /// This ballot, which the peer is known to have promised, waits, in place of one before.
+    pub fn tell_promised(&mut self, ballot: Ballot)
+        ensures { self.new ≡ record self.old { promised = Some ballot } }
+    {
+        self.promised = Some(ballot);
+    }
+
+    /// The ballot that waits, if one does.
+    pub fn promised(&self) -> Option<Ballot>
+        ensures { result ≡ self.now.promised }
+    {
+        self.promised
     }
 
     /// Of the frames that wait only so many stay, the newest.
@@ -103,11 +122,12 @@ impl Outbox {
 
     /// Nothing waits but the frames: all else was for a connection that ended.
     pub fn forget_all_but_frames(&mut self)
-        ensures { self.new ≡ record self.old { beat = None; lives = None; settings = None } }
+        ensures { self.new ≡ record self.old { beat = None; lives = None; settings = None; promised = None } }
     {
         self.beat = None;
         self.lives = None;
         self.settings = None;
+        self.promised = None;
     }
 
     /// How many frames wait.
@@ -132,7 +152,9 @@ impl Outbox {
     {
         match version {
             Version::First => false,
-            Version::Second => self.lives.is_some() || self.settings.is_some(),
+            Version::Second => {
+                self.lives.is_some() || self.settings.is_some() || self.promised.is_some()
+            }
         }
     }
 
@@ -153,7 +175,7 @@ impl Outbox {
         beat
     }
 
-    /// The lives that wait, or else the settings; they wait no longer.
+    /// The lives that wait, or else the settings, or else the ballot; they wait no longer.
     fn take_further(&mut self) -> Option<More>
         ensures more { result ≡ more_of Second self.old }
         ensures rest { self.new ≡ without_more Second self.old }
@@ -162,9 +184,13 @@ impl Outbox {
             self.lives = None;
             return Some(lives.more());
         }
-        let settings = self.settings?;
-        self.settings = None;
-        Some(settings.more())
+        if let Some(settings) = self.settings {
+            self.settings = None;
+            return Some(settings.more());
+        }
+        let ballot = self.promised?;
+        self.promised = None;
+        Some(promised_more(ballot))
     }
 
     /// The record of a further kind that is said next on a connection of this version; it waits no longer.

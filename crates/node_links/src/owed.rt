@@ -13,11 +13,11 @@ const PREPARE: u8 = 1;
 const ACCEPT: u8 = 4;
 
 /// The bytes that tell a Promise, a Refuse and an Accepted among frames, by which a node answers.
-const PROMISE: u8 = 2;
+pub(crate) const PROMISE: u8 = 2;
 
-const REFUSE: u8 = 3;
+pub(crate) const REFUSE: u8 = 3;
 
-const ACCEPTED: u8 = 5;
+pub(crate) const ACCEPTED: u8 = 5;
 
 /// Where the count of an Accept's commands stands, behind its slot.
 const COUNT: usize = 15;
@@ -58,7 +58,7 @@ pub struct Owed {
 }
 
 /// Whether a frame is of this kind, and has a ballot and a slot.
-fn has_kind(frame: &[u8], kind: u8) -> bool
+pub(crate) fn has_kind(frame: &[u8], kind: u8) -> bool
     ensures { result ≡ has_kind frame.now kind }
 {
     frame.len() >= 15 && frame[5] == kind

@@ -19,6 +19,7 @@ fn is_standing(fault: PeerFault) -> bool
         PeerFault::UnexpectedRecord => false,
         PeerFault::StoreReplaced(_) => true,
         PeerFault::AlreadyHere => true,
+        PeerFault::StoreOlder(_) => true,
     }
 }
 

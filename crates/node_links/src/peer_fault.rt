@@ -51,10 +51,10 @@ pub enum Mismatch {
     Number(WrongNumber),
 }
 
-/// Whose store was lost and made anew.
+/// Whose store was lost and made anew, or is an older copy.
 #[derive(Clone, Copy, Debug, PartialEq, Eq)]
 pub enum Whose {
-    /// That of the node that reads the Hello.
+    /// That of the node that reads the Hello, or is told.
     Own,
     /// That of the node that said it.
     Other,
@@ -79,10 +79,12 @@ pub enum PeerFault {
     StoreReplaced(Whose),
     /// 128: a connection of this node is open already, and it was heard over it.
     AlreadyHere,
+    /// 130: a store of a node promises less than it is known to have promised, so it is an older copy that was put back.
+    StoreOlder(Whose),
 }
 
 impl PeerFault {
-    /// The fault's number, 120 to 128.
+    /// The fault's number, 120 to 128 or 130.
     pub fn code(self) -> u8
         ensures { result ≡ peer_fault_code self }
     {
@@ -94,6 +96,7 @@ impl PeerFault {
             PeerFault::UnexpectedRecord => 126,
             PeerFault::StoreReplaced(_) => 127,
             PeerFault::AlreadyHere => 128,
+            PeerFault::StoreOlder(_) => 130,
         }
     }
 }
@@ -195,6 +198,7 @@ impl fmt::Display for PeerFault {
             PeerFault::UnexpectedRecord => f.write_str("126 UnexpectedRecord"),
             PeerFault::StoreReplaced(_) => f.write_str("127 StoreReplaced"),
             PeerFault::AlreadyHere => f.write_str("128 AlreadyHere"),
+            PeerFault::StoreOlder(_) => f.write_str("130 StoreOlder"),
         }
     }
 }

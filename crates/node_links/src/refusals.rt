@@ -7,8 +7,8 @@ use crate::limits::NOTED;
 use crate::peer_fault::PeerFault;
 use peer_codes::RecordFault;
 
-/// How many numbers faults have: 120 to 128.
-const NUMBERS: usize = 9;
+/// How many numbers faults have: 120 to 128, and 130.
+const NUMBERS: usize = 10;
 
 /// So many callers were refused, the last by this fault.
 #[derive(Clone, Copy, Debug, PartialEq, Eq)]
@@ -23,7 +23,7 @@ pub struct Refused {
 pub struct Refusals {
     /// The node whose addresses these are; none of all other addresses.
     pub peer: Option<u8>,
-    /// Of each number, counted from 120.
+    /// Of each number, in their order.
     pub since: [Option<Refused>; NUMBERS],
     /// In whole microseconds.
     pub noted: [Option<u64>; NUMBERS],
@@ -55,7 +55,7 @@ fn is_noted(noted: Option<u64>, now: u64) -> bool
 /// The place of a fault's number among them.
 fn number(fault: PeerFault) -> usize
     ensures number { result ≡ number_of fault }
-    ensures within { result < 9 }
+    ensures within { result < 10 }
 {
     match fault {
         PeerFault::Record(fault) => match fault {
@@ -69,13 +69,14 @@ fn number(fault: PeerFault) -> usize
         PeerFault::UnexpectedRecord => 6,
         PeerFault::StoreReplaced(_) => 7,
         PeerFault::AlreadyHere => 8,
+        PeerFault::StoreOlder(_) => 9,
     }
 }
 
 impl Refusals {
     /// Nobody was refused of the addresses of this node, or of all others.
     pub fn new(peer: Option<u8>) -> Refusals
-        ensures { result ≡ record { peer = peer; since = replicate 9 None; noted = replicate 9 None } }
+        ensures { result ≡ record { peer = peer; since = replicate 10 None; noted = replicate 10 None } }
     {
         Refusals {
             peer,
@@ -94,7 +95,7 @@ impl Refusals {
 
     /// What is noted now of the number at this place, if anything is.
     fn due(&self, number: usize, now: u64) -> Option<Refused>
-        requires { number < 9 }
+        requires { number < 10 }
         ensures { result ≡ due_at self.now number now }
     {
         if is_noted(self.noted[number], now) {

@@ -42,7 +42,7 @@ pub fn settings_of(bytes: &[u8]) -> Result<Settings, RecordFault>
 }
 
 /// The four bytes of a number.
-fn number_bytes(number: u32) -> [u8; 4]
+pub(crate) fn number_bytes(number: u32) -> [u8; 4]
     ensures { result ≡ big_bytes 4 number }
 {
     let mut bytes = [0; 4];

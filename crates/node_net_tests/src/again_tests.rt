@@ -2,11 +2,12 @@
 
 use crate::pair::{Side, node_0, said, say, take_turns};
 use crate::samples::{
-    ACCEPT, ACCEPTED, CHOSEN, FORWARD, HELLO_RECORD, LOW_BEAT_RECORD, TOLD, assert_number,
-    assert_that,
+    ACCEPT, ACCEPTED, ASK, CHOSEN, FORWARD, HELLO_RECORD, LOW_BEAT_RECORD, TOLD, assert_number,
+    assert_that, frame,
 };
 use node_links::OwnReport;
 use node_wires::Line;
+use peer_codes::{Record, record_bytes};
 use std::alloc::{AllocError, Global};
 use std::process::Abort;
 use std::test::Fail;
@@ -136,6 +137,75 @@ fn goes_until_the_front_moves(rt: &impl Abort, side: &mut Side) -> Result<(), Al
 fn an_act_goes_again_while_the_front_stands(rt: HostRuntime) -> Result<(), Fail> {
     let mut side = node_0(rt.alloc())?;
     Ok(goes_until_the_front_moves(&rt, &mut side)?)
+}
+
+/// A beat of a node that has applied 10 commands and got the first one of this node: the way to it and back took 150 ms, since
+/// that was told 1 ms behind the start.
+const LATE_BEAT_RECORD: [u8; 20] = [0, 0, 0, 16, 3, 0, 0, 0, 1, 0, 0, 0, 1, 0, 0, 0, 10, 0, 0, 0];
+
+/// Somebody who is behind is there over a slow way, an Accepted was sent to him, and an act goes on to him.
+fn stand_far(side: &mut Side) -> Result<(), AllocError> {
+    say(side, 0, &HELLO_RECORD, 1_000)?;
+    side.wire.come(Line::Caller(0), &LATE_BEAT_RECORD)?;
+    side.turn(151_000);
+    side.peers.send(1, &ACCEPTED, 160_000);
+    side.peers.send(1, &FORWARD, 160_000);
+    side.turn(160_000);
+    Ok(())
+}
+
+/// Beats have 20 bytes, an Accepted's record 33 and a Forward's 23: both go again once the way there and back has passed. A beat is
+/// told before it.
+static OVER_A_SLOW_WAY: [(u64, u64); 4] = [
+    (201_000, 20),
+    (251_000, 20),
+    (309_999, 20),
+    (310_000, 56),
+];
+
+/// They go again as late.
+fn go_again_behind_the_way(rt: &impl Abort, side: &mut Side) -> Result<(), AllocError> {
+    stand_far(side)?;
+    assert_number(rt, side.peers.wait(200_000), 1_000);
+    says(rt, side, &OVER_A_SLOW_WAY);
+    Ok(())
+}
+
+/// Neither goes again sooner than an answer can be here.
+#[test]
+fn nothing_goes_again_before_an_answer_can_be_here(rt: HostRuntime) -> Result<(), Fail> {
+    let mut side = node_0(rt.alloc())?;
+    Ok(go_again_behind_the_way(&rt, &mut side)?)
+}
+
+/// Frames, and whether each costs a node no sync.
+static COSTS: [(&[u8], bool); 5] = [
+    (&ASK, true),
+    (&ACCEPTED, true),
+    (&CHOSEN, true),
+    (&ACCEPT, false),
+    (&FORWARD, false),
+];
+
+/// What waits next is this frame, which costs syncs or none.
+fn costs(rt: &impl Abort, alloc: Global, bytes: &[u8], none: bool) -> Result<(), AllocError> {
+    let mut side = node_0(alloc)?;
+    assert_that(rt, side.peers.costs_no_sync());
+    say(&mut side, 0, &HELLO_RECORD, 1_000)?;
+    let record = record_bytes(&Record::Frame(frame(rt, bytes)));
+    side.wire.come(Line::Caller(0), record.as_slice())?;
+    side.hear(2_000);
+    assert_that(rt, side.peers.costs_no_sync() == none);
+    Ok(())
+}
+
+/// It is known of what waits next whether it costs syncs.
+#[test]
+fn what_costs_no_sync_is_known(rt: HostRuntime) -> Result<(), Fail> {
+    for &(bytes, none) in &COSTS {
+        costs(&rt, rt.alloc(), bytes, none)?;
+    }
+    Ok(())
 }
 
 /// How many bytes are said to who stands at place 0 in a turn at this moment.

@@ -137,10 +137,17 @@ fn refuses_behind_a_stop(rt: &impl Abort, side: &mut Side) -> Result<(), AllocEr
     assert_number(rt, said(side, 0), 82);
     assert_number(rt, side.seen.joined as u64, 2);
     assert_number(rt, side.seen.refused as u64, 1);
-    side.peers.forgive(10_002_000, 10_002_000);
+    stops_shortly(side, 10_002_000);
     say(side, 0, &HELLO_RECORD, 10_002_000)?;
     assert_number(rt, side.seen.refused as u64, 2);
     Ok(())
+}
+
+/// All that went by until this moment went by in short stops.
+fn stops_shortly(side: &mut Side, now: u64) {
+    for _ in 0..now / 300_000 + 1 {
+        side.peers.forgive(300_000, now);
+    }
 }
 
 /// All of these, one behind the other.

@@ -260,14 +260,25 @@ const CALLER: Line = Line::Caller(0);
 /// The line of node 1 to node 0.
 const PEER: Line = Line::Peer(0);
 
-/// Carries what both wrote, and the ends of their connection.
-pub(crate) fn exchange(alloc: Global, low: &mut Side, high: &mut Side) -> Result<(), AllocError> {
-    carry(alloc, &mut high.wire, PEER, &mut low.wire, CALLER)?;
-    carry(alloc, &mut low.wire, CALLER, &mut high.wire, PEER)?;
-    if !high.wire.is_open(PEER) {
-        low.wire.end(CALLER);
+/// Carries what both wrote over a line of node 1 to node 0, which is that of a caller there, and the ends of that connection.
+pub(crate) fn exchange_over(
+    alloc: Global,
+    low: &mut Side,
+    high: &mut Side,
+    caller: Line,
+    peer: Line,
+) -> Result<(), AllocError> {
+    carry(alloc, &mut high.wire, peer, &mut low.wire, caller)?;
+    carry(alloc, &mut low.wire, caller, &mut high.wire, peer)?;
+    if !high.wire.is_open(peer) {
+        low.wire.end(caller);
     }
     Ok(())
+}
+
+/// The same of their first connection.
+pub(crate) fn exchange(alloc: Global, low: &mut Side, high: &mut Side) -> Result<(), AllocError> {
+    exchange_over(alloc, low, high, CALLER, PEER)
 }
 
 /// Both take turns, so many of them, each 1 ms behind the one before. Node 1's first dial is taken in.

@@ -25,6 +25,12 @@ pub(crate) const ACCEPT: [u8; 28] = [
     0, 0, 0, 24, 2, 4, 0, 0, 0, 1, 1, 0, 0, 0, 0, 1, 2, 0, 0, 0, 0, 0, 0, 0, 0, 0, 0, 0,
 ];
 
+/// The frame of a Prepare of the ballot (7, 1) from slot 0 on.
+pub(crate) const PREPARE: [u8; 15] = [0, 0, 0, 11, 2, 1, 0, 0, 0, 7, 1, 0, 0, 0, 0];
+
+/// The frame of a Refuse of the ballot (1, 0) at slot 0, by who has promised (5, 2).
+pub(crate) const REFUSE: [u8; 20] = [0, 0, 0, 16, 2, 3, 0, 0, 0, 1, 0, 0, 0, 0, 0, 0, 0, 0, 5, 2];
+
 /// A node that has applied 37 commands, and campaigns.
 pub(crate) const TOLD: OwnReport = OwnReport {
     front: 37,

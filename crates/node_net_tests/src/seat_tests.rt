@@ -2,6 +2,7 @@
 
 use crate::samples::{assert_bytes, assert_number};
 use node_seats::{Asked, Parting, SeatNotice, Seats, TokenDigest};
+use node_wires::limits::TAKEN_AT_ONCE;
 use node_wires::{Line, MemoryWire};
 use std::alloc::{AllocError, Global};
 use std::net::IpAddr;
@@ -10,6 +11,9 @@ use std::test::Fail;
 
 /// What shows the token of seat 0, and of seat 1, without the line's end. The digests are those that `sha256sum` says.
 const FIRST: &[u8] = b"#TOKEN 0123456789abcdef0123456789abcdef0123456789abcdef0123456789abcdef";
+
+/// The first of them, whole.
+const RIGHT: &[u8] = b"#TOKEN 0123456789abcdef0123456789abcdef0123456789abcdef0123456789abcdef\n";
 
 const SECOND: &[u8] = b"#TOKEN ffffffffffffffffffffffffffffffffffffffffffffffffffffffffffffffff";
 
@@ -68,22 +72,52 @@ fn open_seats(alloc: Global) -> Result<Table, AllocError> {
     })
 }
 
+/// The number that stands for what came: 1 a bot at seat 0 and 2 one at seat 1, 3 the end of one, 4 a refusal with its address,
+/// the length of a piece, 0 nothing.
+fn number_of(notice: Option<SeatNotice>) -> u64 {
+    match notice {
+        Some(SeatNotice::Came { seat }) => seat as u64 + 1,
+        Some(SeatNotice::Gone { seat: _ }) => 3,
+        Some(SeatNotice::Refused { seat: _, source }) => if is_of_memory(source) { 4 } else { 5 },
+        Some(SeatNotice::Piece { seat: _, bytes }) => bytes.len() as u64,
+        None => 0,
+    }
+}
+
 impl Table {
-    /// The number that stands for what comes of seats next, asked in turn: 1 a bot at seat 0 and 2 one at seat 1, 3 the end of
-    /// one, 4 a refusal with its address, the length of a piece, 0 nothing.
-    fn hears(&mut self, now: u64) -> u64 {
-        for at in 0..self.seats.looks() {
-            match self
+    /// What comes of those who stand in the queue of a seat's port, one after another, until something is to be told.
+    fn takes(&mut self, seat: u8, now: u64) -> u64 {
+        for _ in 0..TAKEN_AT_ONCE {
+            let called = self
                 .seats
-                .next(&mut self.wire, at, self.greeted, self.closed, now)
-            {
-                Some(SeatNotice::Came { seat }) => return seat as u64 + 1,
-                Some(SeatNotice::Gone { seat: _ }) => return 3,
-                Some(SeatNotice::Refused { seat: _, source }) => {
-                    return if is_of_memory(source) { 4 } else { 5 };
-                }
-                Some(SeatNotice::Piece { seat: _, bytes }) => return bytes.len() as u64,
-                None => (),
+                .next_caller(&mut self.wire, seat, self.closed, now);
+            if !called.was_there {
+                return 0;
+            }
+            let told = number_of(called.notice);
+            if told > 0 {
+                return told;
+            }
+        }
+        0
+    }
+
+    /// What comes of seats next: of those who stand in the queues of their ports, and then of seats and guests, asked in turn.
+    fn hears(&mut self, now: u64) -> u64 {
+        self.wire.set_now(now);
+        for seat in 0..2u8 {
+            let told = self.takes(seat, now);
+            if told > 0 {
+                return told;
+            }
+        }
+        for at in 0..self.seats.looks() {
+            let told = number_of(
+                self.seats
+                    .next(&mut self.wire, at, self.greeted, self.closed, now),
+            );
+            if told > 0 {
+                return told;
             }
         }
         0
@@ -237,7 +271,7 @@ fn right_tokens_are_seated(rt: HostRuntime) -> Result<(), Fail> {
     Ok(())
 }
 
-/// The token of another seat is refused once, and the connection closed 0.2 s later; the bot that sits there stays.
+/// The token of another seat is refused once, and the connection closed at once; the bot that sits there stays.
 #[test]
 fn another_seats_token_is_refused(rt: HostRuntime) -> Result<(), Fail> {
     let mut table = two_seats(rt.alloc())?;
@@ -247,9 +281,7 @@ fn another_seats_token_is_refused(rt: HostRuntime) -> Result<(), Fail> {
     assert_number(&rt, table.comes(1, 0, FIRST, 0)?, 0);
     table.wire.come(Line::Guest(0), b"\n")?;
     table.assert_hears(&rt, 1_000, 4);
-    table.assert_hears(&rt, 200_999, 0);
-    assert!(rt; table.stands(0));
-    table.assert_hears(&rt, 201_000, 0);
+    table.assert_hears(&rt, 1_000, 0);
     assert!(rt; !table.stands(0) && table.wire.is_open(Line::Seat(1)));
     assert_number(&rt, table.seats.bits() as u64, 2);
     Ok(())
@@ -262,13 +294,17 @@ fn a_guest_has_two_seconds_and_one_line(rt: HostRuntime) -> Result<(), Fail> {
     assert_number(&rt, table.comes(0, 0, FIRST, 0)?, 0);
     table.assert_hears(&rt, 2_000_000, 4);
     // Too long.
-    assert_number(&rt, table.comes(0, 1, FIRST, 2_000_000)?, 0);
-    table.wire.come(Line::Guest(1), b"  \n")?;
+    assert_number(&rt, table.comes(0, 0, FIRST, 2_000_000)?, 0);
+    table.wire.come(Line::Guest(0), b"  \n")?;
     table.assert_hears(&rt, 2_000_000, 4);
     // Ended.
-    assert_number(&rt, table.comes(0, 2, FIRST, 2_000_000)?, 0);
-    table.wire.end(Line::Guest(2));
+    assert_number(&rt, table.comes(0, 0, FIRST, 2_000_000)?, 0);
+    table.wire.end(Line::Guest(0));
     table.assert_hears(&rt, 2_000_000, 4);
+    // Wrong from the first byte on.
+    assert_number(&rt, table.comes(0, 0, b"G", 2_000_000)?, 0);
+    table.assert_hears(&rt, 2_000_000, 4);
+    assert!(rt; !table.stands(0));
     Ok(())
 }
 
@@ -327,17 +363,147 @@ fn a_guest_waits_for_a_closed_seat(rt: HostRuntime) -> Result<(), Fail> {
     Ok(())
 }
 
-/// Of twenty guests who say nothing the first make room; he who shows his token meanwhile is seated.
+/// Of twenty guests of one address who say nothing eight stand, and make room once they stood 0.3 seconds; the others are
+/// turned away, and counted.
 #[test]
-fn twenty_guests_stand_at_once(rt: HostRuntime) -> Result<(), Fail> {
+fn eight_silent_guests_stand_at_once(rt: HostRuntime) -> Result<(), Fail> {
     let mut table = two_seats(rt.alloc())?;
     for _ in 0..20u64 {
-        table.wire.come_to_seat(0);
-        table.assert_hears(&rt, 0, 0);
+        table.wire.call_seat(0, b"", false)?;
     }
-    assert!(rt; table.stands(0) && table.stands(15));
-    table.wire.come(Line::Guest(15), FIRST)?;
-    table.wire.come(Line::Guest(15), b"\n")?;
+    table.assert_hears(&rt, 7, 0);
+    assert!(rt; table.stands(7) && !table.stands(8) && !table.stands(26));
+    assert_number(&rt, table.seats.turned_away(0), 12);
+    assert!(rt; table.seats.crowded(0) == Some(7) && table.seats.crowded(1).is_none());
+    table.wire.come(Line::Guest(7), FIRST)?;
+    table.wire.come_to_seat(0);
+    table.assert_hears(&rt, 300_006, 0);
+    assert_number(&rt, table.seats.turned_away(0), 13);
+    table.wire.come_to_seat(0);
+    table.assert_hears(&rt, 300_007, 0);
+    // He who made room is counted too.
+    assert_number(&rt, table.seats.turned_away(0), 14);
+    table.wire.come(Line::Guest(7), b"\n")?;
+    table.assert_hears(&rt, 300_007, 1);
+    table.seats.crowd(1, 8);
+    assert!(rt; table.seats.crowded(1) == Some(8) && table.seats.turned_away(1) == 0);
+    Ok(())
+}
+
+/// A thousand callers come to the port of seat 0: one of three ends at once, one says a wrong token, one says nothing. In the
+/// midst of them comes one with the right token.
+fn flood(wire: &mut MemoryWire) -> Result<(), AllocError> {
+    for number in 0..999u64 {
+        match number % 3 {
+            0 => wire.call_seat(0, b"", true)?,
+            1 => wire.call_seat(0, SECOND, true)?,
+            _ => wire.call_seat(0, b"", false)?,
+        }
+        if number == 400 {
+            wire.call_seat(0, RIGHT, false)?;
+        }
+    }
+    Ok(())
+}
+
+/// So many callers are taken off the queue of seat 0, if as many stand there: how many of them were refused, and whether one
+/// was seated.
+fn takes_many(table: &mut Table, most: u16) -> (u64, bool) {
+    let mut refused = 0u64;
+    let mut seated = false;
+    for _ in 0..most {
+        let called = table.seats.next_caller(&mut table.wire, 0, 0, 0);
+        match called.notice {
+            Some(SeatNotice::Refused { .. }) => refused = refused.saturating_add(1),
+            Some(SeatNotice::Came { .. }) => seated = true,
+            _ => (),
+        }
+    }
+    (refused, seated)
+}
+
+/// A right token is found in the midst of a flood, in one turn. Who ended or said anything wrong keeps no place.
+#[test]
+fn a_right_token_is_found_in_a_flood(rt: HostRuntime) -> Result<(), Fail> {
+    let mut table = two_seats(rt.alloc())?;
+    flood(&mut table.wire)?;
+    let (refused, seated) = takes_many(&mut table, TAKEN_AT_ONCE);
+    assert!(rt; seated && table.seats.taken_bits() == 1);
+    assert_number(&rt, refused, 341);
+    // Eight of the 170 who said nothing stand.
+    assert_number(&rt, table.seats.turned_away(0), 162);
+    let (refused, seated) = takes_many(&mut table, TAKEN_AT_ONCE);
+    assert!(rt; !seated);
+    assert_number(&rt, refused, 325);
+    let called = table.seats.next_caller(&mut table.wire, 0, 0, 0);
+    assert!(rt; !called.was_there);
+    Ok(())
+}
+
+/// Who shows the token of a seat at which nobody is taken in waits, also where all places of guests are taken. Of two the newer
+/// waits, and the one before is let go of.
+#[test]
+fn the_newest_of_a_seat_waits(rt: HostRuntime) -> Result<(), Fail> {
+    let mut table = two_seats(rt.alloc())?;
+    table.closed = 1;
+    for _ in 0..8u64 {
+        table.wire.call_seat(1, b"", false)?;
+    }
+    table.assert_hears(&rt, 0, 0);
+    for (place, other) in [(26, 27), (27, 26), (26, 27)] {
+        table.wire.call_seat(0, RIGHT, false)?;
+        table.assert_hears(&rt, 0, 0);
+        assert!(rt; table.stands(place) && !table.stands(other));
+    }
+    table.closed = 0;
     table.assert_hears(&rt, 0, 1);
+    assert!(rt; !table.stands(26) && table.wire.is_open(Line::Seat(0)));
+    assert_number(&rt, table.seats.turned_away(0), 0);
+    Ok(())
+}
+
+/// What stands behind a right line, also where it comes with it, comes of the bot, whichever way the line ends. What stands behind
+/// a wrong one doesn't.
+#[test]
+fn a_line_is_read_to_its_end(rt: HostRuntime) -> Result<(), Fail> {
+    let mut table = two_seats(rt.alloc())?;
+    for end in [b"\nVERSION".as_slice(), b"\r\nVERSION"] {
+        let mut said = Vec::from_slice(rt.alloc(), FIRST)?;
+        said.extend_from_slice(end)?;
+        table.wire.call_seat(0, &said, false)?;
+        table.assert_hears(&rt, 0, 1);
+        table.assert_hears(&rt, 0, 7);
+        assert!(rt; table.seats.hang_up(&mut table.wire, 0).is_some());
+    }
+    table.wire.call_seat(0, b"#TOKEN 0\nVERSION", false)?;
+    table.assert_hears(&rt, 0, 4);
+    table.assert_hears(&rt, 0, 0);
+    Ok(())
+}
+
+/// What a bot that asks once from where on it is to be told is told by a node without a quorum; another one isn't.
+#[test]
+fn who_resumes_is_told_to_wait(rt: HostRuntime) -> Result<(), Fail> {
+    let mut table = open_seats(rt.alloc())?;
+    for seat in 0..2u8 {
+        table.wire.come_to_seat(seat);
+        table.assert_hears(&rt, 5, seat as u64 + 1);
+    }
+    table.wire.come(Line::Seat(0), b"#RESUME FIRST\r\n")?;
+    table.wire.come(Line::Seat(1), b"VERSION:2.0.0\r\n")?;
+    for _ in 0..2u64 {
+        table.assert_hears(&rt, 5, 15);
+    }
+    assert!(rt; table.seats.has_resumed(0) && !table.seats.has_named(0));
+    assert!(rt; !table.seats.has_resumed(1) && table.seats.has_named(1));
+    assert!(rt; table.seats.since(1) == Some(5) && table.seats.since(2).is_none());
+    for seat in 0..2u8 {
+        assert!(rt; table.seats.part(seat, Parting::Wait));
+    }
+    assert!(rt; table.seats.flush(&mut table.wire).is_none());
+    assert!(rt; table.seats.parting(0) == Some(Parting::Wait) && table.seats.backlog(0) == 0);
+    assert!(rt; table.seats.parting(1).is_none());
+    assert_bytes(&rt, table.wire.written(Line::Seat(0)), b"#WAIT\r\n");
+    assert_bytes(&rt, table.wire.written(Line::Seat(1)), b"");
     Ok(())
 }

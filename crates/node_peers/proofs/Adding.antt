@@ -1,6 +1,6 @@
 -- What is added stays so behind more calls, and is nothing of seats and of the log.
 use Rattle.std.proofs.Common.{◌≡◌, ℕ, ◌-◌, Bool, true, false, if◌then◌else◌, nat_lt, List, [], ◌∷◌, ◌++◌, append_assoc, append-nil, refl, ap, sym, ◌∙◌}
-use Rattle.node_wires.specs.declared.limits.TheConstants.{NODES}
+use Rattle.node_peers.specs.declared.limits.TheConstants.{DIALLED}
 use Rattle.node_wires.specs.declared.line.Line.TheVariants.{Peer, Caller, Seat, Guest, Asker}
 use Rattle.node_wires.specs.Passages.{Passage, Began, Came, Wrote, Gave, Logged, of_seat, seats_in, wrote_by, wrote_behind, wrote_over, logged_in}
 use Rattle.node_peers.specs.Lines.{line_at}
@@ -13,7 +13,7 @@ by_choice true one other = tt
 by_choice false one other = tt
 
 pub line_of_peers : (place : ℕ) → IsPeers (line_at place)
-line_of_peers place = by_choice (nat_lt place NODES) place (place - NODES)
+line_of_peers place = by_choice (nat_lt place DIALLED) place (place - DIALLED)
 
 both_of_peers : (xs ys : List Passage) → AreOfPeers xs → AreOfPeers ys → AreOfPeers (xs ++ ys)
 both_of_peers [] ys are_xs are_ys = are_ys

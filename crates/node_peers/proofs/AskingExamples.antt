@@ -5,7 +5,7 @@ use Rattle.node_links.specs.declared.owed.Question.{Question}
 use Rattle.node_links.specs.declared.owed.Request.TheVariants.{Prepare, Accept}
 use Rattle.node_links.specs.declared.owed.Subject.{Subject}
 use Rattle.node_links.specs.Owing.{question_in}
-use Rattle.node_peers.specs.Asking.{is_older, newer_of, marked, is_outdated, is_needless, IsDue}
+use Rattle.node_peers.specs.Asking.{is_older, newer_of, marked, is_outdated, is_needless, IsDue, costs_no_sync}
 
 -- of this round and node, at this slot
 abbrev subject : ℕ → ℕ → ℕ → Subject
@@ -67,6 +67,12 @@ promise_serves = refl
 
 at_the_front : IsDue 3 (accept 3 4)
 at_the_front = omega arith
+
+ask_costs_none : costs_no_sync (0 ∷ 0 ∷ 0 ∷ 6 ∷ 2 ∷ 7 ∷ 0 ∷ 0 ∷ 0 ∷ 1 ∷ []) ≡ true
+ask_costs_none = refl
+
+forward_costs_one : costs_no_sync (0 ∷ 0 ∷ 0 ∷ 9 ∷ 2 ∷ 8 ∷ 2 ∷ 0 ∷ 0 ∷ 0 ∷ 0 ∷ 0 ∷ 1 ∷ []) ≡ false
+forward_costs_one = refl
 
 above_the_front : IsDue 2 (accept 3 4) → ⊥
 above_the_front due = omega (arith, due)

@@ -25,13 +25,20 @@ use Rattle.peer_codes.specs.declared.hello.Life.{Life}
 peer_first : line_at 6 ≡ Peer 6
 peer_first = refl
 
-caller_behind : line_at 7 ≡ Caller 0
+peer_again : line_at 7 ≡ Peer 7
+peer_again = refl
+
+caller_behind : line_at 14 ≡ Caller 0
 caller_behind = refl
 
 peer_was_dialled : dialled_over (line_at 6) ≡ Some 6
 peer_was_dialled = refl
 
-caller_dialled : dialled_over (line_at 7) ≡ None
+-- over the second line to it too
+peer_was_dialled_again : dialled_over (line_at 13) ≡ Some 6
+peer_was_dialled_again = refl
+
+caller_dialled : dialled_over (line_at 14) ≡ None
 caller_dialled = refl
 
 abbrev own : Own
@@ -74,7 +81,7 @@ passed = Began (Caller 0) ∷ Came (Caller 0) both ∷ []
 ask_told : IsTold own passed (notices.Frame 1 ask)
 ask_told =
     ∣ (record {
-      place = 7;
+      place = 14;
       before = passed;
       since = [];
       passed_is = refl;
@@ -88,7 +95,7 @@ node_1_told =
       hello = hello;
       from_is = refl;
       life_is = refl;
-      opened = record { place = 7; before = passed; since = []; passed_is = refl; opens = record { is = hello_is; takes = ([], refl); rest = record_text (record_of.Frame ask) ++ []; text = refl } };
+      opened = record { place = 14; before = passed; since = []; passed_is = refl; opens = record { is = hello_is; takes = ([], refl); rest = record_text (record_of.Frame ask) ++ []; text = refl } };
     }) ∣₁
 
 -- what was written before a connection began is none of it

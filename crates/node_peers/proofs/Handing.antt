@@ -18,10 +18,14 @@ use Rattle.node_links.specs.Repeating.{kept_after, copy_of}
 use Rattle.node_links.specs.Forwarding.{forwarded_after}
 use Rattle.node_links.specs.Waits.{Waits}
 use Rattle.node_links.specs.declared.lives.Lives.{Lives}
+use Rattle.node_links.specs.declared.settings.Settings.{Settings}
+use Rattle.node_links.specs.Promising.{higher}
+use Rattle.paxos_wire.specs.declared.ballot.Ballot.{Ballot}
 use Rattle.node_links.specs.Waiting.{newest, without_further, without_more, more_of, rest_behind, rest_by, rest_of, Puts, IsBegun}
 use Rattle.node_peers.specs.declared.peer.Peer.{Peer}
 use Rattle.node_peers.specs.declared.lines.Lines.{Lines}
 use Rattle.node_peers.specs.Growing.{Grew, Stays}
+use Rattle.node_peers.proofs.Promises.{less_self, less_on, same_promise, risen_promise}
 use Rattle.node_peers.specs.Handing.{accepted_in, forwarded_in, frames_for, Among, GoesBack, GoesWith, GoBack, Is, IsHanded, AreHanded, AreFor}
 
 -- ---- among frames
@@ -72,8 +76,8 @@ accepted_of bytes peer among = behind bytes peer.outbox.frames (accepted_in peer
 forwarded_of : (bytes : List ℕ) (peer : Peer) → From bytes (frames_for peer) (forwarded_in peer.forwarded.last)
 forwarded_of bytes peer among = behind bytes peer.outbox.frames (accepted_in peer.accepted.last ++ forwarded_in peer.forwarded.last) (behind bytes (accepted_in peer.accepted.last) (forwarded_in peer.forwarded.last) among)
 
-pub goes_same : (old new : Peer) → new.outbox.frames ≡ old.outbox.frames → new.accepted.last ≡ old.accepted.last → new.forwarded.last ≡ old.forwarded.last → new.kept ≡ old.kept → GoesBack old new
-goes_same old new waits accepted forwarded kept = record {
+pub goes_same : (old new : Peer) → new.outbox.frames ≡ old.outbox.frames → new.accepted.last ≡ old.accepted.last → new.forwarded.last ≡ old.forwarded.last → new.kept ≡ old.kept → new.promised ≡ old.promised → GoesBack old new
+goes_same old new waits accepted forwarded kept promised = record {
   back = λ bytes among.
       by_parts bytes new.outbox.frames (accepted_in new.accepted.last) (forwarded_in new.forwarded.last) (frames_for old)
       (λ a. waits_of bytes old (subst (λ (fs : List Frame). Among bytes fs) waits a))
@@ -81,11 +85,28 @@ goes_same old new waits accepted forwarded kept = record {
       (λ a. forwarded_of bytes old (subst (λ (l : Option Frame). Among bytes (forwarded_in l)) forwarded a))
       among;
   kept = λ life is. kept ∙ is;
+  promised = same_promise old.promised new.promised promised;
 }
 
+-- what it is known to have promised rises
+pub goes_risen : (old new : Peer) (shown : Option Ballot) → new.outbox.frames ≡ old.outbox.frames → new.accepted.last ≡ old.accepted.last → new.forwarded.last ≡ old.forwarded.last → new.kept ≡ old.kept → new.promised ≡ higher old.promised shown → GoesBack old new
+goes_risen old new shown waits accepted forwarded kept risen = record {
+  back = λ bytes among.
+      by_parts bytes new.outbox.frames (accepted_in new.accepted.last) (forwarded_in new.forwarded.last) (frames_for old)
+      (λ a. waits_of bytes old (subst (λ (fs : List Frame). Among bytes fs) waits a))
+      (λ a. accepted_of bytes old (subst (λ (l : Option LastAccepted). Among bytes (accepted_in l)) accepted a))
+      (λ a. forwarded_of bytes old (subst (λ (l : Option Frame). Among bytes (forwarded_in l)) forwarded a))
+      among;
+  kept = λ life is. kept ∙ is;
+  promised = risen_promise old.promised new.promised shown risen;
+}
+
+goes_nowhere : (peer : Peer) → GoesBack peer peer
+goes_nowhere peer = record { back = λ bytes among. among; kept = λ life is. is; promised = less_self peer.promised }
+
 -- a first life is kept
-pub goes_kept : (old new : Peer) → new.outbox.frames ≡ old.outbox.frames → new.accepted.last ≡ old.accepted.last → new.forwarded.last ≡ old.forwarded.last → old.kept ≡ None → GoesBack old new
-goes_kept old new waits accepted forwarded none = record {
+pub goes_kept : (old new : Peer) → new.outbox.frames ≡ old.outbox.frames → new.accepted.last ≡ old.accepted.last → new.forwarded.last ≡ old.forwarded.last → old.kept ≡ None → new.promised ≡ old.promised → GoesBack old new
+goes_kept old new waits accepted forwarded none promised = record {
   back = λ bytes among.
       by_parts bytes new.outbox.frames (accepted_in new.accepted.last) (forwarded_in new.forwarded.last) (frames_for old)
       (λ a. waits_of bytes old (subst (λ (fs : List Frame). Among bytes fs) waits a))
@@ -93,14 +114,19 @@ goes_kept old new waits accepted forwarded none = record {
       (λ a. forwarded_of bytes old (subst (λ (l : Option Frame). Among bytes (forwarded_in l)) forwarded a))
       among;
   kept = λ life is. absurd (let never : None ≡ Some life = sym none ∙ is in cc);
+  promised = same_promise old.promised new.promised promised;
 }
 
 pub goes_on : (a b c : Peer) → GoesBack a b → GoesBack b c → GoesBack a c
-goes_on a b c one two = record { back = λ bytes among. one.back bytes (two.back bytes among); kept = λ life is. two.kept life (one.kept life is) }
+goes_on a b c one two = record {
+  back = λ bytes among. one.back bytes (two.back bytes among);
+  kept = λ life is. two.kept life (one.kept life is);
+  promised = less_on a.promised b.promised c.promised one.promised two.promised;
+}
 
 -- the newest of what waits stays
-pub goes_newest : (old new : Peer) (most : ℕ) → new.outbox.frames ≡ newest most old.outbox.frames → new.accepted.last ≡ old.accepted.last → new.forwarded.last ≡ old.forwarded.last → new.kept ≡ old.kept → GoesBack old new
-goes_newest old new most waits accepted forwarded kept = record {
+pub goes_newest : (old new : Peer) (most : ℕ) → new.outbox.frames ≡ newest most old.outbox.frames → new.accepted.last ≡ old.accepted.last → new.forwarded.last ≡ old.forwarded.last → new.kept ≡ old.kept → new.promised ≡ old.promised → GoesBack old new
+goes_newest old new most waits accepted forwarded kept promised = record {
   back = λ bytes among.
       by_parts bytes new.outbox.frames (accepted_in new.accepted.last) (forwarded_in new.forwarded.last) (frames_for old)
       (λ a. waits_of bytes old (dropped_among bytes (length old.outbox.frames - most) old.outbox.frames (subst (λ (fs : List Frame). Among bytes fs) waits a)))
@@ -108,11 +134,12 @@ goes_newest old new most waits accepted forwarded kept = record {
       (λ a. forwarded_of bytes old (subst (λ (l : Option Frame). Among bytes (forwarded_in l)) forwarded a))
       among;
   kept = λ life is. kept ∙ is;
+  promised = same_promise old.promised new.promised promised;
 }
 
 -- the last act that went on needn't go again
-pub goes_forgotten : (old new : Peer) → new.outbox.frames ≡ old.outbox.frames → new.accepted.last ≡ old.accepted.last → new.forwarded.last ≡ None → new.kept ≡ old.kept → GoesBack old new
-goes_forgotten old new waits accepted forwarded kept = record {
+pub goes_forgotten : (old new : Peer) → new.outbox.frames ≡ old.outbox.frames → new.accepted.last ≡ old.accepted.last → new.forwarded.last ≡ None → new.kept ≡ old.kept → new.promised ≡ old.promised → GoesBack old new
+goes_forgotten old new waits accepted forwarded kept promised = record {
   back = λ bytes among.
       by_parts bytes new.outbox.frames (accepted_in new.accepted.last) (forwarded_in new.forwarded.last) (frames_for old)
       (λ a. waits_of bytes old (subst (λ (fs : List Frame). Among bytes fs) waits a))
@@ -120,6 +147,7 @@ goes_forgotten old new waits accepted forwarded kept = record {
       (λ a. absurd (subst (λ (l : Option Frame). Among bytes (forwarded_in l)) forwarded a))
       among;
   kept = λ life is. kept ∙ is;
+  promised = same_promise old.promised new.promised promised;
 }
 
 -- what is put behind the newest of the others, or isn't for want of memory
@@ -133,8 +161,8 @@ put_among bytes frame false count old among = inr (dropped_among bytes count old
 
 -- one that goes again is put there
 goes_put : (old new : Peer) (frame : Frame) (most : ℕ) (there : Bool) → ((bytes : List ℕ) → frame.bytes.items ≡ bytes → Among bytes (frames_for old)) → Puts frame most old.outbox there new.outbox → new.accepted.last ≡ old.accepted.last → new.forwarded.last ≡ old.forwarded.last
-    → new.kept ≡ old.kept → GoesBack old new
-goes_put old new frame most there is puts accepted forwarded kept = record {
+    → new.kept ≡ old.kept → new.promised ≡ old.promised → GoesBack old new
+goes_put old new frame most there is puts accepted forwarded kept promised = record {
   back = λ bytes among.
       by_parts bytes new.outbox.frames (accepted_in new.accepted.last) (forwarded_in new.forwarded.last) (frames_for old)
       (λ a. elim (put_among bytes frame there (length old.outbox.frames - (most - 1)) old.outbox.frames (subst (λ (fs : List Frame). Among bytes fs) (ap (λ (w : Waits). w.frames) puts) a)) as (λ _. Among bytes (frames_for old)) [
@@ -145,33 +173,35 @@ goes_put old new frame most there is puts accepted forwarded kept = record {
       (λ a. forwarded_of bytes old (subst (λ (l : Option Frame). Among bytes (forwarded_in l)) forwarded a))
       among;
   kept = λ life is. kept ∙ is;
+  promised = same_promise old.promised new.promised promised;
 }
 
 accepted_again : (bytes : List ℕ) (last : Option LastAccepted) (frame : Frame) → Some frame ≡ copy_of last → frame.bytes.items ≡ bytes → Among bytes (accepted_in last)
 accepted_again bytes None frame copied is = absurd cc
 accepted_again bytes (Some last) frame copied is = let same : frame ≡ last.frame = cc in inl (ap (λ (f : Frame). f.bytes.items) (sym same) ∙ is)
 
-pub goes_repeated : (old new : Peer) (frame : Frame) (most : ℕ) (there : Bool) → Some frame ≡ copy_of old.accepted.last → Puts frame most old.outbox there new.outbox → new.accepted.last ≡ old.accepted.last → new.forwarded.last ≡ old.forwarded.last → new.kept ≡ old.kept → GoesBack old new
+pub goes_repeated : (old new : Peer) (frame : Frame) (most : ℕ) (there : Bool) → Some frame ≡ copy_of old.accepted.last → Puts frame most old.outbox there new.outbox → new.accepted.last ≡ old.accepted.last → new.forwarded.last ≡ old.forwarded.last → new.kept ≡ old.kept → new.promised ≡ old.promised → GoesBack old new
 goes_repeated old new frame most there copied = goes_put old new frame most there (λ bytes is. accepted_of bytes old (accepted_again bytes old.accepted.last frame copied is))
 
 forwarded_again : (bytes : List ℕ) (last : Option Frame) (frame : Frame) → Some frame ≡ last → frame.bytes.items ≡ bytes → Among bytes (forwarded_in last)
 forwarded_again bytes None frame copied is = absurd cc
 forwarded_again bytes (Some last) frame copied is = let same : frame ≡ last = cc in inl (ap (λ (f : Frame). f.bytes.items) (sym same) ∙ is)
 
-pub goes_forwarded : (old new : Peer) (frame : Frame) (most : ℕ) (there : Bool) → Some frame ≡ old.forwarded.last → Puts frame most old.outbox there new.outbox → new.accepted.last ≡ old.accepted.last → new.forwarded.last ≡ old.forwarded.last → new.kept ≡ old.kept → GoesBack old new
+pub goes_forwarded : (old new : Peer) (frame : Frame) (most : ℕ) (there : Bool) → Some frame ≡ old.forwarded.last → Puts frame most old.outbox there new.outbox → new.accepted.last ≡ old.accepted.last → new.forwarded.last ≡ old.forwarded.last → new.kept ≡ old.kept → new.promised ≡ old.promised → GoesBack old new
 goes_forwarded old new frame most there copied = goes_put old new frame most there (λ bytes is. forwarded_of bytes old (forwarded_again bytes old.forwarded.last frame copied is))
 
 -- the next of what waits is begun
 pub not_begun : (old new : Waits) → new ≡ old → IsBegun old new
 not_begun old new e = inl e
 
-further_frames : (lives : Option Lives) (w : Waits) → (without_further lives w).frames ≡ w.frames
-further_frames (Some lives) w = refl
-further_frames None w = refl
+further_frames : (lives : Option Lives) (settings : Option Settings) (w : Waits) → (without_further lives settings w).frames ≡ w.frames
+further_frames (Some lives) settings w = refl
+further_frames None (Some settings) w = refl
+further_frames None None w = refl
 
 more_frames : (version : Version) (w : Waits) → (without_more version w).frames ≡ w.frames
 more_frames First w = refl
-more_frames Second w = further_frames w.lives w
+more_frames Second w = further_frames w.lives w.settings w
 
 behind_among : (bytes : List ℕ) (more : Option More) (version : Version) (w : Waits) → Among bytes (rest_behind more version w).frames → Among bytes w.frames
 behind_among bytes (Some more) version w among = subst (λ (fs : List Frame). Among bytes fs) (more_frames version w) among
@@ -184,9 +214,9 @@ by_beat bytes None version w among = behind_among bytes (more_of version w) vers
 rest_among : (bytes : List ℕ) (version : Version) (w : Waits) → Among bytes (rest_of version w).frames → Among bytes w.frames
 rest_among bytes version w among = by_beat bytes w.beat version w among
 
-pub goes_begun : (old new : Peer) → IsBegun old.outbox new.outbox → new.accepted.last ≡ old.accepted.last → new.forwarded.last ≡ old.forwarded.last → new.kept ≡ old.kept → GoesBack old new
-goes_begun old new (inl same) accepted forwarded kept = goes_same old new (ap (λ (w : Waits). w.frames) same) accepted forwarded kept
-goes_begun old new (inr (version, rest)) accepted forwarded kept = record {
+pub goes_begun : (old new : Peer) → IsBegun old.outbox new.outbox → new.accepted.last ≡ old.accepted.last → new.forwarded.last ≡ old.forwarded.last → new.kept ≡ old.kept → new.promised ≡ old.promised → GoesBack old new
+goes_begun old new (inl same) accepted forwarded kept promised = goes_same old new (ap (λ (w : Waits). w.frames) same) accepted forwarded kept promised
+goes_begun old new (inr (version, rest)) accepted forwarded kept promised = record {
   back = λ bytes among.
       by_parts bytes new.outbox.frames (accepted_in new.accepted.last) (forwarded_in new.forwarded.last) (frames_for old)
       (λ a. waits_of bytes old (rest_among bytes version old.outbox (subst (λ (fs : List Frame). Among bytes fs) (ap (λ (w : Waits). w.frames) rest) a)))
@@ -194,6 +224,7 @@ goes_begun old new (inr (version, rest)) accepted forwarded kept = record {
       (λ a. forwarded_of bytes old (subst (λ (l : Option Frame). Among bytes (forwarded_in l)) forwarded a))
       among;
   kept = λ life is. kept ∙ is;
+  promised = same_promise old.promised new.promised promised;
 }
 
 -- ---- a frame is sent
@@ -238,7 +269,7 @@ goes_unsent sent old new back = record { back = λ bytes among. inr (back.back b
 -- ---- of all peers
 
 pub back_same : (peers : List Peer) → GoBack peers peers
-back_same peers = record { count = refl; back = λ number nobody. record { back = λ bytes among. among; kept = λ life is. is } }
+back_same peers = record { count = refl; back = λ number nobody. goes_nowhere (get_or peers number nobody) }
 
 pub back_on : (a b c : List Peer) → GoBack a b → GoBack b c → GoBack a c
 back_on a b c one two = record { count = two.count ∙ one.count; back = λ number nobody. goes_on (get_or a number nobody) (get_or b number nobody) (get_or c number nobody) (one.back number nobody) (two.back number nobody) }
@@ -249,7 +280,7 @@ at_number number other peers old new nobody within at back = elim (eqb_tells oth
       subst (λ (n : ℕ). GoesBack (get_or peers n nobody) (get_or (set peers number new) n nobody)) (sym here.1)
       (subst (λ (p : Peer). GoesBack (get_or peers number nobody) p) (sym (get_or-set_same peers number new nobody within))
       (subst (λ (p : Peer). GoesBack p new) (at ∙ get_or_default peers number old nobody within) back))
-  | inr there ↦ subst (λ (p : Peer). GoesBack (get_or peers other nobody) p) (sym (get_or-set_other peers number other new nobody there.1)) (record { back = λ bytes among. among; kept = λ life is. is })
+  | inr there ↦ subst (λ (p : Peer). GoesBack (get_or peers other nobody) p) (sym (get_or-set_other peers number other new nobody there.1)) (goes_nowhere (get_or peers other nobody))
 ]
 
 pub back_at : (number : ℕ) (peers : List Peer) (old new : Peer) → number < length peers → old ≡ get_or peers number old → GoesBack old new → GoBack peers (set peers number new)

@@ -1,8 +1,10 @@
 pub mod Adding
 pub mod Questions
 pub mod Growing
+pub mod Speaking
 pub mod Fitting
 pub mod Sending
+pub mod Promises
 pub mod Handing
 pub mod Keyed
 pub mod Meeting

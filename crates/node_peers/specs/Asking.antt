@@ -1,5 +1,5 @@
 -- Which Prepares and Accepts of peers count: of each peer the newest that was read.
-use Rattle.std.specs.Prelude.{◌≡◌, ◌≤◌, ℕ, ◌||◌, ◌&&◌, nat_lt, nat_le, Bool, true, false, if◌then◌else◌, List, set, get_or, Option, Some, None}
+use Rattle.std.specs.Prelude.{◌≡◌, ◌≤◌, ℕ, ◌==◌, ◌||◌, ◌&&◌, nat_lt, nat_le, Bool, true, false, if◌then◌else◌, List, length, slice_index, set, get_or, Option, Some, None}
 use Rattle.paxos_wire.specs.Order.{is_below, is_same_ballot}
 use Rattle.peer_codes.specs.declared.beat.Beat.{Beat}
 use Rattle.peer_codes.specs.declared.frame.Frame.{Frame}
@@ -9,6 +9,14 @@ use Rattle.node_links.specs.declared.owed.Request.{Request}
 use Rattle.node_links.specs.declared.owed.Subject.{Subject}
 use Rattle.node_links.specs.Owing.{question_in}
 use Rattle.node_peers.specs.declared.link.Link.{Link}
+
+-- a Refuse, an Accepted, a Chosen and an Ask have a node store nothing
+abbrev pub is_free : ℕ → Bool
+is_free kind = kind == 3 || (kind == 5 || (kind == 6 || kind == 7))
+
+-- the sixth byte of a frame tells what it is
+abbrev pub costs_no_sync : List ℕ → Bool
+costs_no_sync frame = nat_lt 5 (length frame) && is_free (slice_index frame 5)
 
 -- by ballot, and then by slot
 abbrev pub is_older : Subject → Subject → Bool

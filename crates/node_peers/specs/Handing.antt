@@ -1,5 +1,5 @@
 -- Which frames may go to a peer, and that each of them was handed to it.
-use Rattle.std.specs.Prelude.{◌≡◌, ◌⊎◌, ◌<◌, ℕ, List, [], ◌∷◌, ◌++◌, length, get_or, Option, Some, None}
+use Rattle.std.specs.Prelude.{◌≡◌, ◌⊎◌, ◌<◌, ℕ, false, List, [], ◌∷◌, ◌++◌, length, get_or, Option, Some, None}
 use Rattle.std.specs.Coded.{Π_prop}
 use Rattle.peer_codes.specs.declared.frame.Frame.{Frame}
 use Rattle.peer_codes.specs.declared.hello.Life.{Life}
@@ -7,6 +7,7 @@ use Rattle.node_wires.specs.declared.line.Line.TheVariants.{Peer as ToPeer}
 use Rattle.node_wires.specs.Passages.{Passage, Wrote}
 use Rattle.node_links.specs.declared.accepted.LastAccepted.{LastAccepted}
 use Rattle.node_links.specs.Going.{peer_of}
+use Rattle.node_links.specs.Promising.{promises_less}
 use Rattle.node_peers.specs.declared.link.Link.{Link}
 use Rattle.node_peers.specs.declared.peer.Peer.{Peer}
 
@@ -31,10 +32,11 @@ Among bytes (frame ∷ more) = (frame.bytes.items ≡ bytes) ⊎ Among bytes mor
 
 -- ---- by one call
 
--- no frame may go that couldn't before, and the life that is kept stays the one
+-- no frame may go that couldn't before, the life that is kept stays the one, and what it is known to have promised only rises
 pub record GoesBack (old new : Peer) : Type 0 where
   pub back : (bytes : List ℕ) → Among bytes (frames_for new) → Among bytes (frames_for old)
   pub kept : (life : Life) → old.kept ≡ Some life → new.kept ≡ Some life
+  pub promised : promises_less new.promised old.promised ≡ false
 
 -- but this one
 pub record GoesWith (sent : List ℕ) (old new : Peer) : Type 0 where

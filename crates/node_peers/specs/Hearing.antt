@@ -6,6 +6,7 @@ use Rattle.node_links.specs.declared.heard.Heard.{Heard}
 use Rattle.node_links.specs.declared.heard.Heard.TheVariants as heards
 use Rattle.node_links.specs.declared.peer_fault.PeerFault.{PeerFault}
 use Rattle.node_links.specs.declared.own.Own.{Own}
+use Rattle.node_links.specs.Speaking.{SpeaksOnWith}
 use Rattle.node_links.specs.Talks.{Talk, Says, Opens}
 use Rattle.node_links.specs.Going.{Goes, goes_prop, GoesOnWith, silence, peer_of}
 use Rattle.node_wires.specs.declared.line.Line.{Line}
@@ -16,7 +17,10 @@ use Rattle.peer_codes.specs.declared.hello.Life.{Life}
 use Rattle.node_peers.specs.declared.link.Link.{Link}
 use Rattle.node_peers.specs.declared.notice.Notice.{Notice}
 use Rattle.node_peers.specs.declared.notice.Notice.TheVariants as notices
+use Rattle.node_peers.specs.Greeting.{IsOurs}
+use Rattle.node_peers.specs.Handing.{AreFor, peer_in, peer_at}
 use Rattle.node_peers.specs.Lines.{line_at, dialled_over}
+use Rattle.node_peers.specs.Speaking.{Speaks, IsUnspoken, speaks_prop}
 
 -- the connection that a line has: who was dialled over it, all that came over it and was written to it
 abbrev pub talk_over : List Passage → Line → Talk
@@ -29,17 +33,21 @@ abbrev pub IsKept : Bool → Own → Talk → Connection → Type 0
 IsKept true own talk c = Unit {0}
 IsKept false own talk c = Goes own talk c
 
-abbrev pub IsOf : Own → Talk → Option Link → Type 0
-IsOf own talk None = Unit {0}
-IsOf own talk (Some link) = IsKept link.is_lost own talk link.connection
+abbrev pub Hears : Own → Talk → Option Link → Type 0
+Hears own talk None = Unit {0}
+Hears own talk (Some link) = IsKept link.is_lost own talk link.connection
+
+-- and what it wrote is its own, of what was handed to the peers
+abbrev pub IsOf : Own → List Passage → Talk → Option Link → Type 0
+IsOf own sent talk link = Hears own talk link × Speaks own sent talk link
 
 -- the connection at each place goes by this
-abbrev pub FitsBy : Own → (ℕ → Talk) → List (Option Link) → Type 0
-FitsBy own talks links = (place : ℕ) → IsOf own (talks place) (get_or links place None)
+abbrev pub FitsBy : Own → List Passage → (ℕ → Talk) → List (Option Link) → Type 0
+FitsBy own sent talks links = (place : ℕ) → IsOf own sent (talks place) (get_or links place None)
 
 -- the connection at each place goes by what passed over its line
-abbrev pub Fits : Own → List Passage → List (Option Link) → Type 0
-Fits own passed links = FitsBy own (λ place. talk_over passed (line_at place)) links
+abbrev pub Fits : Own → List Passage → List Passage → List (Option Link) → Type 0
+Fits own sent passed links = FitsBy own sent (λ place. talk_over passed (line_at place)) links
 
 -- ---- frames and nodes that are told
 
@@ -96,12 +104,15 @@ kept_prop : (lost : Bool) (own : Own) (talk : Talk) (c : Connection) → IsProp 
 kept_prop true own talk c = Unit-prop
 kept_prop false own talk c = goes_prop own talk c
 
-of_prop : (own : Own) (talk : Talk) (link : Option Link) → IsProp (IsOf own talk link)
-of_prop own talk None = Unit-prop
-of_prop own talk (Some link) = kept_prop link.is_lost own talk link.connection
+hears_prop : (own : Own) (talk : Talk) (link : Option Link) → IsProp (Hears own talk link)
+hears_prop own talk None = Unit-prop
+hears_prop own talk (Some link) = kept_prop link.is_lost own talk link.connection
 
-pub fits_prop : (own : Own) (passed : List Passage) (links : List (Option Link)) → IsProp (Fits own passed links)
-fits_prop own passed links = Π_prop (λ place. of_prop own (talk_over passed (line_at place)) (get_or links place None))
+of_prop : (own : Own) (sent : List Passage) (talk : Talk) (link : Option Link) → IsProp (IsOf own sent talk link)
+of_prop own sent talk link = ×_prop (hears_prop own talk link) (speaks_prop own sent talk link)
+
+pub fits_prop : (own : Own) (sent passed : List Passage) (links : List (Option Link)) → IsProp (Fits own sent passed links)
+fits_prop own sent passed links = Π_prop (λ place. of_prop own sent (talk_over passed (line_at place)) (get_or links place None))
 
 told_prop : (own : Own) (passed : List Passage) (notice : Notice) → IsProp (IsTold own passed notice)
 told_prop own passed (notices.Frame from frame) = λ x y. squash₁ x y
@@ -127,28 +138,42 @@ are_aside_prop own passed frames = Π_prop (λ number. aside_prop own passed num
 
 -- what a connection went by it goes by
 abbrev pub KeepsOn : Option Link → Option Link → Type 0
-KeepsOn old new = (own : Own) (talk : Talk) → IsOf own talk old → IsOf own talk new
+KeepsOn old new = (own : Own) (sent : List Passage) (talk : Talk) → IsOf own sent talk old → IsOf own sent talk new
 
 -- and so do those at all places
 abbrev pub FitsOn : List (Option Link) → List (Option Link) → Type 0
-FitsOn old new = (own : Own) (talks : ℕ → Talk) → FitsBy own talks old → FitsBy own talks new
+FitsOn old new = (own : Own) (sent : List Passage) (talks : ℕ → Talk) → FitsBy own sent talks old → FitsBy own sent talks new
+
+-- where it answers with a Hello of this node
+abbrev pub KeepsAs : Hello → Option Link → Option Link → Type 0
+KeepsAs mine old new = (own : Own) (sent : List Passage) (talk : Talk) → IsOurs own mine → IsOf own sent talk old → IsOf own sent talk new
+
+abbrev pub FitsAs : Hello → List (Option Link) → List (Option Link) → Type 0
+FitsAs mine old new = (own : Own) (sent : List Passage) (talks : ℕ → Talk) → IsOurs own mine → FitsBy own sent talks old → FitsBy own sent talks new
+
+-- where it is given frames that were handed to its node
+abbrev pub KeepsSaying : List Frame → Option Link → Option Link → Type 0
+KeepsSaying frames old new = (own : Own) (sent : List Passage) (talk : Talk) → AreFor (peer_in old) sent frames → IsOf own sent talk old → IsOf own sent talk new
+
+abbrev pub FitsSaying : List Frame → ℕ → List (Option Link) → List (Option Link) → Type 0
+FitsSaying frames place old new = (own : Own) (sent : List Passage) (talks : ℕ → Talk) → AreFor (peer_at old place) sent frames → FitsBy own sent talks old → FitsBy own sent talks new
 
 -- the connection at a place goes by what passed over its line, and over no other line anything passed
 pub record Moves (place : ℕ) (old new : Option Link) (passed_old passed_new : List Passage) : Type 0 where
-  pub heard : (own : Own) → IsOf own (talk_over passed_old (line_at place)) old → IsOf own (talk_over passed_new (line_at place)) new
+  pub heard : (own : Own) (sent : List Passage) → IsOf own sent (talk_over passed_old (line_at place)) old → IsOf own sent (talk_over passed_new (line_at place)) new
   pub elsewhere : (other : ℕ) → (place ≡ other → ⊥) → talk_over passed_new (line_at other) ≡ talk_over passed_old (line_at other)
 
 abbrev pub FitsThrough : List Passage → List Passage → List (Option Link) → List (Option Link) → Type 0
-FitsThrough passed_old passed_new old new = (own : Own) → Fits own passed_old old → Fits own passed_new new
+FitsThrough passed_old passed_new old new = (own : Own) (sent : List Passage) → Fits own sent passed_old old → Fits own sent passed_new new
 
 -- over a connection of this node that begins over a line nothing came, and nothing was written to it
 abbrev pub IsFresh : Own → Line → Option Link → Type 0
 IsFresh own line None = Unit {0}
-IsFresh own line (Some link) = Goes own (silence (dialled_over line)) link.connection
+IsFresh own line (Some link) = Goes own (silence (dialled_over line)) link.connection × IsUnspoken own (silence (dialled_over line)) link.connection
 
 -- a piece was taken in, or lost
 abbrev pub TakesIn : Link → Link → List ℕ → Type 0
-TakesIn old new piece = (new.is_lost ≡ true) ⊎ ((new.is_lost ≡ old.is_lost) × GoesOnWith old.connection new.connection piece)
+TakesIn old new piece = ((new.is_lost ≡ true) × (new.connection ≡ old.connection)) ⊎ ((new.is_lost ≡ old.is_lost) × (old.is_lost ≡ false) × GoesOnWith old.connection new.connection piece × SpeaksOnWith old.connection new.connection piece)
 
 -- a frame that a connection says is one that came as it has to
 abbrev pub SaysFrame : Option (Result Heard PeerFault) → Link → Link → Type 0
@@ -158,13 +183,13 @@ SaysFrame (Some (Ok (heards.Hello hello))) old new = Unit {0}
 SaysFrame (Some (Ok (heards.Proved hello))) old new = Unit {0}
 SaysFrame (Some (Ok (heards.Beat beat))) old new = Unit {0}
 SaysFrame (Some (Ok (heards.Further further))) old new = Unit {0}
-SaysFrame (Some (Ok (heards.Frame frame))) old new = (own : Own) (talk : Talk) (from : ℕ) → IsOf own talk (Some old) → peer_of new.connection ≡ Some from → ∥ Says own from frame talk ∥₁
+SaysFrame (Some (Ok (heards.Frame frame))) old new = (own : Own) (talk : Talk) (from : ℕ) → Hears own talk (Some old) → peer_of new.connection ≡ Some from → ∥ Says own from frame talk ∥₁
 
 -- where it is open now it was opened as it has to be
 abbrev pub OpensIn : Own → Option Hello → Option Link → Type 0
 OpensIn own None link = Unit {0}
-OpensIn own (Some hello) link = (talk : Talk) → IsOf own talk link → ∥ Opens own hello talk ∥₁
+OpensIn own (Some hello) link = (talk : Talk) → Hears own talk link → ∥ Opens own hello talk ∥₁
 
 abbrev pub OpensAt : Own → Option Hello → ℕ → List (Option Link) → Type 0
 OpensAt own None place links = Unit {0}
-OpensAt own (Some hello) place links = (talks : ℕ → Talk) → FitsBy own talks links → ∥ Opens own hello (talks place) ∥₁
+OpensAt own (Some hello) place links = (talks : ℕ → Talk) → ((other : ℕ) → Hears own (talks other) (get_or links other None)) → ∥ Opens own hello (talks place) ∥₁

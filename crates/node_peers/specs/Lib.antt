@@ -1,6 +1,7 @@
 pub mod Lines
 pub mod Adding
 pub mod Asking
+pub mod Speaking
 pub mod Hearing
 pub mod Saying
 pub mod Growing
@@ -16,3 +17,5 @@ pub mod Meeting
 pub mod Turning
 pub mod Reporting
 pub mod Leaving
+pub mod Showing
+pub mod Promising

@@ -1,5 +1,5 @@
 -- What is said by a connection, and by whom.
-use Rattle.std.specs.Prelude.{ℕ, List, Option, Some, None, Result, Ok, Err}
+use Rattle.std.specs.Prelude.{ℕ, Bool, false, List, get_or, Option, Some, None, Result, Ok, Err}
 use Rattle.node_links.specs.declared.arrived.Arrived.{Arrived}
 use Rattle.node_links.specs.declared.arrived.Arrived.TheVariants as arrivals
 use Rattle.node_links.specs.declared.peer_fault.PeerFault.{PeerFault}
@@ -9,7 +9,12 @@ use Rattle.node_peers.specs.declared.link.Link.{Link}
 use Rattle.node_peers.specs.declared.saying.Saying.{Saying}
 use Rattle.node_peers.specs.declared.saying.Saying.TheVariants as sayings
 use Rattle.node_links.specs.Talks.{Talk, Says}
-use Rattle.node_peers.specs.Hearing.{IsOf, FitsBy}
+use Rattle.node_peers.specs.Hearing.{Hears}
+
+-- its node is refused, though the connection is open
+abbrev pub is_away : Option Link → Bool
+is_away None = false
+is_away (Some link) = link.is_turned_away
 
 -- a frame and a beat are those of the node at the other end, where the connection is open
 abbrev pub saying_of : Option (Result Arrived PeerFault) → Option ℕ → Saying
@@ -26,7 +31,7 @@ saying_of (Some (Ok (arrivals.Further further))) None = sayings.Nothing
 
 -- where this frame is said it came over the connection as it has to
 abbrev pub SaidBy : Saying → Frame → Option Link → Type 0
-SaidBy (sayings.Frame from) frame link = (own : Own) (talk : Talk) → IsOf own talk link → ∥ Says own from frame talk ∥₁
+SaidBy (sayings.Frame from) frame link = (own : Own) (talk : Talk) → Hears own talk link → ∥ Says own from frame talk ∥₁
 SaidBy sayings.Waits frame link = Unit {0}
 SaidBy sayings.Nothing frame link = Unit {0}
 SaidBy (sayings.Hello hello) frame link = Unit {0}
@@ -36,7 +41,7 @@ SaidBy (sayings.Further from further) frame link = Unit {0}
 SaidBy (sayings.Fault fault) frame link = Unit {0}
 
 abbrev pub SaidAt : Saying → Frame → ℕ → List (Option Link) → Type 0
-SaidAt (sayings.Frame from) frame place links = (own : Own) (talks : ℕ → Talk) → FitsBy own talks links → ∥ Says own from frame (talks place) ∥₁
+SaidAt (sayings.Frame from) frame place links = (own : Own) (talks : ℕ → Talk) → ((other : ℕ) → Hears own (talks other) (get_or links other None)) → ∥ Says own from frame (talks place) ∥₁
 SaidAt sayings.Waits frame place links = Unit {0}
 SaidAt sayings.Nothing frame place links = Unit {0}
 SaidAt (sayings.Hello hello) frame place links = Unit {0}

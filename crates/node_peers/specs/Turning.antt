@@ -1,8 +1,7 @@
 -- How a peer is dialled next.
-use Rattle.std.specs.Prelude.{ℕ, nat_lt, Bool, true, false, not, if◌then◌else◌, List, Option, Some, None, slice_get}
+use Rattle.std.specs.Prelude.{ℕ, Bool, true, false, not, List, Option, Some, None, slice_get}
 use Rattle.peer_codes.specs.declared.version.Version.{Version}
 use Rattle.peer_codes.specs.declared.version.Version.TheVariants.{First, Second}
-use Rattle.node_links.specs.declared.limits.TheConstants.{NODES}
 use Rattle.node_links.specs.declared.dial.Dial.{Dial}
 use Rattle.node_links.specs.declared.dial.Dial.TheVariants as dials
 use Rattle.node_links.specs.declared.dial.DialDue.{DialDue}
@@ -12,6 +11,7 @@ use Rattle.node_links.specs.declared.turning.Turn.{Turn}
 use Rattle.node_links.specs.Dialling.{due_of}
 use Rattle.node_links.specs.Versions.{version_of, is_probe, closed_end, next_turn}
 use Rattle.node_peers.specs.declared.peer.Peer.{Peer}
+use Rattle.node_peers.specs.Lines.{line_at, dialled_over}
 
 -- the dial that is there ends: the other closed it without a byte or didn't, and a Hello of this version came first, if one did
 abbrev pub turn_after : Dial → Turn → Bool → Option Version → Turn
@@ -57,6 +57,10 @@ abbrev pub probe_in : Option Peer → Bool
 probe_in None = false
 probe_in (Some peer) = is_probe peer.turn
 
+abbrev pub probed_over : Option ℕ → List Peer → Bool
+probed_over None peers = false
+probed_over (Some number) peers = probe_in (slice_get peers number)
+
 -- at this place a peer is dialled to learn only whether a node is there
 abbrev pub is_probed : ℕ → List Peer → Bool
-is_probed place peers = if nat_lt place NODES then probe_in (slice_get peers place) else false
+is_probed place peers = probed_over (dialled_over (line_at place)) peers

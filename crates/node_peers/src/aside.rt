@@ -1,12 +1,36 @@
 //! The Prepares and Accepts of peers, which cost a node syncs: which of each peer is the newest, and those that are set aside.
+//! And which frames cost none.
 
 ghost use Rattle.std.specs.Prelude.{◌≡◌, ℕ, IfOk, None, Some, get_or, set};
 ghost use Rattle.node_links.specs.Owing.{question_in};
-ghost use Rattle.node_peers.specs.Asking.{is_older, newer_of, marked, is_outdated};
+ghost use Rattle.node_peers.specs.Asking.{is_older, newer_of, marked, is_outdated, is_free, costs_no_sync};
 
 use node_links::limits::NODES;
 use node_links::{KeptFrame, Owed, Question, Subject};
 use std::alloc::{AllocError, Global};
+
+/// The bytes that tell a Refuse, an Accepted, a Chosen and an Ask among frames: at none of them a node stores anything.
+const REFUSE: u8 = 3;
+
+const ACCEPTED: u8 = 5;
+
+const CHOSEN: u8 = 6;
+
+const ASK: u8 = 7;
+
+/// Whether a frame of this kind costs a node no sync.
+fn is_free(kind: u8) -> bool
+    ensures { result ≡ is_free kind }
+{
+    kind == REFUSE || kind == ACCEPTED || kind == CHOSEN || kind == ASK
+}
+
+/// Whether a frame costs a node no sync.
+pub(crate) fn costs_no_sync(frame: &[u8]) -> bool
+    ensures { result ≡ costs_no_sync frame.now }
+{
+    frame.len() > 5 && is_free(frame[5])
+}
 
 /// What a frame asks: that of a Prepare or an Accept.
 #[tactic(auto, using(crate::proofs::Questions::last_asked))]

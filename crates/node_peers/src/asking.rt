@@ -15,7 +15,7 @@ ghost use Rattle.node_peers.specs.Knowing.{known_of, IsOfOne};
 ghost use Rattle.node_peers.specs.Noticing.{IsFrame};
 ghost use Rattle.node_peers.specs.Leaving.{FateIs, IsQuiet, KeepsAll, MayBeTold, NeedsNoAnswer, NoneIsNeeded, PassesOne, TakesAside, aside_of, beat_in, newest_of, waits_of};
 
-use crate::aside::{is_older, question_in};
+use crate::aside::{costs_no_sync, is_older, question_in};
 use crate::knowing::is_replaced;
 use crate::limits::HOLD;
 use crate::notice::Notice;
@@ -161,6 +161,28 @@ impl Peers {
             return Fate::SetAside;
         }
         Fate::Told
+    }
+
+    /// Whether a frame of a peer costs the node no sync, where it would be told now.
+    fn is_free_frame(&self, from: u8, frame: &KeptFrame) -> Option<bool> {
+        match self.fate(from, frame) {
+            Fate::Told => Some(costs_no_sync(frame.as_slice())),
+            Fate::LeftOut => None,
+            Fate::SetAside => None,
+        }
+    }
+
+    /// Whether a notice costs the node no sync, where it would be told now.
+    pub(crate) fn is_free(&self, notice: &Notice) -> Option<bool> {
+        match notice {
+            Notice::Frame { from, frame } => self.is_free_frame(*from, frame),
+            Notice::Joined { .. }
+            | Notice::Gone { .. }
+            | Notice::Refused { .. }
+            | Notice::Unreached { .. }
+            | Notice::Strangers { .. }
+            | Notice::Settings { .. } => Some(true),
+        }
     }
 
     /// A frame of a peer whose turn has come, where it is told now.

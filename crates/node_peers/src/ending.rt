@@ -87,6 +87,16 @@ impl Peers {
         dialled_at(place)
     }
 
+    /// The peer whose last dial is the connection at a place.
+    pub(crate) fn last_dialled_at(&self, place: usize) -> Option<u8> {
+        let number = self.dialled_at(place)?;
+        if self.peers.get(number as usize)?.dialled == place {
+            Some(number)
+        } else {
+            None
+        }
+    }
+
     /// The peer that is there by the connection at a place.
     pub(crate) fn joined_at(&self, place: usize) -> Option<u8> {
         for number in 0..NODES {
@@ -167,13 +177,13 @@ impl Peers {
         }
     }
 
-    /// The connection at a place ends: where that is a dial, it ended.
+    /// The connection at a place ends: where that is the last dial of a peer, it ended.
     #[tactic(auto, using(crate::proofs::Handing::handed_on, crate::proofs::Handing::handed_stays, crate::proofs::Handing::handed_grew, crate::proofs::Fading::fade_same))]
     fn end_dialled(&mut self, place: usize, now: u64, outcome: Outcome)
         ensures stays { Stays self.old self.new }
         ensures fade { AllFade self.old.peers.items self.new.peers.items }
     {
-        if let Some(number) = self.dialled_at(place) {
+        if let Some(number) = self.last_dialled_at(place) {
             end_dial(&mut self.peers, number, now, outcome);
         }
     }
@@ -223,11 +233,12 @@ impl Peers {
         let known = link.known(dialled, self.joined_at(place), fault);
         let said = link.heading.version();
         let is_older = self.is_older(dialled, said);
+        let last_dialled = self.last_dialled_at(place);
         self.leave(place, now);
         if !self.lines.refuse(place) {
             return;
         }
-        self.refuse_dialled(dialled, fault, said, now);
+        self.refuse_dialled(last_dialled, fault, said, now);
         if is_older {
             return;
         }
@@ -286,7 +297,7 @@ impl Peers {
         None
     }
 
-    /// The peer that was dialled, if one was, is refused by a fault; a Hello of this version came first, if one did.
+    /// The peer whose last dial it was, if it was one's, is refused by a fault; a Hello of this version came first, if one did.
     #[tactic(auto, using(crate::proofs::Handing::handed_on, crate::proofs::Handing::handed_stays, crate::proofs::Handing::handed_grew, crate::proofs::Fading::fade_same))]
     fn refuse_dialled(
         &mut self,

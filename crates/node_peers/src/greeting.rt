@@ -1,6 +1,6 @@
 //! Hellos of a process and of its peers: what it says, how it answers, and which peer is there by what it said.
 
-ghost use Rattle.std.specs.Prelude.{◌≡◌, true, IfSome};
+ghost use Rattle.std.specs.Prelude.{◌≡◌, true, Some, IfSome};
 ghost use Rattle.node_links.specs.Judging.{is_coded};
 ghost use Rattle.node_peers.specs.Greeting.{IsOurs, coded_by, first_of};
 ghost use Rattle.node_links.specs.declared.limits.TheConstants.{NODES as MOST};
@@ -12,10 +12,12 @@ ghost use Rattle.node_peers.specs.Replacing.{AllFade};
 ghost use Rattle.node_peers.specs.Turning.{is_probed};
 
 use crate::knowing::known_of;
+use crate::limits::HELLO_AGE;
+use crate::link::dialled_at;
 use crate::peer::Peer;
 use crate::peers::Peers;
 use node_links::limits::NODES;
-use node_links::{Known, Met, Own, PeerFault};
+use node_links::{Known, Met, Own, PeerFault, Whose, promises_less};
 use node_wires::Wire;
 use paxos_wire::Ballot;
 use peer_codes::{Ends, Hello, Life, Link as Kind, Nonce, RecordFault, Version};
@@ -89,9 +91,10 @@ pub(crate) fn drawn<W: Wire>(has_key: bool, wire: &mut W) -> Option<Kind>
     }
 }
 
-/// Whether a peer is here by another connection than the one at a place, where a Hello came.
+/// Whether a peer is here by another connection than the one at a place, where a Hello came. Not where this node dialled anew:
+/// the other one judges whether the new connection takes the place of the one that is there.
 fn is_elsewhere(peer: &Peer, place: usize, now: u64, silence: u64) -> bool {
-    peer.open != Some(place) && peer.is_here(now, silence)
+    dialled_at(place).is_none() && peer.open != Some(place) && peer.is_here(now, silence)
 }
 
 /// What is known of a node when a Hello is judged that came over the line at a place.
@@ -137,27 +140,28 @@ pub(crate) fn first_life(kept: Option<Life>, life: Life) -> Option<Life>
 fn is_probed(peers: &[Peer], place: usize) -> bool
     ensures { result ≡ is_probed place peers.now }
 {
-    if place >= NODES {
+    let Some(number) = dialled_at(place) else {
         return false;
-    }
-    match peers.get(place) {
+    };
+    match peers.get(number as usize) {
         Some(peer) => peer.turn.is_probe(),
         None => false,
     }
 }
 
-/// A peer is there from now on by the connection at a place. This life of its store is kept, if it is the first.
+/// The peer with this Hello is there from now on by the connection at a place.
 #[tactic(auto, using(crate::proofs::Handing::back_at, crate::proofs::Handing::back_same))]
-fn join(peers: &mut Vec<Peer>, number: u8, life: Life, version: Version, place: usize, now: u64)
+fn join(peers: &mut Vec<Peer>, hello: &Hello, place: usize, now: u64)
     ensures { GoBack peers.old.items peers.new.items }
 {
-    if let Some(peer) = peers.get_mut(number as usize) {
-        peer.meet(life, version, place, now);
+    if let Some(peer) = peers.get_mut(hello.ends.from as usize) {
+        peer.meet(hello, place, now);
     }
 }
 
 impl Peers {
     ghost use Rattle.node_peers.specs.Peering.{own_of, passed_of, Grew, Stays};
+    ghost use Rattle.node_peers.specs.Promising.{promise_of, IsOlder};
 
     /// What this node says first to another, in this version and over a connection of this kind.
     pub(crate) fn hello_to(&self, to: u8, version: Version, link: Kind) -> Hello
@@ -218,15 +222,114 @@ impl Peers {
         }
     }
 
+    /// Whether a peer was dialled at a place beside a connection by which it is there.
+    fn is_beside(&self, place: usize) -> bool {
+        let Some(number) = dialled_at(place) else {
+            return false;
+        };
+        match self.open_at(number) {
+            Some(there) => there != place,
+            None => false,
+        }
+    }
+
     /// The Hello that came over the line at a place is judged, as far as it can be now: where the connection is open then, its
-    /// node is there.
+    /// node is there; where it was dialled beside another one only once more comes over it, since the other may have refused it.
     #[tactic(auto, using(crate::proofs::Growing::grew_on, crate::proofs::Growing::stayed, crate::proofs::Growing::stays_on, crate::proofs::Handing::handed_on, crate::proofs::Handing::handed_stays, crate::proofs::Handing::handed_grew))]
     pub(crate) fn judge<W: Wire>(&mut self, wire: &mut W, place: usize, hello: &Hello, now: u64)
         ensures { Grew self.old self.new (W.passed wire.old) (W.passed wire.new) }
     {
         let lines = &self.lines;
         let met = met(&lines.own, &self.peers, place, now, self.silence);
-        if let Some(taken) = self.lines.settle(place, &met, hello.ends.from) {
+        let Some(taken) = self.lines.settle(place, &met, hello.ends.from) else {
+            return;
+        };
+        match self.older_at(place, &taken) {
+            Some(ballot) => self.turn_away(wire, place, &taken, ballot, now),
+            None => self.take_in(wire, place, &taken, now),
+        }
+    }
+
+    /// A node whose Hello opened the connection at a place is there by it, unless that was dialled beside another one.
+    #[tactic(auto, using(crate::proofs::Growing::stayed))]
+    fn take_in<W: Wire>(&mut self, wire: &mut W, place: usize, hello: &Hello, now: u64)
+        requires { IsOpened (own_of self.old) (passed_of self.old) hello.now }
+        ensures { Grew self.old self.new (W.passed wire.old) (W.passed wire.new) }
+    {
+        if !self.is_beside(place) {
+            self.join(wire, place, hello, now);
+        }
+    }
+
+    /// The ballot that the node with this Hello is known to have promised, where it had shown that before it said the Hello over
+    /// the connection at a place, and promises less by it: its store is an older copy.
+    ///
+    /// A Hello says what its node had promised when it dialled, or when it answered. So it is compared only with what was shown
+    /// before this node dialled, or `HELLO_AGE` before it took in the one who did, and only where no other connection of it was
+    /// there since.
+    #[tactic(auto, using(crate::proofs::Promises::older_shown))]
+    fn older_at(&self, place: usize, hello: &Hello) -> Option<Ballot>
+        ensures { IfSome result (λ ballot. IsOlder self.now hello.now × (promise_of self.now hello.now.ends.from ≡ Some ballot)) }
+    {
+        let link = self.lines.at(place)?;
+        let peer = self.peers.get(hello.ends.from as usize)?;
+        let age = match dialled_at(place) {
+            Some(_) => 0,
+            None => HELLO_AGE,
+        };
+        if peer.had_shown(age, link.began) {
+            peer.older_than(hello.promised)
+        } else {
+            None
+        }
+    }
+
+    /// The node whose Hello opened the connection at a place is refused, since its store is an older copy: it is told this ballot, which it
+    /// is known to have promised, and then the connection ends.
+    #[tactic(auto, using(crate::proofs::Growing::grew_on, crate::proofs::Growing::stayed, crate::proofs::Growing::stays_on, crate::proofs::Handing::handed_on, crate::proofs::Handing::handed_stays, crate::proofs::Handing::handed_grew))]
+    fn turn_away<W: Wire>(
+        &mut self,
+        wire: &mut W,
+        place: usize,
+        hello: &Hello,
+        ballot: Ballot,
+        now: u64,
+    )
+        requires older { IsOlder self.old hello.now }
+        requires known { promise_of self.old hello.now.ends.from ≡ Some ballot }
+        ensures { Grew self.old self.new (W.passed wire.old) (W.passed wire.new) }
+    {
+        self.lines.turn_away(place, ballot);
+        self.refuse_by(wire, place, PeerFault::StoreOlder(Whose::Other), now);
+    }
+
+    /// A node knows this one to have promised this, and told so by the connection at a place. Where this node has promised less, its own
+    /// store is an older copy, which is told.
+    #[tactic(auto, using(crate::proofs::Growing::stayed))]
+    pub(crate) fn take_promised<W: Wire>(
+        &mut self,
+        wire: &mut W,
+        place: usize,
+        ballot: Ballot,
+        now: u64,
+    )
+        ensures { Grew self.old self.new (W.passed wire.old) (W.passed wire.new) }
+    {
+        if self.is_set && promises_less(self.promised, Some(ballot)) {
+            self.end_by(wire, place, PeerFault::StoreOlder(Whose::Own), now);
+        }
+    }
+
+    /// More came of a peer behind its Hello by the connection at a place: where that was dialled, the peer is there by it from
+    /// now on, in place of the one beside which it was.
+    #[tactic(auto, using(crate::proofs::Growing::grew_on, crate::proofs::Growing::stayed, crate::proofs::Growing::stays_on))]
+    pub(crate) fn go_over<W: Wire>(&mut self, wire: &mut W, from: u8, place: usize, now: u64)
+        ensures { Grew self.old self.new (W.passed wire.old) (W.passed wire.new) }
+    {
+        if dialled_at(place) != Some(from) || self.open_at(from) == Some(place) {
+            return;
+        }
+        if let Some(taken) = self.lines.taken_at(place) {
             self.join(wire, place, &taken, now);
         }
     }
@@ -289,14 +392,7 @@ impl Peers {
             None => return,
         };
         if self.lines.note_joined(hello, life) {
-            join(
-                &mut self.peers,
-                hello.ends.from,
-                hello.life,
-                hello.version,
-                place,
-                now,
-            );
+            join(&mut self.peers, hello, place, now);
         }
     }
 }

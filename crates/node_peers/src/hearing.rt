@@ -10,7 +10,7 @@ use crate::peer::Peer;
 use crate::peers::Peers;
 use node_links::{Further, Lives, Subject};
 use node_wires::Wire;
-use node_wires::limits::STRANGERS;
+use node_wires::limits::TAKEN_AT_ONCE;
 use peer_codes::{Beat, Hello};
 
 /// A frame of a peer came by the connection at a place, which answers this.
@@ -58,15 +58,54 @@ fn take_lives(peers: &mut Vec<Peer>, from: u8, place: usize, lives: &Lives)
 impl Peers {
     ghost use Rattle.node_peers.specs.Peering.{Grew};
 
-    /// Takes in those who dialled, so many at most that none of them has to make room before he was heard.
-    #[tactic(auto, using(crate::proofs::Growing::grew_on, crate::proofs::Growing::stayed, crate::proofs::Growing::stays_on, crate::proofs::Handing::handed_on, crate::proofs::Handing::handed_stays, crate::proofs::Handing::handed_grew))]
+    /// Takes in those who dialled, up to `TAKEN_AT_ONCE` of them, and hears each at once.
+    #[tactic(auto, using(crate::proofs::Growing::grew_on, crate::proofs::Growing::stayed, crate::proofs::Growing::stays_on))]
     pub(crate) fn accept_all<W: Wire>(&mut self, wire: &mut W, now: u64)
         ensures { Grew self.old self.new (W.passed wire.old) (W.passed wire.new) }
     {
-        for _ in 0..STRANGERS {
-            if !self.lines.accept(wire, now) {
+        for _ in 0..TAKEN_AT_ONCE {
+            if !self.accept_next(wire, now) {
                 return;
             }
+        }
+    }
+
+    /// Takes in the next one who dialled, and hears him. False where there is none.
+    #[tactic(auto, using(crate::proofs::Growing::grew_on, crate::proofs::Growing::stayed, crate::proofs::Growing::stays_on, crate::proofs::Handing::handed_grew))]
+    fn accept_next<W: Wire>(&mut self, wire: &mut W, now: u64) -> bool
+        ensures { Grew self.old self.new (W.passed wire.old) (W.passed wire.new) }
+    {
+        let Some(place) = self.lines.accept(wire, now) else {
+            return false;
+        };
+        if place < LINKS {
+            self.meet_caller(wire, place, now);
+        }
+        true
+    }
+
+    /// Hears what the one who dialled at a place has said already. Who has ended, or said anything wrong, is let go of at once, so
+    /// that his place is free for the next.
+    #[tactic(auto, using(crate::proofs::Growing::grew_on, crate::proofs::Growing::stayed, crate::proofs::Growing::stays_on, crate::proofs::Handing::handed_grew))]
+    fn meet_caller<W: Wire>(&mut self, wire: &mut W, place: usize, now: u64)
+        requires { place < LINKS }
+        ensures { Grew self.old self.new (W.passed wire.old) (W.passed wire.new) }
+    {
+        self.lines.read(wire, place);
+        self.hear_each(wire, place, now);
+        self.end_if_wrong(wire, place, now);
+    }
+
+    /// Ends the connection at a place, where it has ended, or a fault closed it and that is said.
+    #[tactic(auto, using(crate::proofs::Growing::stayed))]
+    fn end_if_wrong<W: Wire>(&mut self, wire: &mut W, place: usize, now: u64)
+        requires { place < LINKS }
+        ensures { Grew self.old self.new (W.passed wire.old) (W.passed wire.new) }
+    {
+        if self.has_ended(place) {
+            self.end(wire, place, now);
+        } else if self.is_closed(place) {
+            self.write_or_end(wire, place, now);
         }
     }
 
@@ -91,7 +130,7 @@ impl Peers {
                 true
             }
             Some(Ok(Came::Beat { from, beat })) => {
-                take_beat(&mut self.peers, from, place, beat, now);
+                self.hear_beat(wire, from, place, beat, now);
                 true
             }
             Some(Ok(Came::Further { from, further })) => {
@@ -106,6 +145,16 @@ impl Peers {
                 false
             }
         }
+    }
+
+    /// A beat of a peer came by the connection at a place. The other side tells beats over one connection alone, so the peer is
+    /// there by it.
+    #[tactic(auto, using(crate::proofs::Growing::grew_on, crate::proofs::Growing::stayed, crate::proofs::Growing::stays_on, crate::proofs::Handing::handed_on, crate::proofs::Handing::handed_stays, crate::proofs::Handing::handed_grew))]
+    fn hear_beat<W: Wire>(&mut self, wire: &mut W, from: u8, place: usize, beat: Beat, now: u64)
+        ensures { Grew self.old self.new (W.passed wire.old) (W.passed wire.new) }
+    {
+        self.go_over(wire, from, place, now);
+        take_beat(&mut self.peers, from, place, beat, now);
     }
 
     /// A peer told this by the connection at a place.
@@ -130,6 +179,7 @@ impl Peers {
                     self.lines.note_settings(from, *settings);
                 }
             }
+            Further::Promised(ballot) => self.take_promised(wire, place, *ballot, now),
             Further::Unknown => (),
         }
     }
@@ -180,25 +230,36 @@ impl Peers {
         }
     }
 
-    /// Hears what came of a peer that is there by the connection at a place, where that has ended, and ends it.
+    /// Hears what came of a peer that is there by the connection at a place, and ends it where it has ended.
     #[tactic(auto, using(crate::proofs::Growing::grew_on, crate::proofs::Growing::stayed, crate::proofs::Growing::stays_on))]
-    pub(crate) fn end_if_ended<W: Wire>(&mut self, wire: &mut W, place: usize, now: u64)
+    fn hear_joined<W: Wire>(&mut self, wire: &mut W, place: usize, now: u64)
         requires { place < LINKS }
         ensures { Grew self.old self.new (W.passed wire.old) (W.passed wire.new) }
     {
-        if self.joined_at(place).is_some() && self.has_ended(place) {
-            self.hear_at(wire, place, now);
+        if self.joined_at(place).is_none() {
+            return;
+        }
+        self.hear_at(wire, place, now);
+        self.end_if_ended(wire, place, now);
+    }
+
+    /// Ends the connection at a place, where it has ended.
+    #[tactic(auto, using(crate::proofs::Growing::stayed))]
+    fn end_if_ended<W: Wire>(&mut self, wire: &mut W, place: usize, now: u64)
+        ensures { Grew self.old self.new (W.passed wire.old) (W.passed wire.new) }
+    {
+        if self.has_ended(place) {
             self.end(wire, place, now);
         }
     }
 
-    /// The same of all peers that are there.
+    /// Hears what came of all peers that are there, and ends the connections that have ended.
     #[tactic(auto, using(crate::proofs::Growing::grew_on, crate::proofs::Growing::stayed, crate::proofs::Growing::stays_on))]
-    pub(crate) fn end_ended<W: Wire>(&mut self, wire: &mut W, now: u64)
+    pub(crate) fn hear_peers<W: Wire>(&mut self, wire: &mut W, now: u64)
         ensures { Grew self.old self.new (W.passed wire.old) (W.passed wire.new) }
     {
         for place in 0..LINKS {
-            self.end_if_ended(wire, place, now);
+            self.hear_joined(wire, place, now);
         }
     }
 

@@ -12,7 +12,8 @@
 //! `knowing` which lives are known; `peer` what is known of one, with `measures`, what is measured of it; `lines` the connections by
 //! their lines and what waits to be told, over `links`, the connections of all places, `link`, one of them, and `aside`, the
 //! frames that are set aside; `saying` what
-//! one says. `own_front` has the front of this node. Of a peer `dials` has how it is dialled, `frames` what goes to it, and `reports` what it is told of this node.
+//! one says. `own_front` has the front of this node. Of a peer `dials` has how it is dialled, `frames` what goes to it, `promises` what
+//! it is known to have promised, and `reports` what it is told of this node.
 #![tactic(auto)]
 
 mod aside;
@@ -22,6 +23,7 @@ mod ending;
 mod greeting;
 mod hearing;
 mod knowing;
+mod lag;
 pub mod limits;
 mod lines;
 mod link;
@@ -37,6 +39,7 @@ mod saying;
 mod view;
 mod writing;
 
+pub use lag::Lag;
 pub use node_address::NodeAddress;
 pub use notice::Notice;
 pub use peers::Peers;

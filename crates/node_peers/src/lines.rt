@@ -1,6 +1,6 @@
 //! The connections over which nodes speak, by the places of their lines, and what is told of them.
 
-ghost use Rattle.std.specs.Prelude.{◌≡◌, ◌⊎◌, ◌<◌, ◌++◌, ◌∷◌, [], true, get_or, set, IfOk, IfSome, None, Some};
+ghost use Rattle.std.specs.Prelude.{◌≡◌, ◌⊎◌, ◌<◌, ◌+◌, ◌++◌, ◌∷◌, [], true, get_or, set, IfOk, IfSome, None, Some};
 ghost use Rattle.node_peers.specs.declared.notice.Notice.TheVariants as notices;
 ghost use Rattle.node_wires.specs.Passages.{Began, Wrote};
 ghost use Rattle.node_wires.specs.declared.line.Line.TheVariants.{Peer, Caller};
@@ -16,11 +16,11 @@ ghost use Rattle.node_peers.specs.Noticing.{heard_of, heard_by};
 ghost use Rattle.node_peers.specs.Hearing.{Fits, fits_prop, IsTold, AreTold, are_told_prop, IsAside, AreAside, are_aside_prop, IsFresh, IsOpened};
 
 use crate::aside::Aside;
-use crate::limits::{BACKLOG, LINKS, PIECE};
+use crate::limits::{BACKLOG, DIALLED, LINKS, PIECE};
 use crate::link::{Link, Written, line_at};
 use crate::links::{
-    answer_at, begin_at, clear, next_at, no_links, peer_in, put, read_at, refuse_at, settle_at,
-    write_at,
+    answer_at, begin_at, clear, next_at, no_links, peer_in, put, read_at, refuse_at,
+    set_farewell_at, settle_at, taken_at, turn_away_at, write_at,
 };
 use crate::notice::Notice;
 use crate::saying::Saying;
@@ -28,8 +28,8 @@ use arrayvec::ArrayVec;
 use node_links::{
     Connection, Further, KeptFrame, Met, Outbox, Own, PeerFault, Settings, Subject, answered_in,
 };
-use node_wires::limits::NODES;
 use node_wires::{Line, Passages, Wire};
+use paxos_wire::Ballot;
 use peer_codes::{Beat, Frame, Hello, Life};
 use std::alloc::{AllocError, Global};
 use std::collections::VecDeque;
@@ -44,14 +44,18 @@ pub(crate) struct Lines {
     /// The piece that was read last, and the frame that came last: each is taken in before the next.
     piece: Vec<u8>,
     frame: Frame,
-    notices: VecDeque<Notice>,
+    pub(crate) notices: VecDeque<Notice>,
     /// The Prepares and Accepts that are told once nothing else waits.
     pub(crate) aside: Aside,
+    /// How many who dialled left, were let go of or made room before they were there, and no fault of theirs is told.
+    pub(crate) unheard: u64,
+    /// How many who dialled were taken in.
+    pub(crate) callers: u64,
     /// What passed over these lines, which frames were handed to the peers, and what was told of them, for clauses alone.
     passed: Passages,
     sent: Passages,
     heard: Passages,
-    ghost fits: { Fits own passed.items links.items } by { fits_prop own passed.items links.items },
+    ghost fits: { Fits own sent.items passed.items links.items } by { fits_prop own sent.items passed.items links.items },
     ghost told: { AreTold own passed.items notices.items } by { are_told_prop own passed.items notices.items },
     ghost late: { AreAside own passed.items aside.frames.items } by { are_aside_prop own passed.items aside.frames.items },
 }
@@ -101,6 +105,13 @@ fn note_next(notice: &Option<Notice>, heard: &mut Passages)
     }
 }
 
+/// The place of the line of the caller of this number.
+fn caller_place(number: u8) -> usize
+    ensures { result ≡ DIALLED + number }
+{
+    DIALLED + number as usize
+}
+
 impl Lines {
     ghost use Rattle.node_peers.specs.Growing.{Grew, IsSilent, Keeps, Stays};
 
@@ -126,6 +137,8 @@ impl Lines {
             },
             notices,
             aside,
+            unheard: 0,
+            callers: 0,
             passed,
             sent: Passages::new(),
             heard: Passages::new(),
@@ -304,42 +317,65 @@ impl Lines {
     }
 
     /// The connection of one who dialled begins. Apart from `accept`, since it makes room for a connection at its entry.
-    #[tactic(auto, using(crate::proofs::Fitting::caller_line, crate::proofs::Fitting::fresh_link))]
+    #[tactic(auto, using(crate::proofs::Fitting::caller_line, crate::proofs::Fitting::fresh_caller))]
     fn listen(&mut self, number: u8, now: u64)
         ensures own { self.new.own ≡ self.old.own }
         ensures silent { IsSilent self.old self.new }
         ensures passed { self.new.passed.items ≡ self.old.passed.items ++ Began (Caller number) ∷ [] }
     {
-        let place = NODES + number as usize;
+        let place = caller_place(number);
+        self.count_unheard(place);
         let link = Link::new(Connection::listen(self.alloc, self.own.key), now);
         self.begin(place, Line::Caller(number), link);
     }
 
-    /// Takes in the next one who dialled, if there is one.
+    /// Takes in the next one who dialled, if there is one, and answers the place of his line.
     #[tactic(auto, using(crate::proofs::Adding::one_added, crate::proofs::Growing::stayed))]
-    pub(crate) fn accept<W: Wire>(&mut self, wire: &mut W, now: u64) -> bool
+    pub(crate) fn accept<W: Wire>(&mut self, wire: &mut W, now: u64) -> Option<usize>
         ensures { Grew self.old self.new (W.passed wire.old) (W.passed wire.new) }
     {
-        let Some(number) = wire.accept() else {
-            return false;
-        };
+        let number = wire.accept()?;
         self.listen(number, now);
-        true
+        self.count_caller();
+        Some(caller_place(number))
     }
 
-    /// Dials a peer, to which this is said first. False where that failed.
-    #[tactic(auto, using(crate::proofs::Adding::one_added, crate::proofs::Growing::stayed, crate::proofs::Fitting::peer_line, crate::proofs::Fitting::fresh_link))]
-    pub(crate) fn dial<W: Wire>(&mut self, wire: &mut W, number: u8, own: Hello, now: u64) -> bool
+    /// One more who dialled is taken in.
+    fn count_caller(&mut self)
+        ensures { self.new ≡ record self.old { callers = self.new.callers } }
+    {
+        self.callers = self.callers.saturating_add(1);
+    }
+
+    /// Who dialled at a place leaves, or makes room: where he wasn't there yet, and no fault of his is told, he is counted.
+    fn count_unheard(&mut self, place: usize)
+        ensures { self.new ≡ record self.old { unheard = self.new.unheard } }
+    {
+        if place >= DIALLED && self.is_unheard(place) {
+            self.unheard = self.unheard.saturating_add(1);
+        }
+    }
+
+    /// Whether a connection is at a place over which nobody is there yet, and no fault of it is told.
+    fn is_unheard(&self, place: usize) -> bool {
+        match self.at(place) {
+            Some(link) => !link.is_refused && link.connection.taken().is_none(),
+            None => false,
+        }
+    }
+
+    /// Dials a peer over the line at a place, to which this is said first. False where that failed.
+    #[tactic(auto, using(crate::proofs::Adding::one_added, crate::proofs::Growing::stayed, crate::proofs::Fitting::peer_line, crate::proofs::Fitting::fresh_dialled))]
+    pub(crate) fn dial<W: Wire>(&mut self, wire: &mut W, place: usize, own: Hello, now: u64) -> bool
         requires key { IsOfKey self.old.own.key own.link }
         requires ours { IsOurs self.old.own own }
         ensures { Grew self.old self.new (W.passed wire.old) (W.passed wire.new) }
     {
-        let place = number as usize;
-        if place >= NODES || wire.dial(number).is_err() {
+        if place >= DIALLED || wire.dial(place as u8).is_err() {
             return false;
         }
         let link = Link::new(Connection::call(self.alloc, self.own.key, own), now);
-        self.begin(place, Line::Peer(number), link);
+        self.begin(place, Line::Peer(place as u8), link);
         true
     }
 
@@ -416,6 +452,13 @@ impl Lines {
         settle_at(&mut self.links, place, &own, met, from)
     }
 
+    /// The Hello by which the connection at a place is open, if it is.
+    pub(crate) fn taken_at(&self, place: usize) -> Option<Hello>
+        ensures { IfSome result (λ hello. IsOpened self.now.own self.now.passed.items hello) }
+    {
+        taken_at(&self.links, place)
+    }
+
     /// Answers the one who dialled at a place with this node's own Hello.
     pub(crate) fn answer(&mut self, place: usize, own: Hello)
         requires { IsOurs self.old.own own }
@@ -433,13 +476,53 @@ impl Lines {
         begin_at(&mut self.links, place, waiting);
     }
 
+    /// The node at the other end of the connection at a place is refused, and told this ballot before it ends.
+    pub(crate) fn turn_away(&mut self, place: usize, ballot: Ballot)
+        ensures { Stays self.old self.new }
+    {
+        turn_away_at(&mut self.links, place, ballot);
+    }
+
+    /// What a node that is refused is told last at a place, as far as it waits still.
+    fn set_farewell(&mut self, place: usize, farewell: Option<Ballot>)
+        ensures { Stays self.old self.new }
+    {
+        set_farewell_at(&mut self.links, place, farewell);
+    }
+
+    /// What is told last at a place to a node that is refused.
+    fn farewell_at(&self, place: usize) -> Option<Ballot> {
+        self.at(place)?.farewell
+    }
+
+    /// Begins at a place what is said before a peer is there, or to one that is refused.
+    pub(crate) fn say_first(&mut self, place: usize)
+        ensures { Stays self.old self.new }
+    {
+        match self.farewell_at(place) {
+            Some(ballot) => self.say_last(place, ballot),
+            None => self.say_nothing(place),
+        }
+    }
+
     /// Begins at a place what is said before a peer is there.
     #[tactic(auto, using(crate::proofs::Handing::none_for))]
-    pub(crate) fn say_first(&mut self, place: usize)
+    fn say_nothing(&mut self, place: usize)
         ensures { Stays self.old self.new }
     {
         let mut nothing = Outbox::new(self.alloc);
         self.say(place, &mut nothing);
+    }
+
+    /// Begins at a place what is said to one that is refused: this ballot last.
+    #[tactic(auto, using(crate::proofs::Handing::none_for))]
+    fn say_last(&mut self, place: usize, ballot: Ballot)
+        ensures { Stays self.old self.new }
+    {
+        let mut last = Outbox::new(self.alloc);
+        last.tell_promised(ballot);
+        self.say(place, &mut last);
+        self.set_farewell(place, last.promised());
     }
 
     /// The node at the other end of the connection at a place, once it is open.
@@ -468,6 +551,7 @@ impl Lines {
         requires { place < LINKS }
         ensures { Grew self.old self.new (W.passed wire.old) (W.passed wire.new) }
     {
+        self.count_unheard(place);
         clear(&mut self.links, place);
         wire.close(line_at(place));
     }

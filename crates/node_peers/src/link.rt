@@ -1,19 +1,22 @@
 //! The connection of a line.
 
-ghost use Rattle.std.specs.Prelude.{◌≡◌, ◌<◌, IfSome, Some};
+ghost use Rattle.std.specs.Prelude.{◌≡◌, ◌<◌, true, List, IfSome, Some, None};
+ghost use Rattle.node_wires.specs.Passages.{Passage};
+ghost use Rattle.node_links.specs.declared.own.Own.{Own};
 ghost use Rattle.node_links.specs.Arriving.{told};
 ghost use Rattle.node_links.specs.Going.{peer_of};
 ghost use Rattle.node_links.specs.Talks.{Talk};
 ghost use Rattle.node_links.specs.Waiting.{IsBegun};
-ghost use Rattle.node_peers.specs.Lines.{line_at, dialled_over};
+ghost use Rattle.node_peers.specs.Lines.{line_at, node_over, dialled_over};
 ghost use Rattle.node_peers.specs.Adding.{Grows};
 ghost use Rattle.node_peers.specs.Meeting.{IsKnownBy};
-ghost use Rattle.node_peers.specs.Hearing.{IsOf, KeepsOn, Moves, OpensIn, TakesIn, SaysFrame};
+ghost use Rattle.node_peers.specs.Hearing.{IsOf, KeepsOn, KeepsAs, KeepsSaying, Moves, OpensIn, TakesIn, SaysFrame};
 
-use crate::limits::{LINKS, PIECES};
+use crate::limits::{DIALLED, LINKS, PIECES};
 use node_links::{Arrived, Connection, Heading, Met, Outbox, Own, PeerFault};
 use node_wires::limits::NODES;
 use node_wires::{Halt, Line, Passages, Wire};
+use paxos_wire::Ballot;
 use peer_codes::{Frame, Hello};
 
 /// The connection of a line.
@@ -37,6 +40,10 @@ pub(crate) struct Link {
     pub(crate) is_lost: bool,
     /// The fault that closed it was told.
     pub(crate) is_refused: bool,
+    /// Its node is refused, though the connection is open: nothing more is heard of it.
+    pub(crate) is_turned_away: bool,
+    /// The ballot that its node is told then, before it ends.
+    pub(crate) farewell: Option<Ballot>,
 }
 
 /// What became of bytes that were to be written.
@@ -67,7 +74,14 @@ impl Link {
             has_ended: false,
             is_lost: false,
             is_refused: false,
+            is_turned_away: false,
+            farewell: None,
         }
+    }
+
+    /// Whether nothing more is heard of it: a fault closed it, or its node is refused.
+    pub(crate) fn is_closed(&self) -> bool {
+        self.is_turned_away || self.connection.fault().is_some()
     }
 
     /// Who is told to be at the other end where a fault closes the connection: whom this node dialled, who was there, or
@@ -86,6 +100,7 @@ impl Link {
         }
         match fault {
             PeerFault::StoreReplaced(_) => self.said,
+            PeerFault::StoreOlder(_) => self.said,
             PeerFault::AlreadyHere => self.said,
             _ => None,
         }
@@ -97,10 +112,22 @@ pub(crate) fn line_at(place: usize) -> Line
     requires { place < LINKS }
     ensures { result ≡ line_at place }
 {
-    if place < NODES {
+    if place < DIALLED {
         Line::Peer(place as u8)
     } else {
-        Line::Caller((place - NODES) as u8)
+        Line::Caller((place - DIALLED) as u8)
+    }
+}
+
+/// The node to which the line at a place leads, of those to peers that are dialled.
+fn node_over(place: usize) -> u8
+    requires { place < DIALLED }
+    ensures { result ≡ node_over place }
+{
+    if place < NODES {
+        place as u8
+    } else {
+        (place - NODES) as u8
     }
 }
 
@@ -108,20 +135,20 @@ pub(crate) fn line_at(place: usize) -> Line
 pub(crate) fn dialled_at(place: usize) -> Option<u8>
     ensures { result ≡ dialled_over (line_at place) }
 {
-    if place < NODES {
-        Some(place as u8)
+    if place < DIALLED {
+        Some(node_over(place))
     } else {
         None
     }
 }
 
-/// Takes a piece of what came. Without memory for it nothing more is heard.
+/// Takes a piece of what came. Without memory for it nothing more is heard, and nothing more is taken in.
 fn take_in(link: &mut Link, piece: &[u8])
     ensures { TakesIn link.old link.new piece.now }
 {
     link.has_come = link.has_come || !piece.is_empty();
     link.heading.take(piece);
-    if link.connection.take(piece).is_ok() {
+    if !link.is_lost && link.connection.take(piece).is_ok() {
         return;
     }
     link.is_lost = true;
@@ -156,7 +183,7 @@ fn read_piece<W: Wire>(
 }
 
 /// Reads what came over the line at a place, so many pieces at most, each into this buffer. Nothing is read of one that a
-/// fault closed.
+/// fault closed, or whose node is refused.
 #[tactic(auto, using(crate::proofs::Adding::nothing_added, crate::proofs::Adding::added_on, crate::proofs::Fitting::moves_still, crate::proofs::Fitting::moves_on))]
 pub(crate) fn read<W: Wire>(
     link: &mut Link,
@@ -170,7 +197,7 @@ pub(crate) fn read<W: Wire>(
     ensures moves { Moves place (Some link.old) (Some link.new) passed.old.items passed.new.items }
 {
     link.has_more = false;
-    if link.has_ended || link.connection.fault().is_some() {
+    if link.has_ended || link.is_closed() {
         return;
     }
     for _ in 0..PIECES {
@@ -217,14 +244,15 @@ pub(crate) fn write<W: Wire>(
     }
 }
 
-/// What a connection says next, or the fault that closed it; nothing of one of which a piece was lost. A frame goes into the
-/// buffer.
+/// What a connection says next, or the fault that closed it; nothing of one of which a piece was lost, and of one whose node is
+/// refused. A frame goes into the buffer.
 #[tactic(auto, using(crate::proofs::Fitting::keeps_still, crate::proofs::Fitting::keeps_on, crate::proofs::Fitting::says_next))]
 pub(crate) fn next_of(link: &mut Link, frame: &mut Frame) -> Option<Result<Arrived, PeerFault>>
     ensures keeps { KeepsOn (Some link.old) (Some link.new) }
     ensures says { SaysFrame (told result frame.new) link.old link.new }
+    ensures away { link.old.is_turned_away ≡ true → result ≡ None }
 {
-    if link.is_lost {
+    if link.is_lost || link.is_turned_away {
         return None;
     }
     link.connection.next(frame)
@@ -240,7 +268,7 @@ pub(crate) fn settle(
     met: &[Met],
     from: u8,
 ) -> Option<Hello>
-    ensures fits { (talk : Talk) → talk.dialled ≡ dialled → IsOf own.now talk (Some link.old) → IsOf own.now talk (Some link.new) }
+    ensures fits { (sent : List Passage) (talk : Talk) → talk.dialled ≡ dialled → IsOf own.now sent talk (Some link.old) → IsOf own.now sent talk (Some link.new) }
     ensures opens { OpensIn own.now result (Some link.new) }
     ensures known { IsKnownBy own.now met.now result }
 {
@@ -253,10 +281,21 @@ pub(crate) fn settle(
     link.connection.taken()
 }
 
+/// The Hello by which a connection is open, if it is and hasn't ended.
+#[tactic(auto, using(crate::proofs::Fitting::opens_in))]
+pub(crate) fn taken(link: &Link) -> Option<Hello>
+    ensures { (own : Own) → OpensIn own result (Some link.now) }
+{
+    if !link.is_lost {
+        return link.connection.taken();
+    }
+    None
+}
+
 /// Answers the one who dialled with this node's own Hello.
-#[tactic(auto, using(crate::proofs::Fitting::keeps_on))]
+#[tactic(auto, using(crate::proofs::Fitting::keeps_as))]
 pub(crate) fn answer(link: &mut Link, own: Hello)
-    ensures { KeepsOn (Some link.old) (Some link.new) }
+    ensures { KeepsAs own (Some link.old) (Some link.new) }
 {
     link.connection.answer(own);
 }
@@ -269,12 +308,30 @@ pub(crate) fn peer_of(link: &Link) -> Option<u8>
 }
 
 /// Begins on a connection what waits next.
-#[tactic(auto, using(crate::proofs::Fitting::keeps_on))]
+#[tactic(auto, using(crate::proofs::Fitting::keeps_saying))]
 pub(crate) fn begin(link: &mut Link, waiting: &mut Outbox)
-    ensures keeps { KeepsOn (Some link.old) (Some link.new) }
+    ensures keeps { KeepsSaying waiting.old.frames (Some link.old) (Some link.new) }
     ensures waiting { IsBegun waiting.old waiting.new }
 {
     link.connection.begin(waiting);
+}
+
+/// The node at the other end is refused, and told this ballot before the connection ends.
+#[tactic(auto, using(crate::proofs::Fitting::keeps_still))]
+pub(crate) fn turn_away(link: &mut Link, ballot: Ballot)
+    ensures keeps { KeepsOn (Some link.old) (Some link.new) }
+    ensures away { link.new.is_turned_away ≡ true }
+{
+    link.is_turned_away = true;
+    link.farewell = Some(ballot);
+}
+
+/// What a node that is refused is told last, as far as it waits still.
+#[tactic(auto, using(crate::proofs::Fitting::keeps_still))]
+pub(crate) fn set_farewell(link: &mut Link, farewell: Option<Ballot>)
+    ensures { KeepsOn (Some link.old) (Some link.new) }
+{
+    link.farewell = farewell;
 }
 
 /// The fault that closed a connection is told from now on. False where it was already.

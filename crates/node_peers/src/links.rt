@@ -1,6 +1,6 @@
 //! The connections of all lines, by their places.
 
-ghost use Rattle.std.specs.Prelude.{◌≡◌, ◌<◌, ◌≤◌, ℕ, List, ◌∷◌, ◌++◌, [], length, IfOk, Some};
+ghost use Rattle.std.specs.Prelude.{◌≡◌, ◌<◌, ◌≤◌, ℕ, true, List, ◌∷◌, ◌++◌, [], length, IfOk, Some};
 ghost use Rattle.node_wires.specs.Passages.{Passage, Began};
 ghost use Rattle.node_links.specs.declared.own.Own.{Own};
 ghost use Rattle.node_links.specs.Talks.{Talk};
@@ -9,22 +9,25 @@ ghost use Rattle.node_peers.specs.Handing.{peer_in};
 ghost use Rattle.node_peers.specs.Lines.{line_at, dialled_over};
 ghost use Rattle.node_peers.specs.Adding.{Grows};
 ghost use Rattle.node_peers.specs.Meeting.{IsKnownBy};
-ghost use Rattle.node_peers.specs.Hearing.{IsOf, FitsBy, Fits, IsFresh, KeepsOn, FitsOn, Moves, OpensAt, OpensIn, FitsThrough};
-ghost use Rattle.node_peers.specs.Saying.{SaidBy, SaidAt};
+ghost use Rattle.node_peers.specs.Hearing.{IsOf, FitsBy, Fits, IsFresh, KeepsOn, KeepsAs, KeepsSaying, FitsOn, FitsAs, FitsSaying, Moves, OpensAt, OpensIn, FitsThrough};
+ghost use Rattle.node_peers.specs.declared.saying.Saying.TheVariants as sayings;
+ghost use Rattle.node_peers.specs.Saying.{is_away, SaidBy, SaidAt};
 
 use crate::limits::LINKS;
 use crate::link::{
-    Link, Written, answer, begin, dialled_at, next_of, peer_of, read, refuse, settle, write,
+    Link, Written, answer, begin, dialled_at, next_of, peer_of, read, refuse, set_farewell, settle,
+    taken, turn_away, write,
 };
 use crate::saying::{Saying, saying_of};
 use node_links::{Met, Outbox, Own};
 use node_wires::{Passages, Wire};
+use paxos_wire::Ballot;
 use peer_codes::{Frame, Hello};
 use std::alloc::{AllocError, Global};
 
 /// Of each line none.
 pub(crate) fn no_links(alloc: Global) -> Result<Vec<Option<Link>>, AllocError>
-    ensures { IfOk result (λ links. (own : Own) (talks : ℕ → Talk) → FitsBy own talks links.items) }
+    ensures { IfOk result (λ links. (own : Own) (sent : List Passage) (talks : ℕ → Talk) → ((place : ℕ) → (talks place).wrote ≡ []) → FitsBy own sent talks links.items) }
 {
     let mut links = Vec::with_capacity(alloc, LINKS)?;
     for _ in 0..LINKS {
@@ -36,7 +39,7 @@ pub(crate) fn no_links(alloc: Global) -> Result<Vec<Option<Link>>, AllocError>
 /// Puts a connection that begins in the place of its line, if there is such a place.
 #[tactic(auto, using(crate::proofs::Fitting::fits_begun, crate::proofs::Fitting::fits_beside))]
 pub(crate) fn put(links: &mut Vec<Option<Link>>, place: usize, link: Link)
-    ensures { (own : Own) (passed_old passed_new : List Passage) → IsFresh own (line_at place) (Some link) → passed_new ≡ passed_old ++ Began (line_at place) ∷ [] → Fits own passed_old links.old.items → Fits own passed_new links.new.items }
+    ensures { (own : Own) (sent passed_old passed_new : List Passage) → IsFresh own (line_at place) (Some link) → passed_new ≡ passed_old ++ Began (line_at place) ∷ [] → Fits own sent passed_old links.old.items → Fits own sent passed_new links.new.items }
 {
     if place < links.len() {
         links[place] = Some(link);
@@ -132,6 +135,7 @@ pub(crate) fn write_at<W: Wire>(
 fn next_in(slot: &mut Option<Link>, frame: &mut Frame) -> Saying
     ensures keeps { KeepsOn slot.old slot.new }
     ensures says { SaidBy result frame.new slot.old }
+    ensures away { is_away slot.old ≡ true → result ≡ sayings.Waits }
 {
     match slot {
         Some(link) => {
@@ -163,7 +167,7 @@ fn settle_in(
     met: &[Met],
     from: u8,
 ) -> Option<Hello>
-    ensures fits { (talk : Talk) → talk.dialled ≡ dialled → IsOf own.now talk slot.old → IsOf own.now talk slot.new }
+    ensures fits { (sent : List Passage) (talk : Talk) → talk.dialled ≡ dialled → IsOf own.now sent talk slot.old → IsOf own.now sent talk slot.new }
     ensures opens { OpensIn own.now result slot.new }
     ensures known { IsKnownBy own.now met.now result }
 {
@@ -182,7 +186,7 @@ pub(crate) fn settle_at(
     met: &[Met],
     from: u8,
 ) -> Option<Hello>
-    ensures fits { (talks : ℕ → Talk) → (talks place).dialled ≡ dialled_over (line_at place) → FitsBy own.now talks links.old.items → FitsBy own.now talks links.new.items }
+    ensures fits { (sent : List Passage) (talks : ℕ → Talk) → (talks place).dialled ≡ dialled_over (line_at place) → FitsBy own.now sent talks links.old.items → FitsBy own.now sent talks links.new.items }
     ensures opens { OpensAt own.now result place links.new.items }
     ensures known { IsKnownBy own.now met.now result }
 {
@@ -192,10 +196,30 @@ pub(crate) fn settle_at(
     }
 }
 
+/// The Hello by which the connection of a line is open, if it is.
+fn taken_in(slot: &Option<Link>) -> Option<Hello>
+    ensures { (own : Own) → OpensIn own result slot.now }
+{
+    match slot {
+        Some(link) => taken(link),
+        None => None,
+    }
+}
+
+/// The Hello by which the connection at a place is open, if it is.
+pub(crate) fn taken_at(links: &[Option<Link>], place: usize) -> Option<Hello>
+    ensures { (own : Own) → OpensAt own result place links.now }
+{
+    match links.get(place) {
+        Some(slot) => taken_in(slot),
+        None => None,
+    }
+}
+
 /// Answers the one who dialled over a line.
-#[tactic(auto, using(crate::proofs::Fitting::keeps_same))]
+#[tactic(auto, using(crate::proofs::Fitting::same_as))]
 fn answer_in(slot: &mut Option<Link>, own: Hello)
-    ensures { KeepsOn slot.old slot.new }
+    ensures { KeepsAs own slot.old slot.new }
 {
     match slot {
         Some(link) => answer(link, own),
@@ -204,9 +228,9 @@ fn answer_in(slot: &mut Option<Link>, own: Hello)
 }
 
 /// Answers the one who dialled at a place.
-#[tactic(auto, using(crate::proofs::Fitting::fits_kept))]
+#[tactic(auto, using(crate::proofs::Fitting::fits_as))]
 pub(crate) fn answer_at(links: &mut Vec<Option<Link>>, place: usize, own: Hello)
-    ensures { FitsOn links.old.items links.new.items }
+    ensures { FitsAs own links.old.items links.new.items }
 {
     match links.get_mut(place) {
         Some(slot) => answer_in(slot, own),
@@ -225,9 +249,9 @@ pub(crate) fn peer_in(slot: &Option<Link>) -> Option<u8>
 }
 
 /// Begins the next record of a line.
-#[tactic(auto, using(crate::proofs::Fitting::keeps_same, crate::proofs::Handing::not_begun))]
+#[tactic(auto, using(crate::proofs::Fitting::same_saying, crate::proofs::Handing::not_begun))]
 fn begin_in(slot: &mut Option<Link>, waiting: &mut Outbox)
-    ensures keeps { KeepsOn slot.old slot.new }
+    ensures keeps { KeepsSaying waiting.old.frames slot.old slot.new }
     ensures waiting { IsBegun waiting.old waiting.new }
 {
     match slot {
@@ -237,13 +261,57 @@ fn begin_in(slot: &mut Option<Link>, waiting: &mut Outbox)
 }
 
 /// Begins the next record at a place.
-#[tactic(auto, using(crate::proofs::Fitting::fits_kept, crate::proofs::Handing::not_begun))]
+#[tactic(auto, using(crate::proofs::Fitting::fits_saying, crate::proofs::Handing::not_begun))]
 pub(crate) fn begin_at(links: &mut Vec<Option<Link>>, place: usize, waiting: &mut Outbox)
-    ensures fits { FitsOn links.old.items links.new.items }
+    ensures fits { FitsSaying waiting.old.frames place links.old.items links.new.items }
     ensures waiting { IsBegun waiting.old waiting.new }
 {
     match links.get_mut(place) {
         Some(slot) => begin_in(slot, waiting),
+        None => (),
+    }
+}
+
+/// The node at the other end of the connection of a line is refused, and told this ballot before it ends.
+#[tactic(auto, using(crate::proofs::Fitting::keeps_same))]
+fn turn_away_in(slot: &mut Option<Link>, ballot: Ballot)
+    ensures { KeepsOn slot.old slot.new }
+{
+    match slot {
+        Some(link) => turn_away(link, ballot),
+        None => (),
+    }
+}
+
+/// The same of the connection at a place.
+#[tactic(auto, using(crate::proofs::Fitting::fits_kept))]
+pub(crate) fn turn_away_at(links: &mut Vec<Option<Link>>, place: usize, ballot: Ballot)
+    ensures { FitsOn links.old.items links.new.items }
+{
+    match links.get_mut(place) {
+        Some(slot) => turn_away_in(slot, ballot),
+        None => (),
+    }
+}
+
+/// What a node that is refused is told last over a line, as far as it waits still.
+#[tactic(auto, using(crate::proofs::Fitting::keeps_same))]
+fn set_farewell_in(slot: &mut Option<Link>, farewell: Option<Ballot>)
+    ensures { KeepsOn slot.old slot.new }
+{
+    match slot {
+        Some(link) => set_farewell(link, farewell),
+        None => (),
+    }
+}
+
+/// The same of the connection at a place.
+#[tactic(auto, using(crate::proofs::Fitting::fits_kept))]
+pub(crate) fn set_farewell_at(links: &mut Vec<Option<Link>>, place: usize, farewell: Option<Ballot>)
+    ensures { FitsOn links.old.items links.new.items }
+{
+    match links.get_mut(place) {
+        Some(slot) => set_farewell_in(slot, farewell),
         None => (),
     }
 }

@@ -3,16 +3,21 @@
 ghost use Rattle.std.specs.Prelude.{◌≡◌, [], true, is_some, None};
 ghost use Rattle.node_peers.specs.Handing.{frames_for, GoesBack};
 ghost use Rattle.node_peers.specs.Replacing.{Fades};
+ghost use Rattle.node_links.specs.Promising.{higher};
 ghost use Rattle.node_links.specs.Versions.{next_turn};
 ghost use Rattle.node_links.specs.declared.turning.DialEnd.TheVariants.{Opened};
 
 mod dials;
 mod frames;
+mod promises;
 mod reports;
 
+use crate::lag::Lag;
+use crate::limits::CAME_BACK;
 use crate::measures::Measures;
 use crate::view::View;
 use clockwork::is_heard;
+use clockwork::silence::A_SILENCE;
 use dials::Missed;
 pub(crate) use dials::{Outcome, shows_older};
 use node_links::limits::{KEPT, NODES};
@@ -20,7 +25,8 @@ use node_links::{
     Accepted, Asked, Dial, DialEnd, Forwarded, Lives, Notes, Outbox, Owed, PeerFault, Pulse,
     Refusals, Subject, Turn, next_turn,
 };
-use peer_codes::{Beat, Life, Version};
+use paxos_wire::Ballot;
+use peer_codes::{Beat, Hello, Life, Version};
 use std::alloc::Global;
 
 /// Whether records of further kinds may be said over a connection of this version.
@@ -34,7 +40,10 @@ fn takes_more(version: Version) -> bool {
 /// What a process knows of a peer, and what waits for it.
 #[derive(Drop)]
 pub(crate) struct Peer {
+    /// How far its last dial is.
     pub(crate) dial: Dial,
+    /// The place of the line of that.
+    pub(crate) dialled: usize,
     /// How it is dialled, now or next.
     pub(crate) turn: Turn,
     /// How many of its last dials were answered and closed without a byte.
@@ -53,12 +62,18 @@ pub(crate) struct Peer {
     pub(crate) since: u64,
     /// When something last came over it.
     pub(crate) heard: u64,
+    /// When a long silence of it, or of this node itself, ended last.
+    came_back: Option<u64>,
     /// What was measured of it lately, over all connections.
     pub(crate) measures: Measures,
     /// The last beat that came over it.
     pub(crate) beat: Option<Beat>,
     /// The first life of its store that was seen.
     pub(crate) kept: Option<Life>,
+    /// The greatest ballot that it is known to have promised, in this life of its store.
+    pub(crate) promised: Option<Ballot>,
+    /// When that last rose.
+    rose: u64,
     /// The lives that it told last over the connection that is open.
     pub(crate) told: [Option<Life>; NODES],
     /// The lives that were told it last over that connection, where it is of the second version.
@@ -80,7 +95,7 @@ pub(crate) struct Peer {
 }
 
 impl Peer {
-    ghost use Rattle.node_peers.specs.Viewing.{seen_as};
+    ghost use Rattle.node_peers.specs.Viewing.{behind_by, seen_as};
 
     /// Nothing is known but the life that is kept of its store.
     pub(crate) fn new(alloc: Global, number: u8, kept: Option<Life>) -> Peer
@@ -88,6 +103,7 @@ impl Peer {
     {
         Peer {
             dial: Dial::new(),
+            dialled: number as usize,
             turn: Turn::Second,
             closed_dials: 0,
             unanswered_dials: 0,
@@ -97,9 +113,12 @@ impl Peer {
             open: None,
             since: 0,
             heard: 0,
+            came_back: None,
             measures: Measures::new(),
             beat: None,
             kept,
+            promised: None,
+            rose: 0,
             told: [None; NODES],
             lives_told: None,
             takes_more: false,
@@ -121,24 +140,38 @@ impl Peer {
         ensures back { GoesBack self.old self.new }
         ensures fades { Fades self.old self.new }
     {
-        self.notes.tell(fault, now)
+        !self.may_be_here(fault, now) && self.notes.tell(fault, now)
     }
 
-    /// The connection at this place is open, by a Hello of this version with this life, which is kept if it is the first.
+    /// Whether the fault is that the peer is here already, and it may have dialled anew by right: a long silence of it or of this
+    /// node ended lately.
+    fn may_be_here(&self, fault: PeerFault, now: u64) -> bool {
+        match self.came_back {
+            Some(at) => fault == PeerFault::AlreadyHere && now.saturating_sub(at) < CAME_BACK,
+            None => false,
+        }
+    }
+
+    /// The connection at this place is open, by this Hello. The life that it says is kept if it is the first. Where it promises less
+    /// than the peer is known to have promised, the peer is told.
     #[tactic(auto, using(crate::proofs::Handing::goes_same, crate::proofs::Handing::goes_on))]
-    pub(crate) fn meet(&mut self, life: Life, version: Version, place: usize, now: u64)
+    pub(crate) fn meet(&mut self, hello: &Hello, place: usize, now: u64)
         ensures goes { GoesBack self.old self.new }
         ensures turn { self.new.turn ≡ next_turn self.old.turn Opened }
+        ensures promised { self.new.promised ≡ higher self.old.promised hello.now.promised }
     {
-        self.keep(life);
+        self.keep(hello.life);
         self.join(place, now);
-        self.begin_telling(version);
+        self.tell_older(hello.promised);
+        self.note_promise(hello.promised, now);
+        self.begin_telling(hello.version);
     }
 
     /// Nothing was told yet over the connection that is open, and it is dialled in the second version the next time.
     #[tactic(auto, using(crate::proofs::Handing::goes_same))]
     fn begin_telling(&mut self, version: Version)
         ensures goes { GoesBack self.old self.new }
+        ensures promised { self.new.promised ≡ self.old.promised }
         ensures turn { self.new.turn ≡ next_turn self.old.turn Opened }
     {
         self.turn = next_turn(self.turn, DialEnd::Opened);
@@ -153,6 +186,7 @@ impl Peer {
     fn keep(&mut self, life: Life)
         ensures goes { GoesBack self.old self.new }
         ensures kept { is_some self.new.kept ≡ true }
+        ensures promised { self.new.promised ≡ self.old.promised }
     {
         match self.kept {
             Some(_) => (),
@@ -163,7 +197,8 @@ impl Peer {
     /// The connection at this place is open: what waits goes over it, and the last Accepted again.
     #[tactic(auto, using(crate::proofs::Handing::goes_same, crate::proofs::Handing::goes_on))]
     fn join(&mut self, place: usize, now: u64)
-        ensures { GoesBack self.old self.new }
+        ensures goes { GoesBack self.old self.new }
+        ensures promised { self.new.promised ≡ self.old.promised }
     {
         self.open = Some(place);
         self.since = now;
@@ -221,17 +256,36 @@ impl Peer {
         }
     }
 
-    /// So much of the time that went by until now isn't counted as the peer's silence.
+    /// How far the peer is behind this front, and how long its slowest answer took lately, once it has told its front.
+    pub(crate) fn lag(&self, front: u32, now: u64) -> Option<Lag>
+        ensures { result ≡ behind_by front now self.now self.now.beat }
+    {
+        match &self.beat {
+            Some(beat) => Some(Lag {
+                behind: front.saturating_sub(beat.front),
+                slowest: self.measures.counted.lately(now),
+            }),
+            None => None,
+        }
+    }
+
+    /// So much of the time that went by until now isn't counted as the peer's silence. Behind a long one this node was silent itself.
     #[tactic(auto, using(crate::proofs::Handing::goes_same, crate::proofs::Handing::goes_on))]
     pub(crate) fn forgive(&mut self, lost: u64, now: u64)
         ensures { GoesBack self.old self.new }
     {
         self.heard = self.heard.saturating_add(lost).min(now);
+        if lost > A_SILENCE {
+            self.came_back = Some(now);
+        }
     }
 
     /// How long it is until a beat is due over an open connection, or an act goes again.
     pub(crate) fn wait(&self, now: u64) -> u64 {
-        self.pulse.wait(now).min(self.forwarded.wait(now))
+        let round_trip = self.round_trip();
+        self.pulse
+            .wait(now)
+            .min(self.forwarded.wait(now, round_trip))
     }
 
     /// The peer told these lives.
@@ -263,6 +317,7 @@ impl Peer {
     {
         if self.measures.hear(self.heard, self.pulse.got, now) {
             self.pulse.probe = None;
+            self.came_back = Some(now);
         }
         self.heard = now;
     }
@@ -282,13 +337,14 @@ impl Peer {
         ensures { GoesBack self.old self.new }
     {
         self.hear(now);
-        let is_awaited = self.pulse.probe.is_some();
-        self.pulse.heard(&beat, now);
-        if is_awaited && self.pulse.probe.is_none() {
-            let passed = self.round_trip();
-            self.measures.go_there_and_back(passed, now);
-        }
         self.beat = Some(beat);
         self.pause = 0;
+        let is_awaited = self.pulse.probe.is_some();
+        self.pulse.heard(&beat, now);
+        if !is_awaited || self.pulse.probe.is_some() {
+            return;
+        }
+        let passed = self.round_trip();
+        self.measures.go_there_and_back(passed, now);
     }
 }

@@ -1,18 +1,22 @@
 //! A process's connections to its peers.
 
-ghost use Rattle.std.specs.Prelude.{◌≡◌, ◌≤◌, ◌<◌, ◌+◌, true, ℕ, [], ◌∷◌, ◌++◌, length, get_or, None, Some, IfOk, IfSome};
+ghost use Rattle.std.specs.Prelude.{◌≡◌, ◌≤◌, ◌<◌, ◌+◌, true, ℕ, List, [], ◌∷◌, ◌++◌, length, get_or, slice_get, None, Some, IfOk, IfSome};
 ghost use Rattle.node_peers.specs.declared.limits.TheConstants.{HOLD as LONG};
-ghost use Rattle.node_peers.specs.Hearing.{IsTold};
+ghost use Rattle.node_peers.specs.Hearing.{IsTold, talk_over};
+ghost use Rattle.node_peers.specs.Lines.{line_at};
+ghost use Rattle.node_peers.specs.Speaking.{IsSpoken};
 ghost use Rattle.node_peers.specs.Handing.{frames_for, GoBack, AreHanded, are_handed_prop};
 ghost use Rattle.node_peers.specs.Knowing.{IsOfOne};
 ghost use Rattle.node_peers.specs.Replacing.{AreClosed};
 ghost use Rattle.node_links.specs.declared.limits.TheConstants.{NODES as MOST};
 ghost use Rattle.node_peers.specs.Knowing.{lives_told};
+ghost use Rattle.node_peers.specs.Showing.{promised_in, shown_in};
 ghost use Rattle.node_peers.specs.Reporting.{Informed, AreInformed};
 ghost use Rattle.node_wires.specs.Passages.{Wrote, seats_in, wrote_over, logged_in};
 ghost use Rattle.node_wires.specs.declared.line.Line.TheVariants.{Seat, Peer as ToPeer};
 
 use crate::knowing::lives_told;
+use crate::lag::Lag;
 use crate::lines::Lines;
 use crate::node_address::NodeAddress;
 use crate::notice::Notice;
@@ -20,7 +24,7 @@ use crate::own_front::OwnFront;
 use crate::peer::Peer;
 use crate::view::View;
 use node_links::limits::{LOOK, NODES};
-use node_links::{Dial, DialDue, Lives, Own, OwnReport, Refusals, Settings};
+use node_links::{Dial, DialDue, Lives, Own, OwnReport, Refusals, Settings, higher, promise_in};
 use node_wires::Wire;
 use paxos_wire::Ballot;
 use peer_codes::Life;
@@ -34,6 +38,8 @@ pub struct Peers {
     pub(crate) lines: Lines,
     /// The ballot that the node has promised, as Hellos say it.
     pub(crate) promised: Option<Ballot>,
+    /// What the node has promised was told.
+    pub(crate) is_set: bool,
     /// How long a peer may be silent until it counts as absent.
     pub(crate) silence: u64,
     /// Of each node, by its number.
@@ -57,6 +63,7 @@ impl Drop for Peers {
         let Peers {
             lines: _,
             promised: _,
+            is_set: _,
             silence: _,
             peers: _,
             refusals: _,
@@ -87,9 +94,12 @@ fn unmet(alloc: Global, nodes: u8, kept: &[Option<Life>]) -> Result<Vec<Peer>, A
 impl Peers {
     ghost use Rattle.node_peers.specs.Peering.{own_of, passed_of, frames_of, heard_of, Grew, Keeps, Stays};
     ghost use Rattle.node_peers.specs.Leaving.{IsQuiet, NoneIsNeeded, Passes, TakesAside, aside_of, newest_of, waits_of};
+    ghost use Rattle.node_links.specs.Promising.{higher};
     ghost use Rattle.node_peers.specs.Noticing.{heard_by, IsFrame};
+    ghost use Rattle.node_peers.specs.Promising.{promise_of};
+    ghost use Rattle.node_peers.specs.Showing.{shown_by};
     ghost use Rattle.node_peers.specs.Sending.{Sends};
-    ghost use Rattle.node_peers.specs.Viewing.{view_of};
+    ghost use Rattle.node_peers.specs.Viewing.{lag_of, view_of};
 
     /// No connection is there. Of each node `kept` has the life that is kept of its store, if one is.
     #[tactic(auto, using(crate::proofs::Handing::none_handed))]
@@ -107,6 +117,7 @@ impl Peers {
         Ok(Peers {
             lines: Lines::new(alloc, own)?,
             promised: None,
+            is_set: false,
             silence,
             peers: unmet(alloc, own.nodes, kept)?,
             refusals: Refusals::new(None),
@@ -124,12 +135,34 @@ impl Peers {
         self.lines.own.number
     }
 
-    /// The node has promised this ballot, as Hellos say from now on.
+    /// The node has promised this ballot, as Hellos say from now on. One that it had promised before and is greater stays: a node
+    /// that is down tells none.
     pub fn set_promised(&mut self, promised: Option<Ballot>)
         ensures stays { Stays self.old self.new }
-        ensures set { self.new ≡ record self.old { promised = promised } }
+        ensures set { self.new ≡ record self.old { promised = higher self.old.promised promised; is_set = true } }
     {
-        self.promised = promised;
+        self.promised = higher(self.promised, promised);
+        self.is_set = true;
+    }
+
+    /// A peer is known to have promised this ballot, by what was kept of it. It counts as shown at moment 0.
+    #[tactic(auto, using(crate::proofs::Handing::handed_on, crate::proofs::Handing::handed_stays, crate::proofs::Handing::handed_grew))]
+    pub fn set_heard(&mut self, peer: u8, ballot: Ballot)
+        ensures stays { Stays self.old self.new }
+        ensures set { (number : ℕ) → promise_of self.new number ≡ shown_in peer (Some ballot) number (slice_get self.old.peers.items number) }
+    {
+        note_promise(&mut self.peers, peer, Some(ballot), 0);
+    }
+
+    /// The greatest ballot that a peer is known to have promised, in this life of its store: by a Promise, an Accepted or a Refuse of it
+    /// that was told, by a Hello by which it was there, or by what was set. None of a number that no node has.
+    pub fn heard(&self, peer: u8) -> Option<Ballot>
+        ensures { result ≡ promise_of self.now peer }
+    {
+        match self.peers.get(peer as usize) {
+            Some(peer) => peer.promised,
+            None => None,
+        }
     }
 
     /// These are the settings of this process, which each peer is told once a connection opens.
@@ -174,10 +207,27 @@ impl Peers {
         ensures told { IfSome result (λ notice. IsTold (own_of self.old) (passed_of self.old) notice) }
         ensures one { IfSome result (λ notice. IsOfOne (own_of self.old) self.old.peers.items notice) }
         ensures passes { Passes (own_of self.old) self.old.peers.items (newest_of self.old) self.old.own_front.front (waits_of self.old) (aside_of self.old) result (waits_of self.new) (aside_of self.new) }
+        ensures promises { (number : ℕ) → promise_of self.new number ≡ shown_by result number (slice_get self.old.peers.items number) }
     {
         let notice = self.take_next();
+        self.note_promise(&notice);
         self.lines.note_told(&notice);
         notice
+    }
+
+    /// A notice is told now, by which a peer may show what it has promised.
+    #[tactic(auto, using(crate::proofs::Handing::handed_on, crate::proofs::Handing::handed_stays, crate::proofs::Handing::handed_grew))]
+    fn note_promise(&mut self, notice: &Option<Notice>)
+        ensures stays { Stays self.old self.new }
+        ensures lines { self.new.lines ≡ self.old.lines }
+        ensures promises { (number : ℕ) → promise_of self.new number ≡ shown_by notice.now number (slice_get self.old.peers.items number) }
+    {
+        let Some(Notice::Frame { from, frame }) = notice else {
+            return;
+        };
+        let promised = promise_in(frame.as_slice());
+        let looked = self.looked;
+        note_promise(&mut self.peers, *from, promised, looked);
     }
 
     /// The next notice that is told of those that wait.
@@ -219,8 +269,11 @@ impl Peers {
         notice
     }
 
-    /// Takes what came: who dialled, what was said, and which connections ended. Ends are taken before new Hellos. Peers
-    /// that are to be dialled are dialled. While too much waits to be told nothing is taken.
+    /// Takes what came: what was said, which connections ended, and who dialled. What peers said that are there, and which of
+    /// their connections ended, is taken before new Hellos. Up to `TAKEN_AT_ONCE` callers are taken in, and each is heard at
+    /// once: who has ended, or said anything wrong, has no place behind that. Peers that are to be dialled are dialled, also one
+    /// that is there and has been silent for so long that it counts as absent: beside its connection, over a second line. While
+    /// too much waits to be told nothing is taken.
     ///
     /// Behind it no other node is there of which two lives are known: its connection was closed.
     pub fn hear<W: Wire>(&mut self, wire: &mut W, now: u64)
@@ -258,21 +311,21 @@ impl Peers {
         self.take_all(wire, now);
     }
 
-    /// Takes in who dialled, and reads.
+    /// Reads, and hears those who are there.
     #[tactic(auto, using(crate::proofs::Growing::grew_on, crate::proofs::Growing::stayed, crate::proofs::Growing::stays_on))]
     fn read_in<W: Wire>(&mut self, wire: &mut W, now: u64)
         ensures { Grew self.old self.new (W.passed wire.old) (W.passed wire.new) }
     {
-        self.accept_all(wire, now);
         self.read_all(wire);
+        self.hear_peers(wire, now);
     }
 
-    /// Hears what was read, first where a connection has ended.
+    /// Takes in who dialled, and hears all others.
     #[tactic(auto, using(crate::proofs::Growing::grew_on, crate::proofs::Growing::stayed, crate::proofs::Growing::stays_on))]
     fn hear_in<W: Wire>(&mut self, wire: &mut W, now: u64)
         ensures { Grew self.old self.new (W.passed wire.old) (W.passed wire.new) }
     {
-        self.end_ended(wire, now);
+        self.accept_all(wire, now);
         self.hear_all(wire, now);
     }
 
@@ -345,12 +398,56 @@ impl Peers {
         }
     }
 
+    /// How far a peer is behind this node, and how long its slowest answer took lately; nothing of a number that no node has, and of
+    /// a peer that isn't there or has told no front yet.
+    pub fn lag(&self, number: u8, now: u64) -> Option<Lag>
+        ensures { result ≡ lag_of self.now number now }
+    {
+        match self.peers.get(number as usize) {
+            Some(peer) => peer.lag(self.own_front.front, now),
+            None => None,
+        }
+    }
+
+    /// How many who dialled left, were let go of or made room before they were there, so far, where no fault of theirs is told:
+    /// they said no Hello, or only the first part of what is said first.
+    pub fn unheard(&self) -> u64
+        ensures { result ≡ self.now.lines.unheard }
+    {
+        self.lines.unheard
+    }
+
+    /// How many of those who dialled were taken in so far, whoever they are.
+    pub fn callers(&self) -> u64
+        ensures { result ≡ self.now.lines.callers }
+    {
+        self.lines.callers
+    }
+
+    /// Does nothing; by its contract what was written over each line so far, with what is begun, is what a connection of this
+    /// node spoke, or nothing since one began: its own Hello, with a key its proof, and records. Each frame of them was handed to the
+    /// node whose Hello came over that connection.
+    pub fn speaks_its_own(&self)
+        ensures { (place : ℕ) → IsSpoken (own_of self.now) (frames_of self.now) (talk_over (passed_of self.now) (line_at place)) }
+    {}
+
     /// So much of the time that went by until now isn't counted as silence: the process was stopped, or in a long call.
     #[tactic(auto, using(crate::proofs::Handing::handed_on, crate::proofs::Handing::handed_stays, crate::proofs::Handing::handed_grew))]
     pub fn forgive(&mut self, lost: u64, now: u64)
         ensures { Stays self.old self.new }
     {
         forgive_all(&mut self.peers, lost, now);
+    }
+
+    /// Whether what is told next, if anything is, costs the node no sync: it is no frame, or the frame of an Accepted, a
+    /// Chosen, an Ask or a Refuse.
+    pub fn costs_no_sync(&self) -> bool {
+        for notice in &self.lines.notices {
+            if let Some(is_free) = self.is_free(notice) {
+                return is_free;
+            }
+        }
+        true
     }
 
     /// How long it is until a peer is to be dialled, a beat is due or a frame that is set aside may be told, at most; 0 where something
@@ -385,6 +482,17 @@ impl Peers {
     }
 }
 
+/// A peer shows that it promised this, at this moment.
+#[tactic(auto, using(crate::proofs::Handing::back_at, crate::proofs::Handing::back_same, crate::proofs::Promises::shown_at, crate::proofs::Promises::shown_beyond))]
+fn note_promise(peers: &mut Vec<Peer>, number: u8, promised: Option<Ballot>, now: u64)
+    ensures back { GoBack peers.old.items peers.new.items }
+    ensures shown { (other : ℕ) → promised_in (slice_get peers.new.items other) ≡ shown_in number promised other (slice_get peers.old.items other) }
+{
+    if let Some(peer) = peers.get_mut(number as usize) {
+        peer.note_promise(promised, now);
+    }
+}
+
 /// Tells each peer how this node is, where that is due.
 #[tactic(auto, using(crate::proofs::Handing::back_at, crate::proofs::Handing::back_same, crate::proofs::Handing::back_on))]
 fn tell_all(peers: &mut Vec<Peer>, told: OwnReport, now: u64)
@@ -397,16 +505,25 @@ fn tell_all(peers: &mut Vec<Peer>, told: OwnReport, now: u64)
     }
 }
 
+/// Tells the peer of a number these lives and these settings, where it wasn't told them yet.
+#[tactic(auto, using(crate::proofs::Handing::back_at, crate::proofs::Handing::back_same, crate::proofs::Reporting::one_informed, crate::proofs::Reporting::none_informed))]
+fn tell_lives_to(peers: &mut Vec<Peer>, number: usize, lives: &Lives, settings: Option<Settings>)
+    ensures back { GoBack peers.old.items peers.new.items }
+    ensures told { (before : List Peer) → Informed number lives.now settings before peers.old.items → Informed (number + 1) lives.now settings before peers.new.items }
+{
+    if let Some(peer) = peers.get_mut(number) {
+        peer.tell_lives(lives, settings);
+    }
+}
+
 /// Tells each peer these lives and these settings, where it wasn't told them yet.
-#[tactic(auto, using(crate::proofs::Handing::back_at, crate::proofs::Handing::back_same, crate::proofs::Handing::back_on, crate::proofs::Reporting::none_told_yet, crate::proofs::Reporting::one_informed, crate::proofs::Reporting::none_informed))]
+#[tactic(auto, using(crate::proofs::Handing::back_same, crate::proofs::Handing::back_on, crate::proofs::Reporting::none_told_yet))]
 fn tell_lives(peers: &mut Vec<Peer>, lives: &Lives, settings: Option<Settings>)
     ensures back { GoBack peers.old.items peers.new.items }
     ensures told { Informed MOST lives.now settings peers.old.items peers.new.items }
 {
     for number in 0..NODES {
-        if let Some(peer) = peers.get_mut(number) {
-            peer.tell_lives(lives, settings);
-        }
+        tell_lives_to(peers, number, lives, settings);
     }
 }
 

@@ -62,7 +62,7 @@ impl Peers {
 
     /// Ends the connection at a place by this fault, which is told.
     #[tactic(auto, using(crate::proofs::Growing::grew_on, crate::proofs::Growing::stayed, crate::proofs::Growing::stays_on, crate::proofs::Fading::fade_on))]
-    fn end_by<W: Wire>(&mut self, wire: &mut W, place: usize, fault: PeerFault, now: u64)
+    pub(crate) fn end_by<W: Wire>(&mut self, wire: &mut W, place: usize, fault: PeerFault, now: u64)
         ensures grew { Grew self.old self.new (W.passed wire.old) (W.passed wire.new) }
         ensures fade { AllFade self.old.peers.items self.new.peers.items }
         ensures left { IsLeft place self.new.peers.items }
@@ -73,7 +73,13 @@ impl Peers {
 
     /// Refuses who is there by the connection at a place by this fault.
     #[tactic(auto, using(crate::proofs::Growing::stayed, crate::proofs::Fading::fade_same))]
-    fn refuse_by<W: Wire>(&mut self, wire: &mut W, place: usize, fault: PeerFault, now: u64)
+    pub(crate) fn refuse_by<W: Wire>(
+        &mut self,
+        wire: &mut W,
+        place: usize,
+        fault: PeerFault,
+        now: u64,
+    )
         ensures grew { Grew self.old self.new (W.passed wire.old) (W.passed wire.new) }
         ensures fade { AllFade self.old.peers.items self.new.peers.items }
     {

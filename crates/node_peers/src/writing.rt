@@ -27,10 +27,10 @@ impl Peers {
         }
     }
 
-    /// Whether a fault closed the connection at a place.
+    /// Whether a fault closed the connection at a place, or its node is refused.
     pub(crate) fn is_closed(&self, place: usize) -> bool {
         match self.lines.at(place) {
-            Some(link) => link.connection.fault().is_some(),
+            Some(link) => link.is_closed(),
             None => false,
         }
     }
@@ -40,7 +40,7 @@ impl Peers {
     pub(crate) fn note_written(&mut self, place: usize, now: u64)
         ensures { Stays self.old self.new }
     {
-        if let Some(number) = self.dialled_at(place) {
+        if let Some(number) = self.last_dialled_at(place) {
             if let Some(peer) = self.peers.get_mut(number as usize) {
                 peer.dial = peer.dial.answered(now);
             }

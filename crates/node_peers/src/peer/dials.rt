@@ -7,7 +7,7 @@ ghost use Rattle.node_peers.specs.Turning.{turn_after, is_silent, shows_older};
 
 use super::Peer;
 use crate::limits::UNREACHED;
-use node_links::limits::DIALS;
+use node_links::limits::{CONNECT, DIALS, LOOK, NODES};
 use node_links::{
     Dial, DialDue, DialEnd, PeerFault, Turn, closed_end, closed_pause, connect_wait, longer,
     next_turn, pause_after,
@@ -58,11 +58,60 @@ pub(crate) fn shows_older(turn: Turn, said: Option<Version>) -> bool
 }
 
 impl Peer {
-    /// The peer is dialled.
-    #[tactic(auto, using(crate::proofs::Handing::goes_same, crate::proofs::Handing::goes_on))]
-    pub(crate) fn begin_dial(&mut self, now: u64)
+    /// The place of the line over which the peer of this number is dialled next: the first of its two, unless it is there by that.
+    pub(crate) fn next_place(&self, number: u8) -> usize {
+        let first = number as usize;
+        if self.open == Some(first) {
+            first + NODES
+        } else {
+            first
+        }
+    }
+
+    /// What is due of the dial. A peer that is there is dialled anew once it has been silent for so long that it counts as absent.
+    pub(crate) fn due(&self, now: u64, silence: u64) -> DialDue {
+        if self.open.is_none() {
+            return self.dial.due(now);
+        }
+        match self.dial {
+            Dial::Open { .. } => self.due_unless_here(now, silence),
+            Dial::Waits { .. } => self.due_unless_here(now, silence),
+            Dial::Dialled { .. } => self.dial.due(now),
+            Dial::Answered { .. } => self.dial.due(now),
+        }
+    }
+
+    /// The same of a peer that is there and isn't being dialled anew.
+    fn due_unless_here(&self, now: u64, silence: u64) -> DialDue {
+        if self.is_here(now, silence) {
+            return DialDue::Nothing { wait: LOOK };
+        }
+        match self.dial {
+            Dial::Open { .. } => DialDue::Dial,
+            dial => dial.due(now),
+        }
+    }
+
+    /// Whether the peer, which is there, is heard again while it is being dialled anew.
+    pub(crate) fn is_needless(&self, now: u64, silence: u64) -> bool {
+        let is_under_way = matches!(self.dial, Dial::Dialled { .. } | Dial::Answered { .. });
+        is_under_way && self.open != Some(self.dialled) && self.is_here(now, silence)
+    }
+
+    /// The dial that is under way is needless.
+    #[tactic(auto, using(crate::proofs::Handing::goes_same))]
+    pub(crate) fn quit_dial(&mut self, now: u64)
         ensures { GoesBack self.old self.new }
     {
+        self.dial = self.dial.ended(now, None);
+    }
+
+    /// The peer is dialled over the line at a place.
+    #[tactic(auto, using(crate::proofs::Handing::goes_same, crate::proofs::Handing::goes_on))]
+    pub(crate) fn begin_dial(&mut self, place: usize, now: u64)
+        ensures { GoesBack self.old self.new }
+    {
+        self.dialled = place;
         self.dial = Dial::Dialled {
             since: now,
             most: connect_wait(self.unanswered_dials),
@@ -89,7 +138,7 @@ impl Peer {
     {
         self.note_missed(now);
         self.turn_down(now, outcome);
-        let pause = self.end_pause(outcome.is_fruitless);
+        let pause = self.end_pause(outcome);
         self.dial = self.dial.ended(now, pause);
     }
 
@@ -131,14 +180,18 @@ impl Peer {
         }
     }
 
-    /// How long it isn't dialled behind a dial that ended by itself, if for longer than two dials have to be apart.
+    /// How long it isn't dialled behind a dial that ended by itself, if for longer than two dials have to be apart. Where it is
+    /// there, and something came, it may have refused the new connection, and is dialled again soon.
     #[tactic(auto, using(crate::proofs::Handing::goes_same, crate::proofs::Fading::fades_same))]
-    fn end_pause(&mut self, is_fruitless: bool) -> Option<u64>
+    fn end_pause(&mut self, outcome: Outcome) -> Option<u64>
         ensures back { GoesBack self.old self.new }
         ensures fades { Fades self.old self.new }
         ensures turn { self.new.turn ≡ self.old.turn }
     {
-        if is_fruitless {
+        if self.open.is_some() && outcome.has_come {
+            return Some(CONNECT);
+        }
+        if outcome.is_fruitless {
             self.pause = longer(self.pause);
             return Some(self.pause);
         }
@@ -148,7 +201,7 @@ impl Peer {
         None
     }
 
-    /// A dial ends: it came to nothing where it is given up, or wasn't answered.
+    /// A dial ends: it came to nothing where it is given up, or wasn't answered, and the peer isn't there all the same.
     #[tactic(auto, using(crate::proofs::Handing::goes_same, crate::proofs::Fading::fades_same))]
     fn note_missed(&mut self, now: u64)
         ensures back { GoesBack self.old self.new }
@@ -156,6 +209,9 @@ impl Peer {
         ensures dial { self.new.dial ≡ self.old.dial }
         ensures turn { self.new.turn ≡ self.old.turn }
     {
+        if self.open.is_some() {
+            return;
+        }
         let is_given_up = self.dial.due(now) == DialDue::GiveUp;
         if is_given_up || matches!(self.dial, Dial::Dialled { .. }) {
             let since = match self.missed {

@@ -1,5 +1,6 @@
 //! Which frames go to a peer, and which go to it again.
 
+ghost use Rattle.std.specs.Prelude.{◌≡◌};
 ghost use Rattle.node_peers.specs.Growing.{Stays};
 ghost use Rattle.node_peers.specs.Handing.{GoesBack, GoesWith, AreFor, peer_at};
 ghost use Rattle.node_peers.specs.Sending.{IsSent};
@@ -47,7 +48,8 @@ impl Peer {
     /// The last Accepted that went to the peer goes again.
     #[tactic(auto, using(crate::proofs::Handing::goes_same, crate::proofs::Handing::goes_repeated))]
     pub(super) fn repeat(&mut self, now: u64)
-        ensures { GoesBack self.old self.new }
+        ensures goes { GoesBack self.old self.new }
+        ensures promised { self.new.promised ≡ self.old.promised }
     {
         self.accepted.go_again(now);
         if let Some(frame) = self.accepted.frame() {
@@ -60,7 +62,8 @@ impl Peer {
     fn accept_again(&mut self, front: u32, now: u64)
         ensures { GoesBack self.old self.new }
     {
-        if self.is_behind(front) && self.accepted.is_due(now) {
+        let round_trip = self.round_trip();
+        if self.is_behind(front) && self.accepted.is_due(now, round_trip) {
             self.repeat(now);
         }
     }
@@ -70,7 +73,8 @@ impl Peer {
     fn forward_again(&mut self, now: u64)
         ensures { GoesBack self.old self.new }
     {
-        if self.forwarded.wait(now) > 0 {
+        let round_trip = self.round_trip();
+        if self.forwarded.wait(now, round_trip) > 0 {
             return;
         }
         self.forwarded.go_again(now);
@@ -117,10 +121,12 @@ impl Peer {
     pub(super) fn note_front(&mut self, front: u32)
         ensures { GoesBack self.old self.new }
     {
-        if self.front != front {
-            self.forwarded.forget();
-        }
+        let has_moved = self.front != front;
         self.front = front;
+        if !has_moved {
+            return;
+        }
+        self.forwarded.forget();
     }
 
     /// Whether the peer's last beat tells a front below this.

@@ -9,4 +9,4 @@ pub returns-in-Some-clause-fits : goal.returns-in-Some-clause-fits
 returns-in-Some-clause-fits c =
     let within : c.args.place < length c.args.links.now.items = grind (arith, common_steps) in
     fits_settled c.args.own.now (dialled_over (line_at c.args.place)) c.args.links.now.items c.args.place c.in-Some.slot.now c.settle_in.new.slot within
-    (c.in-Some.ensures.value ∙ get_or_default c.args.links.now.items c.args.place c.in-Some.slot.now None within) (λ talk dialled is. c.settle_in.ensures.fits talk (dialled ∙ sym c.dialled_at.ensures) is)
+    (c.in-Some.ensures.value ∙ get_or_default c.args.links.now.items c.args.place c.in-Some.slot.now None within) (λ sent talk dialled is. c.settle_in.ensures.fits sent talk (dialled ∙ sym c.dialled_at.ensures) is)

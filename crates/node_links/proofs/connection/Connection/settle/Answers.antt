@@ -9,6 +9,9 @@ use Rattle.node_links.proofs.CodedSaying.{coded_settles}
 use Rattle.node_links.specs.Judging.{IsKnown}
 use Rattle.node_links.specs.Going.{taken_in, taken_at, taken_of}
 use Rattle.node_links.proofs.Beginning.{plain_known, coded_known}
+use Rattle.node_links.specs.Speaking.{SpeaksOn}
+use Rattle.node_links.proofs.PlainSpeaking.{plain_settles_so}
+use Rattle.node_links.proofs.CodedSpeaking.{coded_settles_so}
 use Rattle.node_links.proofs.connection.Connection.settle.Goals as goal
 
 pub returns-in-Plain-clause-goes : goal.returns-in-Plain-clause-goes
@@ -30,3 +33,12 @@ pub returns-in-Coded-clause-known : goal.returns-in-Coded-clause-known
 returns-in-Coded-clause-known c =
     subst (λ (s : Connection). IsKnown c.args.own.now c.args.met.now (taken_of s) (taken_at c.settle-in-Coded.new.self.stage)) (sym c.in-Coded.is)
     (coded_known c.args.own.now c.args.dialled c.args.met.now c.in-Coded.coded c.settle-in-Coded.new.self c.settle-in-Coded.ensures)
+
+pub returns-in-Plain-clause-speaks : goal.returns-in-Plain-clause-speaks
+returns-in-Plain-clause-speaks c =
+    subst (λ (s : Connection). SpeaksOn s (Plain c.settle.new.self)) (sym c.in-Plain.is) (plain_settles_so c.args.own.now c.args.dialled c.args.met.now c.in-Plain.plain c.settle.new.self c.settle.ensures)
+
+pub returns-in-Coded-clause-speaks : goal.returns-in-Coded-clause-speaks
+returns-in-Coded-clause-speaks c =
+    subst (λ (s : Connection). SpeaksOn s (Coded c.settle-in-Coded.new.self)) (sym c.in-Coded.is)
+    (coded_settles_so c.args.own.now c.args.dialled c.args.met.now c.in-Coded.coded c.settle-in-Coded.new.self c.settle-in-Coded.ensures)

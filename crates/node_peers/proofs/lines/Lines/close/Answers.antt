@@ -3,4 +3,4 @@ use Rattle.node_peers.specs.Lines.{line_at}
 use Rattle.node_peers.proofs.lines.Lines.close.Goals as goal
 
 pub invariant_of-self : goal.invariant_of-self
-invariant_of-self g c = record { fits = c.clear.ensures c.args.self.now.own (λ place. talk_over c.args.self.now.passed.items (line_at place)) c.args.self.now.fits; told = c.args.self.now.told; late = c.args.self.now.late }
+invariant_of-self g c = record { fits = c.clear.ensures c.count_unheard.new.self.own c.count_unheard.new.self.sent.items (λ place. talk_over c.count_unheard.new.self.passed.items (line_at place)) c.count_unheard.new.self.fits; told = c.count_unheard.new.self.told; late = c.count_unheard.new.self.late }

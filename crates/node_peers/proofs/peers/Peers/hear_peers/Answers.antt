@@ -1,6 +1,6 @@
 use Rattle.std.proofs.Common.{refl}
 use Rattle.node_peers.proofs.Growing.{grew_on, stayed}
-use Rattle.node_peers.proofs.peers.Peers.end_ended.Goals as goal
+use Rattle.node_peers.proofs.peers.Peers.hear_peers.Goals as goal
 
 pub loop-place-init : goal.loop-place-init
 loop-place-init g c =
@@ -8,5 +8,5 @@ loop-place-init g c =
 
 pub loop-place-preserved : goal.loop-place-preserved
 loop-place-preserved g c =
-    grew_on c.args.self.now.lines c.loop-place.self.lines c.end_if_ended.new.self.lines (g.W.Wire.passed c.args.wire.now) (g.W.Wire.passed c.loop-place.wire) (g.W.Wire.passed c.end_if_ended.new.wire)
-    c.loop-place.invariant c.end_if_ended.ensures
+    grew_on c.args.self.now.lines c.loop-place.self.lines c.hear_joined.new.self.lines (g.W.Wire.passed c.args.wire.now) (g.W.Wire.passed c.loop-place.wire) (g.W.Wire.passed c.hear_joined.new.wire)
+    c.loop-place.invariant c.hear_joined.ensures
