@@ -15,7 +15,7 @@ use Rattle.dealer_kind.specs.Kind.{Setting}
 use Rattle.dealer_kind.specs.Plans.{IsSetting}
 use Rattle.stations.specs.Tables.{ShowsBeginning}
 use Rattle.node_seats.specs.declared.bot.Parting.{Parting}
-use Rattle.node_seats.specs.declared.bot.Parting.TheVariants.{Over, Other}
+use Rattle.node_seats.specs.declared.bot.Parting.TheVariants.{Over, Other, Wait}
 use Rattle.node_seats.specs.declared.words.Asked.{Asked}
 use Rattle.node_seats.specs.declared.words.Asked.TheVariants as asks
 use Rattle.node_seats.specs.Words.{Reading, read_of}
@@ -29,7 +29,7 @@ use Rattle.joined_lines.specs.Coming.{IsOverBy, IsOfTold, BeginsAt, BotConnectio
 use Rattle.joined_lines.proofs.Gathering.{IsGathered, gathered_none, gathered_as, gathered_both, gathered_one, gathered_tells}
 use Rattle.joined_lines.proofs.Told.{IsPlacedLine, all_lines, part_told}
 use Rattle.joined_lines.proofs.Lines.{IsGood}
-use Rattle.joined_lines.proofs.Courses.{all_good, not_both, not_none_over}
+use Rattle.joined_lines.proofs.Courses.{all_good, not_both, not_wait_over, not_none_over}
 use Rattle.joined_lines.proofs.Ending.{over_here, back_told}
 use Rattle.joined_lines.proofs.Starts.{line_at_start, told_by_all}
 
@@ -93,6 +93,7 @@ begun_or_not : (lines : List (List ℕ)) (parting : Option Parting) → HasBegun
 begun_or_not (line ∷ more) parting = inl (inl (not_empty line more))
 begun_or_not [] (Some Over) = inl (inr refl)
 begun_or_not [] (Some Other) = inr (not_begun [] (Some Other) refl not_both)
+begun_or_not [] (Some Wait) = inr (not_begun [] (Some Wait) refl not_wait_over)
 begun_or_not [] None = inr (not_begun [] None refl not_none_over)
 
 module _ (ends : HandsEnd) (make : CommandsMakeHands) (past : PastIsABeginning) (stays : NextCursorStays) (cursors : CursorsTellTheLines) (first_cursors : FirstCursorsTellABeginning) (setting : Setting) (is : IsSetting setting)
@@ -146,6 +147,7 @@ module _ (ends : HandsEnd) (make : CommandsMakeHands) (past : PastIsABeginning) 
               asked_for make past first_cursors setting is bot.seat commands told.start told.next words.asked words.named begins.0 begins.1.0 begins.1.1 given so placed some;
           alone = λ e. none_placed told.lines good (brought.alone e);
           refused = λ e. brought.refused e;
+          put_off = λ e. brought.put_off e;
           lost = told.lost;
           bytes = ap (λ (b : List ℕ). b ++ parting_text told.parting) (bytes_same told.lines good) ∙ told.bytes;
         }
@@ -156,6 +158,7 @@ module _ (ends : HandsEnd) (make : CommandsMakeHands) (past : PastIsABeginning) 
         let over = told.over is_over in
         gathered_as setting such (λ commands. ShowsBeginning setting commands over.0) OverBy (λ commands shows e. (over.0, (shows, over.1.1))) (gathered_one setting such over.0 over.1.0)
     over_gathered (Some Other) is_other = gathered_none setting such OverBy (λ commands e. let wrong : Some Other ≡ Some Over = sym is_other ∙ e in absurd (not_both wrong))
+    over_gathered (Some Wait) is_wait = gathered_none setting such OverBy (λ commands e. let wrong : Some Wait ≡ Some Over = sym is_wait ∙ e in absurd (not_wait_over wrong))
 
     begun_gathered : HasBegun told.lines told.parting ⊎ (HasBegun told.lines told.parting → ⊥) → IsGathered setting such BegunBy
     begun_gathered (inl has) =

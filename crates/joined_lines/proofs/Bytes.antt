@@ -52,6 +52,7 @@ one_line raw line good e own (Adds.nothing text is none not_over) =
 sign_of : (parting : Parting) → (rest : List ℕ) × (parting_line parting ≡ 35 ∷ rest)
 sign_of partings.Over = (codes "OVER", refl)
 sign_of partings.Other = (codes "OTHER", refl)
+sign_of partings.Wait = (codes "WAIT", refl)
 
 no_line : (raw : List ℕ) (parting : Parting) → raw ≡ parting_line parting ++ 13 ∷ [] → (own : List Word) → Adds raw own → lines_of own ≡ []
 no_line raw parting e own (Adds.shows shown is) =
@@ -83,6 +84,7 @@ free_ended line free = all_both (λ (byte : ℕ). byte ≡ 10 → ⊥) line (13 
 
 free_parting : (parting : Parting) → IsFreeOf 10 (parting_line parting)
 free_parting partings.Over = (omega arith, (omega arith, (omega arith, (omega arith, (omega arith, tt)))))
+free_parting partings.Wait = (omega arith, (omega arith, (omega arith, (omega arith, (omega arith, tt)))))
 free_parting partings.Other = (omega arith, (omega arith, (omega arith, (omega arith, (omega arith, (omega arith, tt))))))
 
 shown_last : (line : List ℕ) (lines : List (List ℕ)) (shown : Line) (behind words : List Word) → shown.text ≡ line → words ≡ Shows shown ∷ behind → lines ≡ map text_in (lines_of behind)
@@ -158,9 +160,18 @@ no_over raw own (Adds.closes text is over) e f =
     absurd (omega (arith, third))
 no_over raw own (Adds.nothing text is none not_over) e f = cc
 
+never_over : (raw : List ℕ) (own : List Word) → Adds raw own → raw ≡ parting_line partings.Wait ++ 13 ∷ [] → own ≡ Over ∷ [] → ⊥
+never_over raw own (Adds.shows shown is) e f = cc
+never_over raw own (Adds.closes text is over) e f =
+    let same : codes "#WAIT" ≡ codes "#OVER" = sym (text_same raw text (codes "#WAIT") is e) ∙ over in
+    let second : get_or (codes "#WAIT") 1 0 ≡ get_or (codes "#OVER") 1 0 = ap (λ (bytes : List ℕ). get_or bytes 1 0) same in
+    absurd (omega (arith, second))
+never_over raw own (Adds.nothing text is none not_over) e f = cc
+
 is_over : (raw : List ℕ) (own : List Word) (parting : Parting) → Adds raw own → raw ≡ parting_line parting ++ 13 ∷ [] → own ≡ Over ∷ [] → parting ≡ partings.Over
 is_over raw own partings.Over adds e one = refl
 is_over raw own partings.Other adds e one = absurd (no_over raw own adds e one)
+is_over raw own partings.Wait adds e one = absurd (never_over raw own adds e one)
 
 only_over : (words own : List Word) → words ++ Over ∷ [] ≡ own ++ [] → lines_of own ≡ [] → (lines_of words ≡ []) × (own ≡ words ++ Over ∷ [])
 only_over words own e none =

@@ -58,6 +58,9 @@ words_closed node done = words_more node [] done (Closes node) ∙ ap (λ (b : B
 pub not_both : Some partings.Other ≡ Some partings.Over → ⊥
 not_both e = cc
 
+pub not_wait_over : Some partings.Wait ≡ Some partings.Over → ⊥
+not_wait_over e = cc
+
 pub not_none_over : None ≡ Some partings.Over → ⊥
 not_none_over e = cc
 
@@ -125,6 +128,11 @@ module _ (ends : HandsEnd) (make : CommandsMakeHands) (past : PastIsABeginning) 
       gathered_as setting such (λ commands. TellsFrom (ShowsBeginning setting commands) seat told.start told.lines told.next)
       (λ commands. IsToldAll (ShowsBeginning setting commands) seat (map text_in (lines_of words)))
       (λ commands tells. let all = all_told commands such came waiting words told heard tells in let wrong : Some partings.Other ≡ Some partings.Over = sym is_other ∙ all.over in absurd (not_both wrong))
+      (gathered_tells setting such seat told.start told.lines told.next told.told)
+  ended_by such came waiting words told (Some partings.Wait) is_wait heard =
+      gathered_as setting such (λ commands. TellsFrom (ShowsBeginning setting commands) seat told.start told.lines told.next)
+      (λ commands. IsToldAll (ShowsBeginning setting commands) seat (map text_in (lines_of words)))
+      (λ commands tells. let all = all_told commands such came waiting words told heard tells in let wrong : Some partings.Wait ≡ Some partings.Over = sym is_wait ∙ all.over in absurd (not_wait_over wrong))
       (gathered_tells setting such seat told.start told.lines told.next told.told)
   ended_by such came waiting words told None is_none heard =
       gathered_as setting such (λ commands. TellsFrom (ShowsBeginning setting commands) seat told.start told.lines told.next)

@@ -24,7 +24,7 @@ use Rattle.seat_relay.specs.Relaying.{Line, with_place, Begins, Tells}
 use Rattle.seat_relay.specs.Dealing.{dealers_lines}
 use Rattle.seat_relay.specs.Laws.{IsFront, IsPart}
 use Rattle.node_seats.specs.declared.bot.Parting.{Parting}
-use Rattle.node_seats.specs.declared.bot.Parting.TheVariants.{Over, Other}
+use Rattle.node_seats.specs.declared.bot.Parting.TheVariants.{Over, Other, Wait}
 use Rattle.node_seats.specs.Words.{read_of}
 use Rattle.node_seats.specs.Telling.{TellsFrom, text_of, parting_text}
 use Rattle.relay_runs.specs.declared.desk.Desk.{Desk}
@@ -95,6 +95,7 @@ only_parting came told = sym (ap (λ (lines : List (List ℕ)). text_of lines ++
 no_parting : (parting : Option Parting) (lost : List ℕ) → (parting ≡ Some Over → ⊥) → parting_text parting ≡ codes "#OVER" ++ lost → ⊥
 no_parting None lost over e = cc
 no_parting (Some Over) lost over e = over refl
+no_parting (Some Wait) lost over e = let second = ap (λ (bytes : List ℕ). get_or bytes 1 0) e in omega (arith, second)
 no_parting (Some Other) lost over e = let third = ap (λ (bytes : List ℕ). get_or bytes 2 0) e in omega (arith, third)
 
 over_not_told : IsOfTold NoTable 0 (codes "#OVER") → ⊥
@@ -138,6 +139,7 @@ other_brought setting = record {
   asked = λ some. absurd (some refl);
   alone = λ e. refl;
   refused = λ e. refl;
+  put_off = λ e. absurd cc;
   lost = codes "HER\r\n";
   bytes = refl;
 }
@@ -158,6 +160,7 @@ only_behind setting came brings = sym (ap (λ (lines : List Line). bytes_of_line
 no_letter : (parting : Option Parting) (lost : List ℕ) → parting_text parting ≡ codes "M" ++ lost → ⊥
 no_letter None lost e = cc
 no_letter (Some Over) lost e = let first = ap (λ (bytes : List ℕ). get_or bytes 0 0) e in omega (arith, first)
+no_letter (Some Wait) lost e = let first = ap (λ (bytes : List ℕ). get_or bytes 0 0) e in omega (arith, first)
 no_letter (Some Other) lost e = let first = ap (λ (bytes : List ℕ). get_or bytes 0 0) e in omega (arith, first)
 
 line_not_brought : (setting : Setting) → BringsLines setting [] (of_first_seat (codes "M")) → ⊥

@@ -16,3 +16,11 @@ mod Histories
 mod Servers
 mod Keeping
 mod Examples
+mod WitnessRules
+mod WitnessCalls
+mod WitnessDisks
+mod WitnessNodes
+mod WitnessDeal
+mod WitnessPaper
+mod WitnessRelay
+mod Witness

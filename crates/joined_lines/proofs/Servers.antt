@@ -19,7 +19,7 @@ use Rattle.line_cursor.specs.declared.cursor.Cursor.{Cursor}
 use Rattle.line_cursor.specs.Cursors.{cursor_at, next_cursor}
 use Rattle.node_seats.specs.declared.bot.Bot.{Bot}
 use Rattle.node_seats.specs.declared.bot.Parting.{Parting}
-use Rattle.node_seats.specs.declared.bot.Parting.TheVariants.{Over, Other}
+use Rattle.node_seats.specs.declared.bot.Parting.TheVariants.{Over, Other, Wait}
 use Rattle.node_seats.specs.declared.bot.Telling.{Telling}
 use Rattle.node_seats.specs.declared.words.Asked.{Asked}
 use Rattle.node_seats.specs.declared.words.Asked.TheVariants as asks
@@ -30,7 +30,7 @@ use Rattle.node_service.specs.Bots.{IsRefusedBy, HadTable, IsToldBy, IsStarted, 
 use Rattle.node_service.specs.Served.{Served}
 use Rattle.joined_lines.specs.Coming.{IsOfTold, ComeOfTold, SeatRelay, IsToldSo, BotConnection, BeginsAt, BringsTold, RelaysTellOneMatch}
 use Rattle.joined_lines.specs.Serving.{IsServerOf, IsOfServer, ComeOfServers, LeadsToServers, ComesOfServer, ServersTellOneMatch}
-use Rattle.joined_lines.proofs.Saying.{words_behind}
+use Rattle.joined_lines.proofs.Saying.{words_behind, asked_behind}
 use Rattle.joined_lines.proofs.Histories.{IsThere, all_nodes, all_did, has_history, there_at, are_processes}
 
 tells_such : (such other : Match → Type 0) → ((table : Match) → such table → other table) → (seat : ℕ) (at : Cursor) (lines : List (List ℕ)) (next : Cursor) → TellsFrom such seat at lines next → TellsFrom other seat at lines next
@@ -108,15 +108,16 @@ module _ {D : Type 0} (g : Ghosts D) where
 
   -- what a bot was told, off such tables, and where it asked for that
   bot_told : (such : Match → Type 0) (look : Look (Node D)) → ((table : Match) → HadTable g look table → such table) → (seat : ℕ) (bot : Bot) (telling : Option Telling) (came lost said : List ℕ) → IsToldBy g look seat telling
-      → IsStarted g look seat bot.words telling → (bot.parting ≡ Some Over → IsOverFor g look seat bot.words telling) → (bot.parting ≡ Some Other → IsParted g look seat bot (Some Other)) → bot.telling ≡ telling
+      → IsStarted g look seat bot.words telling → (bot.parting ≡ Some Over → IsOverFor g look seat bot.words telling) → (bot.parting ≡ Some Other → IsParted g look seat bot (Some Other)) → (bot.parting ≡ Some Wait → (read_of said).asked ≢ asks.Nothing) → bot.telling ≡ telling
       → text_told telling ++ parting_text bot.parting ≡ came ++ lost → (bot.words.is_over ≡ true → bot.words ≡ read_of said) → BringsTold such (record { seat = seat; came = came; said = said })
-  bot_told such look change seat bot None came lost said told started over other same bytes words = record {
+  bot_told such look change seat bot None came lost said told started over other wait same bytes words = record {
     come = record { start = cursor_at 0 0; next = cursor_at 0 0; lines = []; told = refl; parting = bot.parting; over = λ e. absurd (over e); lost = lost; bytes = bytes };
     begins = λ has. absurd (not_begun has over);
     alone = λ e. refl;
     refused = λ e. names_one look seat bot said (other e) words;
+    put_off = wait;
   }
-  bot_told such look change seat bot (Some telling) came lost said told started over other same bytes words = record {
+  bot_told such look change seat bot (Some telling) came lost said told started over other wait same bytes words = record {
     come = record {
       start = telling.start;
       next = telling.next;
@@ -132,6 +133,7 @@ module _ {D : Type 0} (g : Ghosts D) where
         subst (λ (r : Reading). BeginsAt such seat r telling.start) (words started.0) begins;
     alone = λ e. absurd (not_nothing telling (sym same ∙ (other e).0));
     refused = λ e. names_one look seat bot said (other e) words;
+    put_off = wait;
   }
 
   server_told : (such : Match → Type 0) (look : Look (Node D)) (served : Served (Node D)) (seat : ℕ) (came lost said later : List ℕ) → ((table : Match) → HadTable g served.look table → such table) → IsServerOf g look served
@@ -146,7 +148,8 @@ module _ {D : Type 0} (g : Ghosts D) where
       wrote_is.1.0
       ∙ (append_assoc (wrote_over served.passed (Seat seat)) waits wrote_is.0 ∙ (ap (λ (w : List ℕ). w ++ (waits ++ wrote_is.0)) wrote ∙ append_assoc came lost (waits ++ wrote_is.0))) in
       bot_told such served.look change seat bot bot.telling came (lost ++ (waits ++ wrote_is.0)) said is.told is.started (λ e. subst (IsParted g served.look seat bot) e is.parted)
-      (λ e. subst (IsParted g served.look seat bot) e is.parted) refl bytes (words_behind bot.words (came_over served.passed (Seat seat)) later said words_are heard)
+      (λ e. subst (IsParted g served.look seat bot) e is.parted)
+      (λ e. asked_behind bot.words (came_over served.passed (Seat seat)) later said words_are heard (subst (IsParted g served.look seat bot) e is.parted)) refl bytes (words_behind bot.words (came_over served.passed (Seat seat)) later said words_are heard)
 
   -- ---- the law
 

@@ -17,7 +17,7 @@ use Rattle.line_cursor.specs.declared.cursor.Cursor.{Cursor}
 use Rattle.seat_relay.specs.Relaying.{Line}
 use Rattle.seat_relay.specs.Laws.{IsPart, IsFront, IsBack, IsGivenOf}
 use Rattle.node_seats.specs.declared.bot.Parting.{Parting}
-use Rattle.node_seats.specs.declared.bot.Parting.TheVariants.{Over, Other}
+use Rattle.node_seats.specs.declared.bot.Parting.TheVariants.{Over, Other, Wait}
 use Rattle.node_seats.specs.declared.words.Asked.{Asked}
 use Rattle.node_seats.specs.declared.words.Asked.TheVariants as asks
 use Rattle.node_seats.specs.Words.{Reading, read_of}
@@ -36,7 +36,7 @@ use Rattle.joined_lines.specs.Chosen.{lines_by, IsByChosen}
 abbrev pub IsOverBy : (Match → Type 0) → ℕ → Cursor → Type 0
 IsOverBy such seat at = (table : Match) × (such table × IsBehindAll table seat at)
 
--- these bytes begin what a seat is told: lines one after another without a gap, each off such a table, and perhaps behind them #OTHER, or #OVER behind the last line of a match that is over
+-- these bytes begin what a seat is told: lines one after another without a gap, each off such a table, and perhaps behind them #OTHER or #WAIT, or #OVER behind the last line of a match that is over
 pub record IsOfTold (such : Match → Type 0) (seat : ℕ) (came : List ℕ) : Type 0 where
   pub start : Cursor
   pub next : Cursor
@@ -98,12 +98,13 @@ pub record BotConnection : Type 0 where
 abbrev pub BeginsAt : (Match → Type 0) → ℕ → Reading → Cursor → Type 0
 BeginsAt such seat words at = (table : Match) × (such table × StartsBy table seat words.asked words.named at)
 
--- over it came what the seat is told so; where that has a line, or ends with #OVER, it begins where the bot asked, and where it ends with #OTHER there is no line, and the bot named one or asked twice
+-- over it came what the seat is told so; where that has a line, or ends with #OVER, it begins where the bot asked, where it ends with #OTHER there is no line, and the bot named one or asked twice; and where it ends with #WAIT the bot asked
 pub record BringsTold (such : Match → Type 0) (bot : BotConnection) : Type 0 where
   pub come : IsOfTold such bot.seat bot.came
   pub begins : (come.lines ≢ []) ⊎ (come.parting ≡ Some Over) → BeginsAt such bot.seat (read_of bot.said) come.start
   pub alone : come.parting ≡ Some Other → come.lines ≡ []
   pub refused : come.parting ≡ Some Other → names_line (read_of bot.said).asked ≡ true
+  pub put_off : come.parting ≡ Some Wait → (read_of bot.said).asked ≢ asks.Nothing
 
 -- the match is over by these commands, and these are the last lines, at least one, that the dealer tells the seat by them
 pub record AreLast (setting : Setting) (commands : List Command) (seat : ℕ) (lines : List Line) : Type 0 where
@@ -124,7 +125,7 @@ IsAskedFor asks.Newest named given lines = Unit {0}
 IsAskedFor asks.Line named given lines = first_text given ≡ Some named
 IsAskedFor asks.Other named given lines = ⊥
 
--- what came begins the bytes of a part, without a gap, of the lines that the dealer tells its seat by these commands, from where the bot asked; or of them and #OVER, which stands only behind the last line of a match that is over; or of #OTHER alone, where the bot named a line or asked twice
+-- what came begins the bytes of a part, without a gap, of the lines that the dealer tells its seat by these commands, from where the bot asked; or of them and #OVER, which stands only behind the last line of a match that is over; of #OTHER alone, where the bot named a line or asked twice; or of them and #WAIT, where it asked
 pub record BringsLines (setting : Setting) (commands : List Command) (bot : BotConnection) : Type 0 where
   pub given : List Line
   pub are : IsPart given (lines_by setting bot.seat commands)
@@ -133,6 +134,7 @@ pub record BringsLines (setting : Setting) (commands : List Command) (bot : BotC
   pub asked : given ≢ [] → IsAskedFor (read_of bot.said).asked (read_of bot.said).named given (lines_by setting bot.seat commands)
   pub alone : parting ≡ Some Other → given ≡ []
   pub refused : parting ≡ Some Other → names_line (read_of bot.said).asked ≡ true
+  pub put_off : parting ≡ Some Wait → (read_of bot.said).asked ≢ asks.Nothing
   pub lost : List ℕ
   pub bytes : bytes_of_lines given ++ parting_text parting ≡ bot.came ++ lost
 

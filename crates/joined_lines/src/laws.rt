@@ -36,8 +36,8 @@ pub fn connections_tell_one_match<D: Disk + Drop>()
 /// bot was written all of these lines, or all from one on.
 ///
 /// The same list serves all bots without a relay over whose connections came what their seats are told so (`BringsTold`). What
-/// came begins the bytes of a part of the seat's lines without a gap, and perhaps of `#OVER` behind them, or the bytes of
-/// `#OTHER` alone. `#OVER` stands there only if the match is over by these commands, and behind the last line of all. `#OTHER`
+/// came begins the bytes of a part of the seat's lines without a gap, and perhaps of `#OVER` or `#WAIT` behind them, or the bytes
+/// of `#OTHER` alone. `#OVER` stands there only if the match is over by these commands, and behind the last line of all. `#OTHER`
 /// stands there only if the bot named a line or asked twice. Where lines came to a bot that asked for the first or named one,
 /// they begin with that line (`BringsLines`).
 pub fn relays_tell_one_match<D: Disk + Drop>()

@@ -1,5 +1,5 @@
 -- What the bots of a process's seats are told, call by call.
-use Rattle.std.proofs.Common.{◌≡◌, ◌⊎◌, inl, inr, ℕ, Bool, true, false, List, [], ◌∷◌, ◌++◌, append_assoc, refl, ap, sym, subst, ◌∙◌}
+use Rattle.std.proofs.Common.{◌≡◌, ◌⊎◌, inl, inr, ℕ, Bool, true, false, List, [], ◌∷◌, ◌++◌, ◌==◌, if◌then◌else◌, nat_lt, length, append_assoc, refl, ap, sym, subst, ◌∙◌}
 use Rattle.std.proofs.lemmas.Bool.Decides.{eqb_tells}
 use Rattle.std.specs.Prelude.{Option, Some, None, IsSomeAnd}
 use Rattle.promise_store.specs.declared.disk.Disk.{Ghosts}
@@ -17,15 +17,16 @@ use Rattle.stations.specs.Looking.{look_of}
 use Rattle.stations.specs.declared.station.Station.{Station}
 use Rattle.node_seats.specs.declared.bot.Bot.{Bot}
 use Rattle.node_seats.specs.declared.bot.Parting.{Parting}
-use Rattle.node_seats.specs.declared.bot.Parting.TheVariants.{Over, Other}
+use Rattle.node_seats.specs.declared.bot.Parting.TheVariants.{Over, Other, Wait}
 use Rattle.node_seats.specs.declared.bot.Telling.{Telling}
 use Rattle.node_seats.specs.declared.seat.Seat.{Seat}
 use Rattle.node_seats.specs.declared.seat_notice.SeatNotice.{SeatNotice}
 use Rattle.node_seats.specs.declared.seat_notice.SeatNotice.TheVariants as notices
 use Rattle.node_seats.specs.declared.words.Asked.{Asked}
 use Rattle.node_seats.specs.declared.words.Asked.TheVariants as asks
-use Rattle.node_seats.specs.Words.{Reading, with_byte, with_bytes}
-use Rattle.node_seats.specs.Seating.{no_bot, newcomer, gone, heard, bot_at, Changes}
+use Rattle.node_seats.specs.Words.{Reading, text_of, is_skipped, word_of, with_word, with_word_of, with_asked, over, cleared, with_line, with_byte, with_bytes}
+use Rattle.node_seats.specs.declared.limits.TheConstants.{WORDS}
+use Rattle.node_seats.specs.Seating.{no_bot, newcomer, gone, heard, bot_at, asks_once, Changes}
 use Rattle.node_seats.specs.Telling.{lines_of, TellsFrom, telling_from, TellsMore, TellsBot, Begins, Parts, SaysAt}
 use Rattle.node_seats.proofs.Telling.{tells_both}
 use Rattle.node_service.specs.Bots.{StartsBy, IsRefusedBy, IsBehindAll, IsStill, HadTable, IsToldBy, IsStarted, IsOverFor, IsParted, IsBotOf, AreBotsOf, HadTableSince, BeginsSince, PartsSince, IsSince, KeepBots}
@@ -54,6 +55,46 @@ begun_on (Some first) mid telling e is = is ∙ e
 -- nobody sits where a bot is gone
 never : {A : Type 0} → false ≡ true → A
 never e = absurd cc
+
+-- ---- one who asked has asked, whatever more it says
+
+pub resumes_asks : (asked : Asked) → asks_once asked ≡ true → asked ≡ asks.Nothing → ⊥
+resumes_asks asks.Nothing once is = absurd cc
+resumes_asks asks.First once is = absurd cc
+resumes_asks asks.Newest once is = absurd cc
+resumes_asks asks.Line once is = absurd cc
+resumes_asks asks.Other once is = absurd cc
+
+asks_word : (r : Reading) (word : List ℕ) (asked : Asked) → r.asked ≡ asked → (r.asked ≡ asks.Nothing → ⊥) → (with_word r word asked).asked ≡ asks.Nothing → ⊥
+asks_word r word asks.Nothing e has is = has e
+asks_word r word asks.First e has is = absurd cc
+asks_word r word asks.Newest e has is = absurd cc
+asks_word r word asks.Line e has is = absurd cc
+asks_word r word asks.Other e has is = absurd cc
+
+asks_word_of : (r : Reading) (word : Option (List ℕ)) → (r.asked ≡ asks.Nothing → ⊥) → (with_word_of r word).asked ≡ asks.Nothing → ⊥
+asks_word_of r None has is = has is
+asks_word_of r (Some word) has is = asks_word r word r.asked refl has is
+
+asks_line : (r : Reading) (skipped : Bool) → (r.asked ≡ asks.Nothing → ⊥) → (cleared (if skipped then with_asked r else over r r.asked)).asked ≡ asks.Nothing → ⊥
+asks_line r true has is = asks_word_of r (word_of (text_of r.line)) has is
+asks_line r false has is = has is
+
+asks_further : (r : Reading) (byte : ℕ) (room : Bool) → (r.asked ≡ asks.Nothing → ⊥)
+    → (if room then record { line = r.line ++ byte ∷ []; named = r.named; asked = r.asked; is_over = r.is_over } else over r asks.Other).asked ≡ asks.Nothing → ⊥
+asks_further r byte true has is = has is
+asks_further r byte false has is = absurd cc
+
+asks_byte_by : (r : Reading) (byte : ℕ) (is_over ends : Bool) → (r.asked ≡ asks.Nothing → ⊥)
+    → (if is_over then r else if ends then with_line r
+    else if nat_lt (length r.line) WORDS then record { line = r.line ++ byte ∷ []; named = r.named; asked = r.asked; is_over = r.is_over } else over r asks.Other).asked ≡ asks.Nothing → ⊥
+asks_byte_by r byte true ends has is = has is
+asks_byte_by r byte false true has is = asks_line r (is_skipped r.line) has is
+asks_byte_by r byte false false has is = asks_further r byte (nat_lt (length r.line) WORDS) has is
+
+pub asks_bytes : (r : Reading) (bytes : List ℕ) → (r.asked ≡ asks.Nothing → ⊥) → (with_bytes r bytes).asked ≡ asks.Nothing → ⊥
+asks_bytes r [] has is = has is
+asks_bytes r (byte ∷ more) has is = asks_bytes (with_byte r byte) more (asks_byte_by r byte r.is_over (byte == 10) has) is
 
 -- nothing more is read behind the version
 over_by : (over : Bool) (r : Reading) (byte : ℕ) → r.is_over ≡ over → over ≡ true → with_byte r byte ≡ r
@@ -137,6 +178,7 @@ module _ {D : Type 0} {g : Ghosts D} where
   parted_then : (old new : Look (Node D)) → ((table : Match) → HadTable g old table → HadTable g new table) → (seat : ℕ) (bot : Bot) (parting : Option Parting) → IsParted g old seat bot parting → IsParted g new seat bot parting
   parted_then old new change seat bot None is = tt
   parted_then old new change seat bot (Some Over) is = over_then old new change seat bot.words bot.telling is
+  parted_then old new change seat bot (Some Wait) is = is
   parted_then old new change seat bot (Some Other) is = (is.0, (is.1.0, (is.1.1.0, (change is.1.1.0 is.1.1.1.0, is.1.1.1.1))))
 
   are_then : (old new : Look (Node D)) → LooksOn g old new → (seats : List Seat) → AreBotsOf g old seats → AreBotsOf g new seats
@@ -159,6 +201,7 @@ module _ {D : Type 0} (g : Ghosts D) where
   parts_still : (first : List Deed) (look : Look (Node D)) (seat : ℕ) (old new : Bot) (parting : Option Parting) → IsStill old new → old.parting ≡ parting → PartsSince g first look seat old new parting
   parts_still first look seat old new None is e = tt
   parts_still first look seat old new (Some Over) is e = tt
+  parts_still first look seat old new (Some Wait) is e = tt
   parts_still first look seat old new (Some Other) is e = inl (is, e)
 
   -- more lines
@@ -191,6 +234,7 @@ module _ {D : Type 0} (g : Ghosts D) where
       → PartsSince g two.deeds three seat b c parting → PartsSince g one.deeds three seat a c parting
   parts_on one two three on_two on_three seat a b c None first then_on = tt
   parts_on one two three on_two on_three seat a b c (Some Over) first then_on = tt
+  parts_on one two three on_two on_three seat a b c (Some Wait) first then_on = tt
   parts_on one two three on_two on_three seat a b c (Some Other) first (inr (table, (had, refused))) = inr (table, (since_before one two three on_two table had, refused))
   parts_on one two three on_two on_three seat a b c (Some Other) first (inl (is, e)) =
       let parted : PartsSince g one.deeds two seat a b (Some Other) = subst (PartsSince g one.deeds two seat a b) e first in
@@ -244,6 +288,9 @@ module _ {D : Type 0} {g : Ghosts D} where
   gone_by look seat bot (Some Over) e is =
       let over : IsOverFor g look seat bot.words bot.telling = subst (IsParted g look seat bot) e is.parted in
       record { told = is.told; started = is.started; parted = subst (IsParted g look seat (gone bot)) (sym e) over }
+  gone_by look seat bot (Some Wait) e is =
+      let asked : IsParted g look seat bot (Some Wait) = subst (IsParted g look seat bot) e is.parted in
+      record { told = is.told; started = is.started; parted = subst (IsParted g look seat (gone bot)) (sym e) asked }
   gone_by look seat bot (Some Other) e is =
       let other : IsParted g look seat (gone bot) (Some Other) = subst (IsParted g look seat bot) e is.parted in
       record { told = is.told; started = is.started; parted = subst (IsParted g look seat (gone bot)) (sym e) other }
@@ -270,6 +317,13 @@ module _ {D : Type 0} {g : Ghosts D} where
   heard_by look seat bytes bot None (Some Over) e f is =
       let over : IsOverFor g look seat bot.words bot.telling = subst (IsParted g look seat bot) f is.parted in
       absurd (subst (IsOverFor g look seat bot.words) e over)
+  heard_by look seat bytes bot None (Some Wait) e f is =
+      let asked : IsParted g look seat bot (Some Wait) = subst (IsParted g look seat bot) f is.parted in
+      record {
+        told = subst (IsToldBy g look seat) (sym e) tt;
+        started = subst (IsStarted g look seat (heard bytes bot).words) (sym e) tt;
+        parted = subst (IsParted g look seat (heard bytes bot)) (sym f) (asks_bytes bot.words bytes asked);
+      }
   heard_by look seat bytes bot None (Some Other) e f is =
       let other : IsParted g look seat bot (Some Other) = subst (IsParted g look seat bot) f is.parted in
       subst (λ (w : Reading). IsBotOf g look seat (record { sits = bot.sits; words = w; telling = bot.telling; parting = bot.parting })) (sym (over_reads bot.words bytes other.1.0)) is
@@ -287,6 +341,10 @@ module _ {D : Type 0} {g : Ghosts D} where
     parts = subst (PartsSince g first look seat bot (heard bytes bot)) (sym f) tt;
   }
   heard_since_by first look seat bytes bot None (Some Over) e f is = record {
+    begins = subst (BeginsSince g first look seat bot (heard bytes bot)) (sym e) tt;
+    parts = subst (PartsSince g first look seat bot (heard bytes bot)) (sym f) tt;
+  }
+  heard_since_by first look seat bytes bot None (Some Wait) e f is = record {
     begins = subst (BeginsSince g first look seat bot (heard bytes bot)) (sym e) tt;
     parts = subst (PartsSince g first look seat bot (heard bytes bot)) (sym f) tt;
   }
@@ -393,6 +451,23 @@ module _ {D : Type 0} {g : Ghosts D} where
   bots_refused look table seat old new had refused parts says =
       goes_at look seat old new
       (record { stays = λ is. other_there look table seat (bot_at old seat) (bot_at new seat) had.0 refused parts is; since = λ is. other_since look table seat (bot_at old seat) (bot_at new seat) had refused parts }) says.bots
+
+  -- to come again later
+  wait_there : (look : Look (Node D)) (seat : ℕ) (old new : Bot) → Parts Wait old new → IsBotOf g look seat old → IsBotOf g look seat new
+  wait_there look seat old new (inl same) is = subst (IsBotOf g look seat) (sym same) is
+  wait_there look seat old new (inr (none, (resumed, e))) is =
+      subst (IsBotOf g look seat) (sym e) (record { told = is.told; started = is.started; parted = resumes_asks old.words.asked resumed })
+
+  wait_since : (first : List Deed) (look : Look (Node D)) (seat : ℕ) (old new : Bot) → Parts Wait old new → IsSince g first look seat old new
+  wait_since first look seat old new (inl same) = is_same first look seat old new same
+  wait_since first look seat old new (inr (none, (resumed, e))) =
+      subst (IsSince g first look seat old) (sym e)
+      (record { begins = begins_still g first look seat old (record old { parting = Some Wait }) old.telling (record { sits = λ sits. sits; words = refl }) refl; parts = tt })
+
+  pub bots_put_off : (look : Look (Node D)) (seat : ℕ) (old new : List Seat) → Parts Wait (bot_at old seat) (bot_at new seat) → SaysAt seat old new → KeepBots g look look old new
+  bots_put_off look seat old new parts says =
+      goes_at look seat old new
+      (record { stays = λ is. wait_there look seat (bot_at old seat) (bot_at new seat) parts is; since = λ is. wait_since look.deeds look seat (bot_at old seat) (bot_at new seat) parts }) says.bots
 
   -- that the match is over
   is_over_for : (look : Look (Node D)) (table : Match) (seat : ℕ) (at : Cursor) (words : Reading) (telling : Option Telling) (found : Telling) → telling ≡ Some found → found.next ≡ at → HadTable g look table → (words.asked ≡ asks.Nothing → ⊥) → IsBehindAll table seat at

@@ -8,7 +8,8 @@ use Rattle.dealer_node.specs.declared.fault.NodeFault.{NodeFault}
 use Rattle.dealer_world.specs.declared.event.Event.{Event}
 use Rattle.dealer_world.specs.declared.event.Event.TheVariants as event
 use Rattle.stations.specs.Stations.{Look, Acts, nothing, call}
-use Rattle.node_service.specs.Called.{started_after, Did}
+use Rattle.node_service.specs.Called.{Did}
+use Rattle.node_service.specs.Calling.{started_after}
 
 -- a node that was started stays so
 pub started_stays : (e : Event) (answer : Option (Result (Unit {0}) NodeFault)) (before after : Bool) → after ≡ started_after e answer before → before ≡ true → after ≡ true

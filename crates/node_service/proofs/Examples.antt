@@ -38,6 +38,8 @@ use Rattle.node_seats.specs.Seating.{gone}
 use Rattle.node_seats.specs.Telling.{telling_from}
 use Rattle.node_service.specs.Bots.{newest_place, IsRefusedBy, HadBegun, HadParted, HadTableSince, BeginsSince, PartsSince}
 use Rattle.node_service.specs.WrongTokens.{nobody, and_one, due_of, told_at}
+use Rattle.node_service.specs.Taking.{is_enough}
+use Rattle.node_service.specs.Unread.{nothing_read, slept_in, read_in, may_be_read}
 
 -- ---- two deeds of node 0: seat 1 sent 7 8, upon which the node sent a frame to node 2 and showed a line to seat 0 and text to its log; before that seat 1 connected
 
@@ -321,3 +323,44 @@ two_come_to_a_free_seat is = let one = is 1 (omega arith) in omega (arith, one)
 -- nor is anything read of one that came
 piece_of_who_came : ComeOfSeats (comes_to 1 ∷ OfSeat (PieceCame (line.Seat 1) (7 ∷ [])) ∷ []) → ⊥
 piece_of_who_came come = let one = come.one 1 (omega arith) in omega (arith, one)
+
+-- ---- how much is taken in a turn
+
+-- one thing is taken in any case
+first_is_taken : is_enough 0 false 5 9000000 ≡ false
+first_is_taken = refl
+
+-- the next one isn't once 20 ms have passed, where it may cost syncs
+next_that_may_sync : is_enough 1 false 5 20005 ≡ true
+next_that_may_sync = refl
+
+-- up to four that cost none are
+fourth_without_a_sync : is_enough 3 true 5 9000000 ≡ false
+fourth_without_a_sync = refl
+
+fifth_waits : is_enough 4 true 5 20005 ≡ true
+fifth_waits = refl
+
+-- and all that come earlier
+within_the_time : is_enough 900 false 5 20004 ≡ false
+within_the_time = refl
+
+-- ---- what lay there as a process woke
+
+-- it counts as read once nothing is left, and else behind 64 turns in which what came next of each seat was taken
+nothing_is_left : may_be_read true nothing_read ≡ true
+nothing_is_left = refl
+
+read_too_little : may_be_read false (read_in true (record { turns = 62 })) ≡ false
+read_too_little = refl
+
+read_enough : may_be_read false (read_in true (record { turns = 63 })) ≡ true
+read_enough = refl
+
+-- a turn in which it wasn't read doesn't count
+seats_were_not_read : may_be_read false (read_in false (record { turns = 63 })) ≡ false
+seats_were_not_read = refl
+
+-- nor one before a sleep
+read_before_it_slept : may_be_read false (read_in true (slept_in (record { turns = 64 }) 100001)) ≡ false
+read_before_it_slept = refl

@@ -17,9 +17,13 @@ use Rattle.node_service.specs.Logging.{StartedOnce, IsOnce}
 use Rattle.node_service.specs.Going.{GoesOn, GoesOnWith, Does, Takes}
 use Rattle.node_service.specs.Sittings.{Loosens}
 use Rattle.node_service.specs.Fitting.{FitsFor, Fits, FitsBut}
+use Rattle.node_service.specs.Seated.{SatBefore}
+use Rattle.node_service.proofs.Seated.{sat_still, still_somebody, all_but_none, but_nobody}
 use Rattle.node_service.proofs.Fitting.{fits_moved}
 use Rattle.node_service.specs.Company.{Hears}
 use Rattle.node_service.specs.Asking.{GivesOnly, IsReply}
+use Rattle.node_service.specs.Apartness.{PutsOffApart}
+use Rattle.node_service.proofs.Apartness.{waits_same, waits_on}
 use Rattle.node_service.specs.Crossing.{Carries}
 use Rattle.node_service.specs.Taking.{StopsAtLife, TakesNext}
 use Rattle.node_service.specs.Turns.{AreFrames, ComeOfPeers}
@@ -71,8 +75,8 @@ module _ {D : Type 0} {g : Ghosts D} where
 
   -- where nothing is done
   unfoldable pub still : (old new : Served (Node D)) → new.look ≡ old.look → new.log_failed ≡ old.log_failed → new.sent ≡ old.sent → KeepBots g old.look new.look old.bots new.bots → new.heard ≡ old.heard → logged_in new.passed ≡ logged_in old.passed → seats_in new.passed ≡ seats_in old.passed
-      → Loosens old.sittings new.sittings → Hears old.own new.own old.lines new.lines → GivesOnly (IsReply new.look) old.askers new.askers → (Carries old → Carries new) → new.started ≡ old.started → new.terms ≡ old.terms → new.guests ≡ old.guests → GoesOn g [] old new
-  still old new look log_failed sent bots heard log seats loosened hears asked carried started terms guests = record {
+      → Loosens old.sittings new.sittings → Hears old.own new.own old.lines new.lines → GivesOnly (IsReply new.look) old.askers new.askers → (Carries old → Carries new) → new.started ≡ old.started → new.terms ≡ old.terms → new.guests ≡ old.guests → PutsOffApart old.apart new.apart old.bots new.bots → SatBefore old.bots new.bots → GoesOn g [] old new
+  still old new look log_failed sent bots heard log seats loosened hears asked carried started terms guests waits sat = record {
     config = ap (λ (l : Look (Node D)). l.config) look;
     number = ap (λ (l : Look (Node D)). l.number) look;
     begun = ap (λ (l : Look (Node D)). begun_of g l.node) look;
@@ -91,8 +95,10 @@ module _ {D : Type 0} {g : Ghosts D} where
     let_in = tt;
     came = tt;
     given = λ but. fits_kept old new look seats loosened (but_nothing old but);
+    somebody = λ but. still_somebody old.bots new.bots old.sittings new.sittings sat loosened (but_nobody [] old.bots old.sittings refl but);
     hears = hears;
     asked = asked;
+    waits = waits;
     carried = carried;
     once = λ was. once_kept old new look started was;
   }
@@ -124,8 +130,10 @@ module _ {D : Type 0} {g : Ghosts D} where
     let_in = let_in_both three.guests first.gained then_on.gained (let_in_on two.guests three.guests first.gained then_on.hosts first.let_in) then_on.let_in;
     were = heard_both three.own three.lines first.gained then_on.gained (heard_further two.own three.own two.lines three.lines first.gained then_on.hears first.were) then_on.were;
     given = λ but. then_on.given (all_but_nothing two (first.given but));
+    somebody = λ but. then_on.somebody (all_but_none [] two.bots two.sittings (first.somebody but));
     hears = hears_on one.own two.own three.own one.lines two.lines three.lines first.hears then_on.hears;
     asked = gives_on two.look three.look one.askers two.askers three.askers then_on.number then_on.config first.asked then_on.asked;
+    waits = waits_on one.apart two.apart three.apart one.bots two.bots three.bots first.waits then_on.waits;
     carried = λ is. then_on.carried (first.carried is);
     once = λ was. then_on.once (first.once was);
   }
@@ -153,8 +161,10 @@ module _ {D : Type 0} {g : Ghosts D} where
     were = heard_both three.own three.lines taken then_on.gained (heard_further two.own three.own two.lines three.lines taken then_on.hears takes.were) then_on.were;
     came = then_on.came;
     given = λ but. then_on.given (taken_fits taken one two takes.look takes.seats takes.sittings (but_nothing one but));
+    somebody = λ but. then_on.somebody (takes.somebody (but_nobody [] one.bots one.sittings refl but));
     hears = hears_on one.own two.own three.own one.lines two.lines three.lines takes.hears then_on.hears;
     asked = none_gives_on three.look one.askers two.askers three.askers takes.asked then_on.asked;
+    waits = waits_on one.apart two.apart three.apart one.bots two.bots three.bots takes.waits then_on.waits;
     carried = λ is. then_on.carried (takes.carried is);
     once = λ was. then_on.once (once_kept one two takes.look takes.started was);
   }
@@ -179,15 +189,17 @@ module _ {D : Type 0} {g : Ghosts D} where
     let_in = goes.let_in;
     came = left_out (came_by goes.since) taken goes.gained goes.came;
     given = λ but. goes.given (but_none_of_seats taken old none but);
+    somebody = λ but. goes.somebody (all_but_none [] old.bots old.sittings (but_nobody (seats_of taken) old.bots old.sittings none but));
     hears = goes.hears;
     asked = goes.asked;
+    waits = goes.waits;
     carried = goes.carried;
     once = goes.once;
   }
 
   -- nothing happens
   unfoldable pub nothing_done : (here : Served (Node D)) → GoesOn g [] here here
-  nothing_done here = still here here refl refl refl (bots_still here.look here.bots) refl refl refl (λ seat. inl refl) (hears_none here.own here.own here.lines here.lines refl refl) (λ place within. inl refl) (λ is. is) refl refl refl
+  nothing_done here = still here here refl refl refl (bots_still here.look here.bots) refl refl refl (λ seat. inl refl) (hears_none here.own here.own here.lines here.lines refl refl) (λ place within. inl refl) (λ is. is) refl refl refl (waits_same here.apart here.bots) (sat_still here.bots)
 
   -- what was taken and isn't given
   pub not_given : {taken : List Incoming} {one two : Served (Node D)} → seats_of taken ≡ [] → Takes g taken one two → GoesOn g [] one two

@@ -22,7 +22,8 @@ use Rattle.node_service.specs.Arriving.{Incoming, seats_of, peers_of, taken_for}
 use Rattle.node_service.specs.Served.{Served}
 use Rattle.node_service.specs.Desks.{served_by, IsUntouched, IsKeptWith, IsKept}
 use Rattle.node_service.specs.Going.{GoesOn, Does}
-use Rattle.node_service.specs.Sittings.{sitting_at, Loosens, IsGivenBy, Refuses}
+use Rattle.node_service.specs.Sittings.{sitting_at, seat_in, Loosens, IsGivenBy, Refuses}
+use Rattle.node_service.specs.Seated.{IsFree, SatBefore}
 use Rattle.node_service.specs.Fitting.{FitsFor, FitsBut}
 use Rattle.node_service.specs.declared.sitting.Sitting.{Sitting}
 use Rattle.node_service.specs.declared.sitting.Sitting.TheVariants.{Here, LetGo}
@@ -38,6 +39,9 @@ use Rattle.node_status.specs.declared.askers.Askers.{Askers}
 use Rattle.node_status.specs.Asking.{AreAnswered, KeepsOthers as OthersKept}
 use Rattle.node_service.specs.declared.company.Company.{Company}
 use Rattle.node_service.specs.Asking.{line_given, GivesOnly, IsNoLine, IsReply, IsStatusLine}
+use Rattle.node_service.specs.Apartness.{MovesOn, PutsOff, PutsOffApart}
+use Rattle.node_service.specs.declared.apart.Apart.{Apart}
+use Rattle.node_service.proofs.Apartness.{waits_same, waits_still, waits_by, waits_on}
 use Rattle.node_service.specs.Crossing.{IsCarried, Carries}
 use Rattle.node_service.specs.Handing.{HandsOn}
 use Rattle.node_service.proofs.Bots.{LooksOn, as_before, keep_on, bots_still}
@@ -46,6 +50,7 @@ use Rattle.node_service.proofs.Crossing.{carried_grown, carried_seated, carried_
 use Rattle.node_service.specs.Company.{HearsOn}
 use Rattle.node_service.proofs.Hearing.{hears_none, hears_on, heard_on}
 use Rattle.node_service.proofs.Fitting.{fits_moved}
+use Rattle.node_service.proofs.Seated.{sat_still, sat_on, still_but}
 use Rattle.node_service.proofs.Going.{once_kept, looks_on, still, does_on, let_go_so}
 use Rattle.node_service.proofs.Showing.{nothing_shown}
 use Rattle.node_service.proofs.Welcoming.{hosts_none, hosts_on}
@@ -86,6 +91,7 @@ module _ {D W : Type 0} {disk : Ghosts D} (wire : OfWire W) where
     log_failed = then_on.log_failed ∙ first.log_failed;
     sent = then_on.sent ∙ first.sent;
     bots = keep_on (members_on one two first.member) (members_on two three then_on.member) first.bots then_on.bots;
+    sat = sat_on one.seats.seats.items two.seats.seats.items three.seats.seats.items first.sat then_on.sat;
     guests = then_on.guests ∙ first.guests;
     heard = then_on.heard ∙ first.heard;
     log = then_on.log ∙ first.log;
@@ -94,6 +100,7 @@ module _ {D W : Type 0} {disk : Ghosts D} (wire : OfWire W) where
     hears = inr (heard_on one.company.peers two.company.peers three.company.peers (heard_either one.company.peers two.company.peers first.hears)
         (heard_either two.company.peers three.company.peers then_on.hears));
     asked = gives_alike such one.askers.askers.items two.askers.askers.items three.askers.askers.items first.asked then_on.asked;
+    waits = waits_on one.apart two.apart three.apart one.seats.seats.items two.seats.seats.items three.seats.seats.items first.waits then_on.waits;
     carried = inr (λ is. carries then_on (carries first is));
   }
 
@@ -103,6 +110,7 @@ module _ {D W : Type 0} {disk : Ghosts D} (wire : OfWire W) where
     log_failed = ap (λ (d : Desk D W disk). d.log_failed) is;
     sent = ap (λ (d : Desk D W disk). frames_of d.company.peers) is;
     bots = subst (λ (d : Desk D W disk). KeepBots disk (look_of old.member.station) (look_of d.member.station) old.seats.seats.items d.seats.seats.items) (sym is) (bots_still (look_of old.member.station) old.seats.seats.items);
+    sat = subst (λ (d : Desk D W disk). SatBefore old.seats.seats.items d.seats.seats.items) (sym is) (sat_still old.seats.seats.items);
     guests = ap (λ (d : Desk D W disk). d.seats.guests) is;
     heard = ap (λ (d : Desk D W disk). heard_of d.company.peers) is;
     log = ap (λ (d : Desk D W disk). logged_in (wire.passed d.wire)) is;
@@ -110,6 +118,7 @@ module _ {D W : Type 0} {disk : Ghosts D} (wire : OfWire W) where
     sittings = λ seat. inl (ap (λ (d : Desk D W disk). sitting_at d.sittings seat) is);
     hears = inl (ap (λ (d : Desk D W disk). d.company.peers) is);
     asked = λ place within. inl (ap (λ (d : Desk D W disk). line_given d.askers.askers.items place) is);
+    waits = subst (λ (d : Desk D W disk). PutsOffApart old.apart d.apart old.seats.seats.items d.seats.seats.items) (sym is) (waits_same old.apart old.seats.seats.items);
     carried = inl (ap (λ (d : Desk D W disk). wire.passed d.wire) is, (ap (λ (d : Desk D W disk). passed_of d.company.peers) is, (ap (λ (d : Desk D W disk). d.seats) is, ap (λ (d : Desk D W disk). d.askers) is)));
   }
 
@@ -121,14 +130,21 @@ module _ {D W : Type 0} {disk : Ghosts D} (wire : OfWire W) where
       subst (λ (m : LocalNode D disk). KeepBots disk look (look_of m.station) old.seats.seats.items new.seats.seats.items) (sym member)
       (subst (λ (s : Seats). KeepBots disk look look old.seats.seats.items s.seats.items) (sym seats) (bots_still look old.seats.seats.items))
 
+  waits_kept : (old new : Desk D W disk) → new.apart ≡ old.apart → new.seats ≡ old.seats → PutsOffApart old.apart new.apart old.seats.seats.items new.seats.seats.items
+  waits_kept old new apart seats = subst (λ (s : Seats). PutsOffApart old.apart new.apart old.seats.seats.items s.seats.items) (sym seats) (waits_still old.apart new.apart old.seats.seats.items apart)
+
+  sat_kept : (old new : Desk D W disk) → new.seats ≡ old.seats → SatBefore old.seats.seats.items new.seats.seats.items
+  sat_kept old new seats = subst (λ (s : Seats). SatBefore old.seats.seats.items s.seats.items) (sym seats) (sat_still old.seats.seats.items)
+
   -- of the peers nothing passed
-  pub kept_still : {old new : Desk D W disk} → new.member ≡ old.member → new.log_failed ≡ old.log_failed → new.sittings ≡ old.sittings → new.seats ≡ old.seats → new.askers ≡ old.askers
+  pub kept_still : {old new : Desk D W disk} → new.apart ≡ old.apart → new.member ≡ old.member → new.log_failed ≡ old.log_failed → new.sittings ≡ old.sittings → new.seats ≡ old.seats → new.askers ≡ old.askers
       → wire.passed new.wire ≡ wire.passed old.wire → Stays old.company.peers new.company.peers → HearsOn old.company.peers new.company.peers → IsKept wire old new
-  kept_still {old} {new} member log_failed sittings seats askers passed stays hears = record {
+  kept_still {old} {new} apart member log_failed sittings seats askers passed stays hears = record {
     member = member;
     log_failed = log_failed;
     sent = ap (λ (p : Passages). p.items) stays.1.1.0;
     bots = bots_kept old new member seats;
+    sat = sat_kept old new seats;
     guests = ap (λ (s : Seats). s.guests) seats;
     heard = ap (λ (p : Passages). p.items) stays.1.1.1;
     log = ap logged_in passed;
@@ -136,19 +152,21 @@ module _ {D W : Type 0} {disk : Ghosts D} (wire : OfWire W) where
     sittings = λ seat. inl (ap (λ (s : Sittings). sitting_at s seat) sittings);
     hears = inr hears;
     asked = λ place within. inl (ap (λ (a : Askers). line_given a.askers.items place) askers);
+    waits = waits_kept old new apart seats;
     carried = inl (passed, (ap (λ (p : Passages). p.items) stays.1.0, (seats, askers)));
   }
 
   -- something did
-  pub kept_grown : {old new : Desk D W disk} → new.member ≡ old.member → new.log_failed ≡ old.log_failed → new.sittings ≡ old.sittings → new.seats ≡ old.seats → new.askers ≡ old.askers
+  pub kept_grown : {old new : Desk D W disk} → new.apart ≡ old.apart → new.member ≡ old.member → new.log_failed ≡ old.log_failed → new.sittings ≡ old.sittings → new.seats ≡ old.seats → new.askers ≡ old.askers
       → Grew old.company.peers new.company.peers (wire.passed old.wire) (wire.passed new.wire) → HearsOn old.company.peers new.company.peers
       → seats_in (wire.passed new.wire) ≡ seats_in (wire.passed old.wire) → logged_in (wire.passed new.wire) ≡ logged_in (wire.passed old.wire)
       → ((seat : ℕ) → wrote_over (wire.passed new.wire) (SeatOf seat) ≡ wrote_over (wire.passed old.wire) (SeatOf seat)) → IsKept wire old new
-  kept_grown {old} {new} member log_failed sittings seats askers grew hears of_seats log writing = record {
+  kept_grown {old} {new} apart member log_failed sittings seats askers grew hears of_seats log writing = record {
     member = member;
     log_failed = log_failed;
     sent = ap (λ (p : Passages). p.items) grew.1.1.0;
     bots = bots_kept old new member seats;
+    sat = sat_kept old new seats;
     guests = ap (λ (s : Seats). s.guests) seats;
     heard = ap (λ (p : Passages). p.items) grew.1.1.1;
     log = log;
@@ -156,6 +174,7 @@ module _ {D W : Type 0} {disk : Ghosts D} (wire : OfWire W) where
     sittings = λ seat. inl (ap (λ (s : Sittings). sitting_at s seat) sittings);
     hears = inr hears;
     asked = λ place within. inl (ap (λ (a : Askers). line_given a.askers.items place) askers);
+    waits = waits_kept old new apart seats;
     carried = inr (λ is.
         subst (λ (s : Seats). IsCarried (wire.passed new.wire) (passed_of new.company.peers) s.seats.items new.askers.askers.items) (sym seats)
         (subst (λ (a : Askers). IsCarried (wire.passed new.wire) (passed_of new.company.peers) old.seats.seats.items a.askers.items) (sym askers)
@@ -163,15 +182,16 @@ module _ {D W : Type 0} {disk : Ghosts D} (wire : OfWire W) where
   }
 
   -- something was written to seats, or one was let go of
-  pub kept_seated : {old new : Desk D W disk} → new.member ≡ old.member → new.log_failed ≡ old.log_failed → new.company ≡ old.company → new.askers ≡ old.askers → Loosens old.sittings new.sittings
+  pub kept_seated : {old new : Desk D W disk} → PutsOffApart old.apart new.apart old.seats.seats.items new.seats.seats.items → new.member ≡ old.member → new.log_failed ≡ old.log_failed → new.company ≡ old.company → new.askers ≡ old.askers → Loosens old.sittings new.sittings
       → KeepBots disk (look_of old.member.station) (look_of old.member.station) old.seats.seats.items new.seats.seats.items → new.seats.guests ≡ old.seats.guests → logged_in (wire.passed new.wire) ≡ logged_in (wire.passed old.wire) → seats_in (wire.passed new.wire) ≡ seats_in (wire.passed old.wire)
       → KeepsOthers (wire.passed old.wire) (wire.passed new.wire) → TellsNoGuest (wire.passed old.wire) (wire.passed new.wire)
-      → (AreSaid (wire.passed old.wire) old.seats.seats.items → AreSaid (wire.passed new.wire) new.seats.seats.items) → IsKept wire old new
-  kept_seated {old} {new} member log_failed company askers loosened bots guests log seats others unsaid said = record {
+      → (AreSaid (wire.passed old.wire) old.seats.seats.items → AreSaid (wire.passed new.wire) new.seats.seats.items) → SatBefore old.seats.seats.items new.seats.seats.items → IsKept wire old new
+  kept_seated {old} {new} waits member log_failed company askers loosened bots guests log seats others unsaid said sat = record {
     member = member;
     log_failed = log_failed;
     sent = ap (λ (c : Company). frames_of c.peers) company;
     bots = subst (λ (m : LocalNode D disk). KeepBots disk (look_of old.member.station) (look_of m.station) old.seats.seats.items new.seats.seats.items) (sym member) bots;
+    sat = sat;
     guests = guests;
     heard = ap (λ (c : Company). heard_of c.peers) company;
     log = log;
@@ -179,6 +199,7 @@ module _ {D W : Type 0} {disk : Ghosts D} (wire : OfWire W) where
     sittings = loosened;
     hears = inl (ap (λ (c : Company). c.peers) company);
     asked = λ place within. inl (ap (λ (a : Askers). line_given a.askers.items place) askers);
+    waits = waits;
     carried = inr (λ is.
         subst (λ (c : Company). IsCarried (wire.passed new.wire) (passed_of c.peers) new.seats.seats.items new.askers.askers.items) (sym company)
         (subst (λ (a : Askers). IsCarried (wire.passed new.wire) (passed_of old.company.peers) new.seats.seats.items a.askers.items) (sym askers)
@@ -186,25 +207,26 @@ module _ {D W : Type 0} {disk : Ghosts D} (wire : OfWire W) where
   }
 
   -- bots were told something
-  pub kept_told : {old new : Desk D W disk} → new.member ≡ old.member → new.log_failed ≡ old.log_failed → new.company ≡ old.company → new.askers ≡ old.askers → new.sittings ≡ old.sittings → new.wire ≡ old.wire
+  pub kept_told : {old new : Desk D W disk} → PutsOffApart old.apart new.apart old.seats.seats.items new.seats.seats.items → new.member ≡ old.member → new.log_failed ≡ old.log_failed → new.company ≡ old.company → new.askers ≡ old.askers → new.sittings ≡ old.sittings → new.wire ≡ old.wire
       → KeepBots disk (look_of old.member.station) (look_of old.member.station) old.seats.seats.items new.seats.seats.items → new.seats.guests ≡ old.seats.guests
-      → ((passed : List Passage) → AreSaid passed old.seats.seats.items → AreSaid passed new.seats.seats.items) → IsKept wire old new
-  kept_told {old} {new} member log_failed company askers sittings same bots guests said =
+      → ((passed : List Passage) → AreSaid passed old.seats.seats.items → AreSaid passed new.seats.seats.items) → SatBefore old.seats.seats.items new.seats.seats.items → IsKept wire old new
+  kept_told {old} {new} waits member log_failed company askers sittings same bots guests said sat =
       let passed : wire.passed new.wire ≡ wire.passed old.wire = ap wire.passed same in
-      kept_seated member log_failed company askers (λ seat. inl (ap (λ (s : Sittings). sitting_at s seat) sittings)) bots guests (ap logged_in passed) (ap seats_in passed)
+      kept_seated waits member log_failed company askers (λ seat. inl (ap (λ (s : Sittings). sitting_at s seat) sittings)) bots guests (ap logged_in passed) (ap seats_in passed)
       (record { wrote = λ line off. ap (λ (ps : List Passage). wrote_over ps line) passed; came = λ line off. ap (λ (ps : List Passage). came_over ps line) passed })
       (none_unsaid (wire.passed old.wire) (wire.passed new.wire) passed)
-      (λ are. subst (λ (ps : List Passage). AreSaid ps new.seats.seats.items) (sym passed) (said (wire.passed old.wire) are))
+      (λ are. subst (λ (ps : List Passage). AreSaid ps new.seats.seats.items) (sym passed) (said (wire.passed old.wire) are)) sat
 
   -- something passed over lines of those who ask, or they were given such lines
-  pub kept_asked : {such : List ℕ → Type 0} {old new : Desk D W disk} → new.member ≡ old.member → new.log_failed ≡ old.log_failed → new.company ≡ old.company → new.seats ≡ old.seats → new.sittings ≡ old.sittings
+  pub kept_asked : {such : List ℕ → Type 0} {old new : Desk D W disk} → new.apart ≡ old.apart → new.member ≡ old.member → new.log_failed ≡ old.log_failed → new.company ≡ old.company → new.seats ≡ old.seats → new.sittings ≡ old.sittings
       → OthersKept (wire.passed old.wire) (wire.passed new.wire) → (AreAnswered (wire.passed old.wire) old.askers.askers.items → AreAnswered (wire.passed new.wire) new.askers.askers.items)
       → GivesOnly such old.askers.askers.items new.askers.askers.items → IsKeptWith wire such old new
-  kept_asked {such} {old} {new} member log_failed company seats sittings others answered asked = record {
+  kept_asked {such} {old} {new} apart member log_failed company seats sittings others answered asked = record {
     member = member;
     log_failed = log_failed;
     sent = ap (λ (c : Company). frames_of c.peers) company;
     bots = bots_kept old new member seats;
+    sat = sat_kept old new seats;
     guests = ap (λ (s : Seats). s.guests) seats;
     heard = ap (λ (c : Company). heard_of c.peers) company;
     log = others.log;
@@ -212,6 +234,7 @@ module _ {D W : Type 0} {disk : Ghosts D} (wire : OfWire W) where
     sittings = λ seat. inl (ap (λ (s : Sittings). sitting_at s seat) sittings);
     hears = inl (ap (λ (c : Company). c.peers) company);
     asked = asked;
+    waits = waits_kept old new apart seats;
     carried = inr (λ is.
         subst (λ (c : Company). IsCarried (wire.passed new.wire) (passed_of c.peers) new.seats.seats.items new.askers.askers.items) (sym company)
         (subst (λ (s : Seats). IsCarried (wire.passed new.wire) (passed_of old.company.peers) s.seats.items new.askers.askers.items) (sym seats)
@@ -227,7 +250,7 @@ module _ {D W : Type 0} {disk : Ghosts D} (wire : OfWire W) where
     still (served_by wire old) (served_by wire new) (ap (λ (m : LocalNode D disk). look_of m.station) is.member) is.log_failed is.sent is.bots is.heard is.log is.seats is.sittings
         (heard_either old.company.peers new.company.peers is.hears)
         (gives_weaker such (IsReply (look_of new.member.station)) old.askers.askers.items new.askers.askers.items replies is.asked) (carries is)
-        (ap (λ (m : LocalNode D disk). m.is_started) is.member) (ap (λ (m : LocalNode D disk). m.terms) is.member) is.guests,
+        (ap (λ (m : LocalNode D disk). m.is_started) is.member) (ap (λ (m : LocalNode D disk). m.terms) is.member) is.guests is.waits is.sat,
     refl,
   )
 
@@ -274,9 +297,11 @@ module _ {D W : Type 0} {disk : Ghosts D} (wire : OfWire W) where
     let_in = goes.let_in;
     came = goes.came;
     given = λ but. goes.given (taken_kept taken one two is but);
+    somebody = λ but. goes.somebody (still_but (seats_of taken) one.seats.seats.items two.seats.seats.items one.sittings two.sittings is.sat is.sittings but);
     hears = hears_on (own_of one.company.peers) (own_of two.company.peers) three.own (passed_of one.company.peers) (passed_of two.company.peers) three.lines
         (heard_either one.company.peers two.company.peers is.hears) goes.hears;
     asked = none_gives_on three.look one.askers.askers.items two.askers.askers.items three.askers is.asked goes.asked;
+    waits = waits_on one.apart two.apart three.apart one.seats.seats.items two.seats.seats.items three.bots is.waits goes.waits;
     carried = λ held. goes.carried (carries is held);
     once = λ was. goes.once (once_kept (served_by wire one) (served_by wire two) (ap (λ (m : LocalNode D disk). look_of m.station) is.member) (ap (λ (m : LocalNode D disk). m.is_started) is.member) was);
   }
@@ -303,21 +328,23 @@ module _ {D W : Type 0} {disk : Ghosts D} (wire : OfWire W) where
     bots =
         subst (λ (m : LocalNode D disk). KeepBots disk (look_of m.station) (look_of three.member.station) one.bots three.seats.seats.items) (sym is.member)
         (keep_on (as_before (look_of two.member.station) (look_of two.member.station) refl) (members_on two three is.member) hands.bots is.bots);
+    sat = sat_on one.bots two.seats.seats.items three.seats.seats.items hands.sat is.sat;
     seats = is.seats ∙ hands.seats;
     heard = is.heard ∙ hands.heard;
     guests = is.guests ∙ hands.guests;
     hears = hears_on one.own (own_of two.company.peers) (own_of three.company.peers) one.lines (passed_of two.company.peers) (passed_of three.company.peers) hands.hears (heard_either two.company.peers three.company.peers is.hears);
     asked = gives_alike IsNoLine one.askers two.askers.askers.items three.askers.askers.items hands.asked is.asked;
+    waits = waits_on one.apart two.apart three.apart one.bots two.seats.seats.items three.seats.seats.items hands.waits is.waits;
     carried = λ held. carries is (hands.carried held);
   }
 
   -- how bots are is of no account for that
   pub settled : {told : Told} {one : Served (Node D)} (two : Desk D W disk) (sittings : Sittings) → HandsOn disk told one (served_by wire two) → HandsOn disk told one (served_by wire (record two { sittings = sittings }))
-  settled two sittings hands = record { log = hands.log; sent = hands.sent; bots = hands.bots; seats = hands.seats; heard = hands.heard; guests = hands.guests; hears = hands.hears; asked = hands.asked; carried = hands.carried }
+  settled two sittings hands = record { log = hands.log; sent = hands.sent; bots = hands.bots; sat = hands.sat; seats = hands.seats; heard = hands.heard; guests = hands.guests; hears = hands.hears; asked = hands.asked; waits = hands.waits; carried = hands.carried }
 
   -- nor is the node that was called
   pub of_any : {told : Told} {three : Served (Node D)} (one : Desk D W disk) (member : LocalNode D disk) → HandsOn disk told (served_by wire (record one { member = member })) three → HandsOn disk told (served_by wire one) three
-  of_any one member hands = record { log = hands.log; sent = hands.sent; bots = hands.bots; seats = hands.seats; heard = hands.heard; guests = hands.guests; hears = hands.hears; asked = hands.asked; carried = hands.carried }
+  of_any one member hands = record { log = hands.log; sent = hands.sent; bots = hands.bots; sat = hands.sat; seats = hands.seats; heard = hands.heard; guests = hands.guests; hears = hands.hears; asked = hands.asked; waits = hands.waits; carried = hands.carried }
 
   -- nothing was made
   hands_nothing : {old new : Desk D W disk} → IsKept wire old new → HandsOn disk nothing_told (served_by wire old) (served_by wire new)
@@ -326,31 +353,33 @@ module _ {D W : Type 0} {disk : Ghosts D} (wire : OfWire W) where
         log = nothing_shown old.log_failed (logged_in (wire.passed old.wire));
         sent = sym (append-nil (frames_of old.company.peers));
         bots = bots_still (look_of old.member.station) old.seats.seats.items;
+        sat = sat_still old.seats.seats.items;
         seats = refl;
         heard = refl;
         guests = refl;
         hears = hears_none (own_of old.company.peers) (own_of old.company.peers) (passed_of old.company.peers) (passed_of old.company.peers) refl refl;
         asked = λ place within. inl refl;
+        waits = waits_same old.apart old.seats.seats.items;
         carried = λ held. held;
       }) is
 
   -- and what an event would be made of isn't given: the bot that it is of is let go of
-  pub refused : (e : Event) {old new : Desk D W disk} → IsKept wire old new → Refuses e old.sittings new.sittings
+  pub refused : (e : Event) {old new : Desk D W disk} → IsKept wire old new → Refuses e old.sittings new.sittings → IsFree (seat_in e) new.seats.seats.items
       → Does disk (taken_for e) (served_by wire old) (served_by wire new)
-  refused e {old} {new} is refuses =
+  refused e {old} {new} is refuses free =
       let look : look_of new.member.station ≡ look_of old.member.station = ap (λ (m : LocalNode D disk). look_of m.station) is.member in
       unstepped e nothing_told (served_by wire old) (served_by wire new) (ap (λ (l : Look (Node D)). l.config) look) (ap (λ (l : Look (Node D)). l.number) look)
-      (ap (λ (l : Look (Node D)). begun_of disk l.node) look) (ap (λ (l : Look (Node D)). l.deeds) look) refl (hands_nothing is) refuses
+      (ap (λ (l : Look (Node D)). begun_of disk l.node) look) (ap (λ (l : Look (Node D)). l.deeds) look) refl (hands_nothing is) refuses free
       (λ was. ap (λ (m : LocalNode D disk). m.is_started) is.member ∙ was) (ap (λ (m : LocalNode D disk). m.terms) is.member)
 
   -- the node was called, but not given what the event is made of, and then its bot was let go of
   pub unstepped_then : (e : Event) (told : Told) (result : Option (Result (Unit {0}) NodeFault)) (old : Served (Node D)) (mid new : Desk D W disk) → IsGivenBy false result
       → IfSome result (λ answer. Acts disk e told answer old.look (look_of mid.member.station)) → (IsNone result → look_of mid.member.station ≡ old.look) → (IsNone result → told ≡ nothing_told)
-      → HandsOn disk told old (served_by wire mid) → mid.sittings ≡ old.sittings → IsKept wire mid new → Refuses e mid.sittings new.sittings → (old.started ≡ true → mid.member.is_started ≡ true)
+      → HandsOn disk told old (served_by wire mid) → mid.sittings ≡ old.sittings → IsKept wire mid new → Refuses e mid.sittings new.sittings → IsFree (seat_in e) new.seats.seats.items → (old.started ≡ true → mid.member.is_started ≡ true)
       → mid.member.terms ≡ old.terms → Does disk (taken_for e) old (served_by wire new)
-  unstepped_then e told result old mid new given acts same unmade hands sittings is refuses started terms =
+  unstepped_then e told result old mid new given acts same unmade hands sittings is refuses free started terms =
       let look : look_of new.member.station ≡ look_of mid.member.station = ap (λ (m : LocalNode D disk). look_of m.station) is.member in
       unstepped_if_not e told result old (served_by wire new) given
       (subst (λ (l : Look (Node D)). IfSome result (λ answer. Acts disk e told answer old.look l)) (sym look) acts) (λ none. look ∙ same none) unmade (hands_kept hands is)
-      (subst (λ (s : Sittings). Refuses e s new.sittings) sittings refuses) (λ was. ap (λ (m : LocalNode D disk). m.is_started) is.member ∙ started was)
+      (subst (λ (s : Sittings). Refuses e s new.sittings) sittings refuses) free (λ was. ap (λ (m : LocalNode D disk). m.is_started) is.member ∙ started was)
       (ap (λ (m : LocalNode D disk). m.terms) is.member ∙ terms)

@@ -1,9 +1,11 @@
 pub mod Bots
 pub mod Owing
+pub mod Apartness
 pub mod Members
 pub mod Parts
 pub mod Showing
 pub mod Fitting
+pub mod Seated
 pub mod Asking
 pub mod Crossing
 pub mod Welcoming

@@ -50,6 +50,14 @@ not_behind : (one two : Match) (seat : ℕ) (next : Cursor) (telling : Option Te
 not_behind one two seat next None parting e k f found before = absurd found
 not_behind one two seat next (Some telling) parting e k f found before = λ behind. absurd (before (behind_alike one two seat telling.next next e k f found behind))
 
+not_both : (parting : Option Parting) → IsSome parting → parting ≡ None → ⊥
+not_both None some none = absurd cc
+not_both (Some parting) some none = absurd cc
+
+over_parted : (table : Match) (seat : ℕ) (telling : Option Telling) (parting : Option Parting) → IsSome parting → IfSome telling (λ (t : Telling). IsBehindAll table seat t.next → IsSome parting)
+over_parted table seat None parting some = tt
+over_parted table seat (Some telling) parting some = λ behind. some
+
 -- ---- by the table of a node
 
 module _ {D : Type 0} {g : Ghosts D} where
@@ -62,6 +70,14 @@ module _ {D : Type 0} {g : Ghosts D} where
   pub served_gone : (look : Look (Node D)) (seat : ℕ) (bot : Bot) (waits : List ℕ) → bot.sits ≡ false → IsServedAt g look seat bot waits
   served_gone look seat bot waits gone_is s table seen of within ready =
       (λ sits over none silent. absurd (cc (gone_is, sits)), λ sits none. absurd (cc (gone_is, sits)), λ sits asked. absurd (cc (gone_is, sits)))
+
+  -- one that sits there was told why it is told no lines
+  pub served_parted : (look : Look (Node D)) (seat : ℕ) (bot : Bot) (waits : List ℕ) → (bot.sits ≡ true → IsSome bot.parting) → IsServedAt g look seat bot waits
+  served_parted look seat bot waits parted s table seen of within ready = (
+    λ sits over none silent. absurd (not_both bot.parting (parted sits) none),
+    λ sits none. absurd (not_both bot.parting (parted sits) none),
+    λ sits asked. over_parted table seat bot.telling bot.parting (parted sits),
+  )
 
   -- ---- one seat after the other
 

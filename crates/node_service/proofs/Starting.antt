@@ -33,7 +33,7 @@ no_fault is = cc
 
 -- where nothing ends the process its start wasn't refused
 pub not_refused : (node : ℕ) (answer : Option (Result (Unit {0}) NodeFault)) (fault : Option NodeFault) → (EndsBy (event.Start node) answer → IsSome fault) → fault ≡ None → IsRefusal answer → ⊥
-not_refused node answer fault ends none refused = no_fault (subst IsSome none (ends (refused, inl tt)))
+not_refused node answer fault ends none refused = no_fault (subst IsSome none (ends (refused, inl refl)))
 
 module _ {D : Type 0} where
   -- nothing was done

@@ -23,7 +23,8 @@ use Rattle.node_service.specs.Arriving.{incoming_in, seats_of, taken_for}
 use Rattle.node_service.specs.Calling.{MayBeGiven}
 use Rattle.node_service.specs.Logging.{StartedOnce}
 use Rattle.node_service.specs.Served.{Served}
-use Rattle.node_service.specs.Sittings.{Admits, IsGivenBy, Settles, Refuses}
+use Rattle.node_service.specs.Sittings.{seat_in, Admits, IsGivenBy, Settles, Refuses}
+use Rattle.node_service.specs.Seated.{seat_left, IsFree}
 use Rattle.node_service.specs.Fitting.{FitsFor}
 use Rattle.node_service.specs.Handing.{HandsOn}
 use Rattle.node_service.specs.Going.{Does}
@@ -32,6 +33,7 @@ use Rattle.node_service.specs.Bots.{KeepBots}
 use Rattle.node_service.proofs.Bots.{LooksOn, as_before, keep_on, bots_then}
 use Rattle.node_service.proofs.Welcoming.{hosts_none}
 use Rattle.node_service.proofs.Fitting.{fits_given, fits_refused}
+use Rattle.node_service.proofs.Seated.{given_somebody, refused_somebody}
 
 -- what an event brings to a node is what it was made of
 pub brought_is_taken : (up : Bool) (front : ℕ) (e : Event) → IsPartOf (incoming_in (arrived_by_event up front e)) (taken_for e ++ [])
@@ -78,8 +80,8 @@ module _ {D : Type 0} {g : Ghosts D} where
   -- an event was given to the node, and what it made of it was handed on
   stepped : (e : Event) (told : Told) (answer : Result (Unit {0}) NodeFault) (old new : Served (Node D)) → (answer ≡ Err OutOfMemory → ⊥) → Acts g e told answer old.look new.look
       → HandsOn g told old new
-      → Admits (runs old.look.node) e old.sittings → Settles e old.sittings new.sittings → MayBeGiven old.started e → (old.started ≡ true → new.started ≡ true) → new.terms ≡ old.terms → Does g (taken_for e) old new
-  stepped e told answer old new was_given acts hands admitted settled may started terms =
+      → Admits (runs old.look.node) e old.sittings → Settles e old.sittings new.sittings → MayBeGiven old.started e → (old.started ≡ true → new.started ≡ true) → new.terms ≡ old.terms → IsFree (seat_left e) new.bots → Does g (taken_for e) old new
+  stepped e told answer old new was_given acts hands admitted settled may started terms left =
       elim acts.gains as (λ _. Does g (taken_for e) old new) [
         | nothing refused same ↦ absurd (was_given refused)
         | call taken is ↦ (
@@ -110,8 +112,10 @@ module _ {D : Type 0} {g : Ghosts D} where
                 subst (λ (m : List Passage). FitsFor new.look.deeds new.sittings m) (sym (hands.seats ∙ but.1.0))
                 (subst (λ (m : List Deed). FitsFor m new.sittings (but.0 ++ seats_of (taken_for e))) (sym is)
                 (fits_given (runs old.look.node) (front_in old.look.node) e told answer old.look.deeds old.sittings new.sittings but.0 admitted settled but.1.1));
+            somebody = λ but. given_somebody e old.bots new.bots old.sittings new.sittings hands.sat left settled but;
             hears = hands.hears;
             asked = none_gives new.look old.askers new.askers hands.asked;
+            waits = hands.waits;
             carried = hands.carried;
             once = λ was. (
               started was.0,
@@ -128,8 +132,8 @@ module _ {D : Type 0} {g : Ghosts D} where
   pub unstepped : (e : Event) (told : Told) (old new : Served (Node D)) → new.look.config ≡ old.look.config → new.look.number ≡ old.look.number
       → begun_of g new.look.node ≡ begun_of g old.look.node → new.look.deeds ≡ old.look.deeds → told ≡ nothing_told
       → HandsOn g told old new
-      → Refuses e old.sittings new.sittings → (old.started ≡ true → new.started ≡ true) → new.terms ≡ old.terms → Does g (taken_for e) old new
-  unstepped e told old new config number begun deeds unmade hands refused started terms = (
+      → Refuses e old.sittings new.sittings → IsFree (seat_in e) new.bots → (old.started ≡ true → new.started ≡ true) → new.terms ≡ old.terms → Does g (taken_for e) old new
+  unstepped e told old new config number begun deeds unmade hands refused free started terms = (
     record {
       config = config;
       number = number;
@@ -151,8 +155,10 @@ module _ {D : Type 0} {g : Ghosts D} where
           subst (λ (m : List Passage). FitsFor new.look.deeds new.sittings m) (sym (hands.seats ∙ but.1.0))
           (subst (λ (m : List Deed). FitsFor m new.sittings (but.0 ++ seats_of (taken_for e))) (sym deeds)
           (fits_refused e old.look.deeds old.sittings new.sittings but.0 refused but.1.1));
+      somebody = λ but. refused_somebody e old.bots new.bots old.sittings new.sittings hands.sat free refused but;
       hears = hands.hears;
       asked = none_gives new.look old.askers new.askers hands.asked;
+      waits = hands.waits;
       carried = hands.carried;
       once = λ was. (started was.0, subst StartedOnce (sym deeds) was.1);
     },
@@ -163,22 +169,22 @@ module _ {D : Type 0} {g : Ghosts D} where
   pub stepped_if_given : (e : Event) (told : Told) (result : Option (Result (Unit {0}) NodeFault)) (old new : Served (Node D)) → IsGivenBy true result
       → IfSome result (λ answer. Acts g e told answer old.look new.look)
       → HandsOn g told old new
-      → Admits (runs old.look.node) e old.sittings → Settles e old.sittings new.sittings → MayBeGiven old.started e → (old.started ≡ true → new.started ≡ true) → new.terms ≡ old.terms → Does g (taken_for e) old new
-  stepped_if_given e told None old new given acts hands admitted settled may started terms = absurd given
-  stepped_if_given e told (Some answer) old new given acts hands admitted settled may started terms =
-      stepped e told answer old new given acts hands admitted settled may started terms
+      → Admits (runs old.look.node) e old.sittings → Settles e old.sittings new.sittings → MayBeGiven old.started e → (old.started ≡ true → new.started ≡ true) → new.terms ≡ old.terms → IsFree (seat_left e) new.bots → Does g (taken_for e) old new
+  stepped_if_given e told None old new given acts hands admitted settled may started terms left = absurd given
+  stepped_if_given e told (Some answer) old new given acts hands admitted settled may started terms left =
+      stepped e told answer old new given acts hands admitted settled may started terms left
 
   pub unstepped_if_not : (e : Event) (told : Told) (result : Option (Result (Unit {0}) NodeFault)) (old new : Served (Node D)) → IsGivenBy false result
       → IfSome result (λ answer. Acts g e told answer old.look new.look) → (IsNone result → new.look ≡ old.look) → (IsNone result → told ≡ nothing_told)
       → HandsOn g told old new
-      → Refuses e old.sittings new.sittings → (old.started ≡ true → new.started ≡ true) → new.terms ≡ old.terms → Does g (taken_for e) old new
-  unstepped_if_not e told None old new given acts same unmade hands refused started terms =
+      → Refuses e old.sittings new.sittings → IsFree (seat_in e) new.bots → (old.started ≡ true → new.started ≡ true) → new.terms ≡ old.terms → Does g (taken_for e) old new
+  unstepped_if_not e told None old new given acts same unmade hands refused free started terms =
       let look : new.look ≡ old.look = same refl in
       unstepped e told old new (ap (λ (l : Look (Node D)). l.config) look) (ap (λ (l : Look (Node D)). l.number) look) (ap (λ (l : Look (Node D)). begun_of g l.node) look)
-      (ap (λ (l : Look (Node D)). l.deeds) look) (unmade refl) hands refused started terms
-  unstepped_if_not e told (Some answer) old new given acts same unmade hands refused started terms =
+      (ap (λ (l : Look (Node D)). l.deeds) look) (unmade refl) hands refused free started terms
+  unstepped_if_not e told (Some answer) old new given acts same unmade hands refused free started terms =
       elim acts.gains as (λ _. Does g (taken_for e) old new) [
         | nothing no_memory is ↦
-            unstepped e told old new acts.config acts.number acts.given.stays.begun is (acts.given.stays.unmade (subst (λ (a : Result (Unit {0}) NodeFault). IsErr a) (sym no_memory) refl)) hands refused started terms
+            unstepped e told old new acts.config acts.number acts.given.stays.begun is (acts.given.stays.unmade (subst (λ (a : Result (Unit {0}) NodeFault). IsErr a) (sym no_memory) refl)) hands refused free started terms
         | call taken is ↦ absurd (taken given)
       ]

@@ -1,7 +1,7 @@
 -- How a seat is looked at, node after node, and seat after seat.
 use Rattle.std.proofs.Common.{◌≡◌, ◌⊎◌, inl, inr, ℕ, zero, suc, ◌+◌, ◌<◌, ◌≤◌, ◌∙◌, refl, sym, ap, subst, add-one, arith}
 use Rattle.std.proofs.lemmas.Bool.{cases_eq}
-use Rattle.std.specs.Prelude.{min}
+use Rattle.std.specs.Prelude.{min, length}
 use Rattle.promise_store.specs.declared.disk.Disk.{Ghosts}
 use Rattle.node_wires.specs.declared.wire.Wire.{Ghosts as OfWire}
 use Rattle.clockwork.specs.declared.seat_watch.At.{At}
@@ -9,6 +9,7 @@ use Rattle.clockwork.specs.SeatWatches.{looked_at}
 use Rattle.clockwork.specs.declared.seat_watch.SeatLook.{SeatLook}
 use Rattle.clockwork.specs.declared.seat_watch.SeatWatch.{SeatWatch}
 use Rattle.clockwork.specs.declared.watch.Watch.{Watch}
+use Rattle.stations.specs.Looking.{look_of}
 use Rattle.node_service.specs.Acts.{acts_at}
 use Rattle.node_service.specs.Serving.{nodes_of}
 use Rattle.node_service.specs.declared.desk.Desk.{Desk}
@@ -89,7 +90,7 @@ module _ {D W : Type 0} {disk : Ghosts D} {wire : OfWire W} where
   by_alike : (server current : NodeServer D W disk wire) (number : ℕ) (seen : SeatLook) → KeepsRest server current → LooksBelow number seen server current.seat_watches
       → seen_by current number (acts_at current.acts.all number) seen ≡ seen_by server number (acts_at server.acts.all number) seen
   by_alike server current number seen same looks =
-      let nodes : nodes_of current ≡ nodes_of server = ap (λ (d : Desk D W disk). min d.member.terms.nodes NODES) same.desk in
+      let nodes : nodes_of current ≡ nodes_of server = ap (λ (d : Desk D W disk). min (length (look_of d.member.station).config.sources) NODES) same.desk in
       let alike = below_alike server current number seen.now (nodes_of server) same looks.taken (looks.rest number (omega arith)) in
       ap (λ (a : SeatActs). looked_at (seen_below current number seen.now (nodes_of current)) (acts_at a.all number) seen) same.acts
       ∙ (ap (λ (n : ℕ). looked_at (seen_below current number seen.now n) (acts_at server.acts.all number) seen) nodes

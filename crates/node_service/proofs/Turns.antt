@@ -21,8 +21,9 @@ use Rattle.node_peers.specs.Noticing.{IsFrame}
 use Rattle.node_peers.specs.declared.notice.Notice.{Notice}
 use Rattle.node_peers.specs.declared.notice.Notice.TheVariants as peer_notices
 use Rattle.node_service.specs.Telling.{told_of, incoming_by}
-use Rattle.node_service.specs.Turns.{piece_over, pieces_of, IsOnePiece, AreFrames, ComeOfPeers, ComeOfSeats, IsNextOf, AreRead, IsLate, ComeInTurn, IsTurn, begins_at, things_at, Counts, IsFirstOf, Spares, IsNextBut, ComeOfSeatsBut, IsTurnBut, IsBegunOf, IsTurnOf}
+use Rattle.node_service.specs.Turns.{piece_over, pieces_of, IsOnePiece, AreFrames, ComeOfPeers, ComeOfSeats, IsNextOf, AreRead, IsLate, ComeInTurn, IsTurn, begins_at, things_at, Counts, IsFirstOf, Spares, IsNextBut, AreCallersBut, ComeOfSeatsBut, IsTurnBut, IsBegunOf, IsTurnOf}
 use Rattle.node_service.proofs.Crossing.{no_life_both, ends_both, no_life_ends}
+use Rattle.node_service.proofs.Incoming.{no_peer_told}
 use Rattle.node_service.proofs.Showing.{seats_of_more, peers_of_more}
 
 -- ---- of peers
@@ -260,6 +261,64 @@ one_of taken xs counts seat within =
 
 pub come_is_all : (at closed taken : ℕ) (xs : List Incoming) → ComeBelow at closed taken xs → ComeOfSeatsBut closed xs
 come_is_all at closed taken xs come = (below_is_all at xs come.below (one_of taken xs come.counts), come.spares)
+
+-- ---- who came to ports
+
+-- nobody
+pub no_callers : (closed taken : ℕ) → AreCallersBut closed taken taken []
+no_callers closed taken = record { peers = refl; pieces = λ seat. refl; counts = none_counted taken; spares = λ seat within shut. refl }
+
+none_of_two : (seat : ℕ) (xs ys : List Incoming) → pieces_of seat (seats_of xs) ≡ [] → pieces_of seat (seats_of ys) ≡ [] → pieces_of seat (seats_of (xs ++ ys)) ≡ []
+none_of_two seat xs ys none others =
+    ap (λ (m : List Passage). pieces_of seat m) (seats_of_more xs ys) ∙ (pieces_both seat (seats_of xs) (seats_of ys) ∙ (ap (λ (m : List (List ℕ)). m ++ pieces_of seat (seats_of ys)) none ∙ others))
+
+pub callers_on : (closed a b c : ℕ) (xs ys : List Incoming) → AreCallersBut closed a b xs → AreCallersBut closed b c ys → AreCallersBut closed a c (xs ++ ys)
+callers_on closed a b c xs ys first then_on = record {
+  peers = no_peers_both xs ys first.peers then_on.peers;
+  pieces = λ seat. none_of_two seat xs ys (first.pieces seat) (then_on.pieces seat);
+  counts = counts_on a b c xs ys first.counts then_on.counts;
+  spares = spares_on closed xs ys first.spares then_on.spares;
+}
+
+-- before what came of seats with any numbers
+pub callers_first : (closed taken : ℕ) (xs : List Incoming) → AreCallersBut closed 0 taken xs → ComeBelow 0 closed taken xs
+callers_first closed taken xs are = record {
+  below = record { peers = are.peers; pieces = λ seat. subst (λ (m : List (List ℕ)). IsTaken (nat_lt seat 0) m) (sym (are.pieces seat)) (none_is_taken (nat_lt seat 0)) };
+  counts = are.counts;
+  spares = are.spares;
+}
+
+-- no notice is a piece of two seats
+pub caller_first : (closed taken : ℕ) (notice : SeatNotice) → KeepsClosed (bit_or closed taken) (Some notice) → ((number most : ℕ) → IsPieceOf number most (Some notice)) → IsFirstOf taken notice
+caller_first closed taken (notices.Came number) free piece = λ within. (none_of_both closed taken number free).1
+caller_first closed taken (notices.Piece number bytes) free piece = let one = (piece 0 0).0 in let two = (piece 1 0).0 in absurd (omega (arith, one, two))
+caller_first closed taken (notices.Gone number) free piece = tt
+caller_first closed taken (notices.Refused number source) free piece = tt
+
+no_piece_by : (notice : SeatNotice) → ((number most : ℕ) → IsPieceOf number most (Some notice)) → (seat : ℕ) → pieces_of seat (seats_of (incoming_by (Some notice))) ≡ []
+no_piece_by (notices.Came number) piece seat = refl
+no_piece_by (notices.Piece number bytes) piece seat = let one = (piece 0 0).0 in let two = (piece 1 0).0 in absurd (omega (arith, one, two))
+no_piece_by (notices.Gone number) piece seat = refl
+no_piece_by (notices.Refused number source) piece seat = refl
+
+pub caller_but : (closed before after : ℕ) (notice : SeatNotice) → KeepsClosed (bit_or closed before) (Some notice) → ((number most : ℕ) → IsPieceOf number most (Some notice)) → Counts before after (incoming_by (Some notice))
+    → AreCallersBut closed before after (incoming_by (Some notice))
+caller_but closed before after notice free piece counts = record {
+  peers = no_peer_told (Some notice);
+  pieces = no_piece_by notice piece;
+  counts = counts;
+  spares = spares_of closed before notice free;
+}
+
+-- where more seats are closed
+pub spares_fewer : (closed shut : ℕ) (xs : List Incoming) → Spares (bit_or closed shut) xs → Spares closed xs
+spares_fewer closed shut xs spares seat within is =
+    let either : bit_at (bit_or closed shut) seat ≡ max (bit_at closed seat) (bit_at shut seat) = bit_at_or closed shut seat in
+    let below = bit_at-lt shut seat in
+    spares seat within (omega (arith, either, is, below))
+
+pub come_is_all_but : (at closed shut taken : ℕ) (xs : List Incoming) → ComeBelow at (bit_or closed shut) taken xs → ComeOfSeatsBut closed xs
+come_is_all_but at closed shut taken xs come = let all = come_is_all at (bit_or closed shut) taken xs come in (all.0, spares_fewer closed shut xs all.1)
 
 -- ---- a turn
 

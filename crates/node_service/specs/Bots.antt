@@ -18,7 +18,7 @@ use Rattle.stations.specs.Deeds.{Deed}
 use Rattle.stations.specs.Stations.{Look, Has}
 use Rattle.node_seats.specs.declared.bot.Bot.{Bot}
 use Rattle.node_seats.specs.declared.bot.Parting.{Parting}
-use Rattle.node_seats.specs.declared.bot.Parting.TheVariants.{Over, Other}
+use Rattle.node_seats.specs.declared.bot.Parting.TheVariants.{Over, Other, Wait}
 use Rattle.node_seats.specs.declared.bot.Telling.{Telling}
 use Rattle.node_seats.specs.declared.seat.Seat.{Seat}
 use Rattle.node_seats.specs.declared.words.Asked.{Asked}
@@ -121,7 +121,8 @@ module _ {D : Type 0} (g : Ghosts D) where
   IsStarted look seat words None = Unit {0}
   IsStarted look seat words (Some telling) = (words.is_over ≡ true) × ((table : Match) × (HadTable look table × StartsBy table seat words.asked words.named telling.start))
 
-  -- that the match is over is told behind its last line, to one who asked; that a line is none, where no line was told and a table of the node then hadn't it
+  -- that the match is over is told behind its last line, to one who asked; that a line is none, where no line was told and a table of the node then hadn't it; to come again
+  -- later, to one who asked
   abbrev pub IsOverFor : Look (Node D) → ℕ → Reading → Option Telling → Type 0
   IsOverFor look seat words None = ⊥
   IsOverFor look seat words (Some telling) = (words.asked ≡ asks.Nothing → ⊥) × ((table : Match) × (HadTable look table × IsBehindAll table seat telling.next))
@@ -131,6 +132,7 @@ module _ {D : Type 0} (g : Ghosts D) where
   IsParted look seat bot (Some Over) = IsOverFor look seat bot.words bot.telling
   IsParted look seat bot (Some Other) =
       (bot.telling ≡ None) × ((bot.words.is_over ≡ true) × ((table : Match) × (HadTable look table × IsRefusedBy table seat bot.words.asked bot.words.named)))
+  IsParted look seat bot (Some Wait) = bot.words.asked ≡ asks.Nothing → ⊥
 
   pub record IsBotOf (look : Look (Node D)) (seat : ℕ) (bot : Bot) : Type 0 where
     pub told : IsToldBy look seat bot.telling
@@ -157,6 +159,7 @@ module _ {D : Type 0} (g : Ghosts D) where
   abbrev pub PartsSince : (first : List Deed) → Look (Node D) → ℕ → (old new : Bot) → Option Parting → Type 0
   PartsSince first look seat old new None = Unit {0}
   PartsSince first look seat old new (Some Over) = Unit {0}
+  PartsSince first look seat old new (Some Wait) = Unit {0}
   PartsSince first look seat old new (Some Other) = HadParted old new ⊎ ((table : Match) × (HadTableSince first look table × IsRefusedBy table seat new.words.asked new.words.named))
 
   pub record IsSince (first : List Deed) (look : Look (Node D)) (seat : ℕ) (old new : Bot) : Type 0 where

@@ -1,5 +1,5 @@
 -- What a process's node did by one call.
-use Rattle.std.specs.Prelude.{◌≡◌, ◌⊎◌, Bool, true, ◌∷◌, Option, Some, None, Result, Err, IsErr, IsSome}
+use Rattle.std.specs.Prelude.{◌≡◌, ◌⊎◌, ◌∷◌, Option, Some, None, Result, Err, IsErr, IsSome}
 use Rattle.promise_store.specs.declared.disk.Disk.{Ghosts}
 use Rattle.dealer_node.specs.Nodes.{Node}
 use Rattle.dealer_node.specs.Outs.{Told, nothing_told}
@@ -7,27 +7,11 @@ use Rattle.dealer_node.specs.Seeing.{runs, front_in}
 use Rattle.dealer_node.specs.declared.fault.NodeFault.{NodeFault}
 use Rattle.dealer_node.specs.declared.fault.NodeFault.TheVariants.{OutOfMemory}
 use Rattle.dealer_world.specs.declared.event.Event.{Event}
-use Rattle.dealer_world.specs.declared.event.Event.TheVariants as event
 use Rattle.stations.specs.Stations.{Look, deed_by}
 use Rattle.stations.specs.Looking.{look_of}
-use Rattle.node_service.specs.Ending.{EndsBy, IsFaultAfter}
+use Rattle.node_service.specs.Calling.{started_after}
+use Rattle.node_service.specs.Ending.{EndsBy, IsFaultAfter, IsNeededAfter}
 use Rattle.node_service.specs.declared.local_node.LocalNode.{LocalNode}
-
--- whether a node was started, behind this event
-abbrev pub started_by : Event → Bool → Bool
-started_by (event.Start node) started = true
-started_by (event.Stop node pick) started = started
-started_by (event.Frame from to bytes) started = started
-started_by (event.Line node seat bytes) started = started
-started_by (event.Tick node) started = started
-started_by (event.Away node) started = started
-started_by (event.Connect node seat) started = started
-started_by (event.Drop node seat) started = started
-
--- behind a call that was answered so; none was made where there is no answer
-abbrev pub started_after : Event → Option (Result (Unit {0}) NodeFault) → Bool → Bool
-started_after e None started = started
-started_after e (Some answer) started = started_by e started
 
 -- the node did one thing more, which is what this event comes to; nothing where no call was made, or there was no memory for it
 abbrev pub Did : {D : Type 0} → Event → Option (Result (Unit {0}) NodeFault) → Look (Node D) → Look (Node D) → Type 0
@@ -39,6 +23,7 @@ Did e (Some answer) old new =
 pub record Calls {D : Type 0} {disk : Ghosts D} (e : Event) (answer : Option (Result (Unit {0}) NodeFault)) (old new : LocalNode D disk) : Type 0 where
   pub did : Did e answer (look_of old.station) (look_of new.station)
   pub started : new.is_started ≡ started_after e answer old.is_started
-  pub fault : IsFaultAfter old.fault answer new.fault
+  pub fault : IsFaultAfter e old.fault answer new.fault
+  pub needed : IsNeededAfter e old.was_needed answer new.was_needed
   pub ends : EndsBy e answer → IsSome new.fault
   pub terms : new.terms ≡ old.terms

@@ -38,6 +38,10 @@ AreShown own lines told = AreTold own lines (joined_in told)
 abbrev pub TellsReplaced : Option Notice → Type 0
 TellsReplaced told = (peer : ℕ) × ((source : Option IpAddr) × (told ≡ Some (notices.Refused peer (faults.StoreReplaced Own) source)))
 
+-- the peers told that this node's store is an older copy: one has heard of a greater ballot that it had promised
+abbrev pub TellsOlder : Option Notice → Type 0
+TellsOlder told = (peer : ℕ) × ((source : Option IpAddr) × (told ≡ Some (notices.Refused peer (faults.StoreOlder Own) source)))
+
 -- a life that was to be kept isn't told
 abbrev pub LosesLife : (lost_before lost_after : Bool) → (told_before told_after : List ServerNotice) → ServerNotice → Type 0
 LosesLife lost_before lost_after before after thing =

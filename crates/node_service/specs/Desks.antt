@@ -11,7 +11,9 @@ use Rattle.node_service.specs.Bots.{KeepBots}
 use Rattle.node_service.specs.Asking.{GivesOnly, IsNoLine}
 use Rattle.node_service.specs.Crossing.{Carries}
 use Rattle.node_service.specs.Company.{HearsOn}
+use Rattle.node_service.specs.Seated.{SatBefore}
 use Rattle.node_service.specs.Served.{Served}
+use Rattle.node_service.specs.Apartness.{PutsOffApart}
 use Rattle.node_service.specs.Sittings.{Loosens}
 
 module _ {D W : Type 0} {disk : Ghosts D} (wire : OfWire W) where
@@ -25,6 +27,7 @@ module _ {D W : Type 0} {disk : Ghosts D} (wire : OfWire W) where
     sent = frames_of desk.company.peers;
     heard = heard_of desk.company.peers;
     sittings = desk.sittings;
+    apart = desk.apart;
     own = own_of desk.company.peers;
     lines = passed_of desk.company.peers;
     bots = desk.seats.seats.items;
@@ -36,13 +39,14 @@ module _ {D W : Type 0} {disk : Ghosts D} (wire : OfWire W) where
   abbrev pub IsUntouched : Desk D W disk → Desk D W disk → Type 0
   IsUntouched old new = (wire.passed new.wire ≡ wire.passed old.wire) × ((passed_of new.company.peers ≡ passed_of old.company.peers) × ((new.seats ≡ old.seats) × (new.askers ≡ old.askers)))
 
-  -- the node isn't called, the log stays, nothing is handed to peers, and nothing is taken of them or of seats; bots of seats may be let go of, or told lines off tables of the node, and
+  -- the node isn't called, the log stays, nothing is handed to peers, and nothing is taken of them or of seats; bots of seats may be let go of, or told lines off tables of the node, or while it is apart to come again later, and
   -- those who ask are given nothing but such lines; what crosses the wires goes by all of them as before
   pub record IsKeptWith (such : List ℕ → Type 0) (old new : Desk D W disk) : Type 0 where
     pub member : new.member ≡ old.member
     pub log_failed : new.log_failed ≡ old.log_failed
     pub sent : frames_of new.company.peers ≡ frames_of old.company.peers
     pub bots : KeepBots disk (look_of old.member.station) (look_of new.member.station) old.seats.seats.items new.seats.seats.items
+    pub sat : SatBefore old.seats.seats.items new.seats.seats.items
     pub guests : new.seats.guests ≡ old.seats.guests
     pub heard : heard_of new.company.peers ≡ heard_of old.company.peers
     pub log : logged_in (wire.passed new.wire) ≡ logged_in (wire.passed old.wire)
@@ -50,6 +54,7 @@ module _ {D W : Type 0} {disk : Ghosts D} (wire : OfWire W) where
     pub sittings : Loosens old.sittings new.sittings
     pub hears : (new.company.peers ≡ old.company.peers) ⊎ HearsOn old.company.peers new.company.peers
     pub asked : GivesOnly such old.askers.askers.items new.askers.askers.items
+    pub waits : PutsOffApart old.apart new.apart old.seats.seats.items new.seats.seats.items
     pub carried : IsUntouched old new ⊎ (Carries (served_by old) → Carries (served_by new))
 
   -- and they are given nothing

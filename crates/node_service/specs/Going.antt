@@ -11,6 +11,7 @@ use Rattle.node_service.specs.Handed.{frames_by}
 use Rattle.node_service.specs.Bots.{KeepBots}
 use Rattle.node_service.specs.Arriving.{Incoming, seats_of, peers_of, came_by}
 use Rattle.node_service.specs.Company.{Hears}
+use Rattle.node_service.specs.Apartness.{PutsOffApart}
 use Rattle.node_service.specs.Asking.{GivesOnly, IsNoLine, IsReply}
 use Rattle.node_service.specs.Crossing.{AreHeard, Carries, EndsAtLife}
 use Rattle.node_service.specs.Served.{Served}
@@ -18,12 +19,13 @@ use Rattle.node_service.specs.Welcoming.{Hosts, AreLetIn}
 use Rattle.node_service.specs.Logging.{IsOnce}
 use Rattle.node_service.specs.Sittings.{Loosens}
 use Rattle.node_service.specs.Fitting.{Fits, FitsBut}
+use Rattle.node_service.specs.Seated.{AreSomebody, AreSomebodyBut}
 
 module _ {D : Type 0} (g : Ghosts D) where
   -- it stays the process of the same node, by the same terms; it did so much more, the newest first: the log gained what was shown to it; the frames that these deeds
   -- sent were handed to the peers, in order, and nothing else was; the bots of seats are told the lines of their seats, off tables of its node alone, and where they begin, or are none, goes by one that it had meanwhile; and what came to the node had come: of seats over their
-  -- lines, and of peers as they told it, with what was taken before, in this order and each once, and who was taken in at a seat had shown its token; of each seat nothing was left out in the middle; what had
-  -- passed over the lines of its peers has; who asks is given status lines alone; what crosses the wires goes by peers, seats and askers, as before; and a node
+  -- lines, and of peers as they told it, with what was taken before, in this order and each once, and who was taken in at a seat had shown its token; of each seat nothing was left out in the middle, and who sits there is somebody to the node; what had
+  -- passed over the lines of its peers has; who asks is given status lines alone; no bot is told to come again later but while the node is apart; what crosses the wires goes by peers, seats and askers, as before; and a node
   -- that was started once is still, and isn't started again
   pub record GoesOn (taken : List Incoming) (old new : Served (Node D)) : Type 0 where
     pub config : new.look.config ≡ old.look.config
@@ -43,8 +45,10 @@ module _ {D : Type 0} (g : Ghosts D) where
     pub let_in : AreLetIn new.guests gained
     pub came : IsPartOf (came_by since) (taken ++ gained)
     pub given : FitsBut taken old → Fits new
+    pub somebody : AreSomebodyBut taken old → AreSomebody new
     pub hears : Hears old.own new.own old.lines new.lines
     pub asked : GivesOnly (IsReply new.look) old.askers new.askers
+    pub waits : PutsOffApart old.apart new.apart old.bots new.bots
     pub carried : Carries old → Carries new
     pub once : IsOnce old → IsOnce new
 
@@ -75,8 +79,10 @@ module _ {D : Type 0} (g : Ghosts D) where
     pub hosts : Hosts old.guests new.guests
     pub let_in : AreLetIn new.guests taken
     pub sittings : Loosens old.sittings new.sittings
+    pub somebody : AreSomebody old → AreSomebodyBut taken new
     pub hears : Hears old.own new.own old.lines new.lines
     pub asked : GivesOnly IsNoLine old.askers new.askers
+    pub waits : PutsOffApart old.apart new.apart old.bots new.bots
     pub carried : Carries old → Carries new
 
   -- one turn after the other is as one

@@ -37,6 +37,7 @@ use Rattle.node_links.specs.Owing.{serves}
 use Rattle.node_links.specs.declared.owed.Question.{Question}
 use Rattle.node_peers.specs.Viewing.{view_of}
 use Rattle.node_peers.specs.declared.view.View.{View}
+use Rattle.node_seats.specs.Crowding.{crowded_at}
 use Rattle.node_seats.specs.Seating.{is_here_at}
 use Rattle.node_wires.specs.declared.wire.Wire.{Ghosts as OfWire}
 use Rattle.stations.specs.Looking.{look_of}
@@ -127,6 +128,11 @@ is_own (Some (command.Deal hand deal)) = false
 is_own (Some (command.Act hand index action)) = true
 is_own (Some (command.Away hand index)) = false
 
+-- a moment, 0 where there was none
+abbrev pub moment_or_none : Option ℕ → ℕ
+moment_or_none None = 0
+moment_or_none (Some moment) = moment
+
 -- ---- what is due
 
 module _ {D W : Type 0} {disk : Ghosts D} {wire : OfWire W} where
@@ -164,9 +170,9 @@ module _ {D W : Type 0} {disk : Ghosts D} {wire : OfWire W} where
   abbrev pub players_of : NodeServer D W disk wire → ℕ
   players_of server = (look_of server.desk.member.station).config.setting.game.players
 
-  -- whether a bot sits here at a seat, that doesn't still wait for the line that it named
+  -- whether a bot sits here at a seat, that doesn't still wait for the line that it named; at a node that is apart none does
   abbrev pub sits_here : NodeServer D W disk wire → ℕ → Bool
-  sits_here server seat = nat_lt seat SEATS && is_here_at server.desk.seats.seats.items seat
+  sits_here server seat = nat_lt seat SEATS && not server.desk.apart.is_apart && is_here_at server.desk.seats.seats.items seat
 
   -- whether one does at a peer, as far as that is there and has told
   abbrev pub sits_at_peer : NodeServer D W disk wire → ℕ → ℕ → ℕ → Bool
@@ -219,6 +225,7 @@ module _ {D W : Type 0} {disk : Ghosts D} {wire : OfWire W} where
     stood = stood_of server;
     slept = server.waking.slept;
     nodes = nodes_of server;
+    crowded = moment_or_none (crowded_at server.desk.seats.crowds seat);
   }
 
   -- this is what it knows of this seat, which is to act, in a match in which one that does nothing is played for, in a turn in which it read what came of seats

@@ -9,7 +9,7 @@ use Rattle.clockwork.specs.declared.silence.TheConstants.{UNHEARD}
 use Rattle.node_peers.specs.Viewing.{view_of}
 use Rattle.node_peers.specs.declared.view.View.{View}
 use Rattle.node_wires.specs.declared.wire.Wire.{Ghosts as OfWire}
-use Rattle.node_service.specs.Ending.{IsOverAt}
+use Rattle.node_service.specs.Ending.{is_meant, IsOverAt}
 use Rattle.node_service.specs.Serving.{look_in, fault_in, nodes_of}
 use Rattle.node_service.specs.declared.outcome.Outcome.{Outcome}
 use Rattle.node_service.specs.declared.outcome.Outcome.TheVariants as outcome
@@ -22,10 +22,10 @@ tells_over None = false
 tells_over (Some report) = report.is_over
 
 module _ {D W : Type 0} {disk : Ghosts D} {wire : OfWire W} where
-  -- it ends by a fault: a call of its node was answered so, there was no memory to tell a life that was to be kept, or its node is down, or its peers are those
-  -- of another node
+  -- it ends by a fault: a call of its node was answered so that took it down, or was its start or the end of a seat; there was no memory to tell a life that was
+  -- to be kept, or its node is down, or its peers are those of another node
   pub data FailsBy (server : NodeServer D W disk wire) (fault : NodeFault) : Type 0 where
-    answered : fault_in server ≡ Some fault → FailsBy server fault
+    answered : fault_in server ≡ Some fault → is_meant server.desk.member.was_needed (Some fault) ≡ true → FailsBy server fault
     life_lost : fault ≡ faults.OutOfMemory → server.desk.company.is_life_lost ≡ true → FailsBy server fault
     down : fault ≡ faults.Down → runs (look_in server).node ≡ false → FailsBy server fault
     foreign : fault ≡ faults.Down → server.is_foreign ≡ true → FailsBy server fault
@@ -35,6 +35,7 @@ module _ {D W : Type 0} {disk : Ghosts D} {wire : OfWire W} where
   IsMeant server outcome.GoesOn = runs (look_in server).node ≡ true
   IsMeant server outcome.Over = IsOverAt disk (look_in server).node
   IsMeant server outcome.StoreReplaced = server.desk.company.is_replaced ≡ true
+  IsMeant server outcome.StoreOlder = server.desk.company.is_older ≡ true
   IsMeant server (outcome.Failed fault) = FailsBy server fault
   IsMeant server outcome.LogFailed = server.desk.log_failed ≡ true
 

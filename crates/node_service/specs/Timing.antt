@@ -1,5 +1,5 @@
 -- How what a process knows of time and of its seats is kept: since when it has a quorum, whether it slept, and how it looks at seats.
-use Rattle.std.specs.Prelude.{◌≡◌, ℕ, zero, suc, ◌-◌, ◌<◌, min, Bool, true, false, not, ◌&&◌, if◌then◌else◌, Option, Some, None, unwrap_or}
+use Rattle.std.specs.Prelude.{◌≡◌, ℕ, zero, suc, ◌+◌, ◌-◌, ◌*◌, ◌^◌, ◌<◌, min, Bool, true, false, not, ◌&&◌, if◌then◌else◌, Option, Some, None, unwrap_or}
 use Rattle.promise_store.specs.declared.disk.Disk.{Ghosts}
 use Rattle.node_wires.specs.declared.wire.Wire.{Ghosts as OfWire}
 use Rattle.dealer_world.specs.declared.event.Event.{Event}
@@ -18,6 +18,9 @@ use Rattle.clockwork.specs.declared.watch.Watch.{Watch}
 use Rattle.node_service.specs.Acts.{acts_at}
 use Rattle.node_service.specs.Knowing.{moment_of, seen_at, stood_of, players_of}
 use Rattle.node_service.specs.Serving.{nodes_of}
+use Rattle.node_service.specs.declared.limits.TheConstants.{CALLER}
+use Rattle.node_service.specs.Unread.{slept_in}
+use Rattle.node_service.specs.declared.unread.Unread.{Unread}
 use Rattle.node_service.specs.Watching.{watch_at, was_taken, seen_at_node, have_come_below}
 use Rattle.node_service.specs.declared.server.NodeServer.{NodeServer}
 use Rattle.node_service.specs.declared.turn_timer.TurnTimer.{TurnTimer}
@@ -35,12 +38,24 @@ stood_at timer quorate now = record {
   ordered = timer.ordered;
 }
 
-module _ {D W : Type 0} {disk : Ghosts D} {wire : OfWire W} where
-  -- ---- its sleep
+-- ---- its sleep
 
+-- what so many took who came to ports isn't sleep, up to half a millisecond each
+abbrev pub busy_with : (callers took : ℕ) → ℕ
+busy_with callers took = min took (callers * CALLER)
+
+-- nor is so much that wasn't before
+abbrev pub with_callers : (in_calls callers took : ℕ) → ℕ
+with_callers in_calls callers took = min (in_calls + busy_with callers took) (2 ^ 64 - 1)
+
+module _ {D W : Type 0} {disk : Ghosts D} {wire : OfWire W} where
   -- what went by until now beyond calls and a wait of so long was slept through, of the time for which the table has stood
   abbrev pub marked_at : NodeServer D W disk wire → (now most : ℕ) → Waking
   marked_at server now most = passed (stood_since server.waking (stood_of server)) (now - server.marked - server.in_calls - most)
+
+  -- and by the same what was read since
+  abbrev pub unread_at : NodeServer D W disk wire → (now most : ℕ) → Unread
+  unread_at server now most = slept_in server.unread (now - server.marked - server.in_calls - most)
 
   -- a tick and an order are of the moment of the last look at what is due
   abbrev pub watch_given : NodeServer D W disk wire → Event → Watch

@@ -135,6 +135,13 @@ pub record IsNextBut (at closed before after : ℕ) (things : List Incoming) : T
   pub counts : Counts before after things
   pub spares : Spares closed things
 
+-- those who came to ports of seats: no pieces, each counted at its seat, and at none of the closed ones did a connection begin
+pub record AreCallersBut (closed before after : ℕ) (things : List Incoming) : Type 0 where
+  pub peers : peers_of things ≡ []
+  pub pieces : (seat : ℕ) → pieces_of seat (seats_of things) ≡ []
+  pub counts : Counts before after things
+  pub spares : Spares closed things
+
 abbrev pub ComeOfSeatsBut : ℕ → List Incoming → Type 0
 ComeOfSeatsBut closed things = ComeOfSeats things × Spares closed things
 

@@ -146,17 +146,27 @@ impl<D: Disk + Drop, W: Wire + Drop> NodeServer<D, W> {
         self.desk.hang_up(seat);
     }
 
+    /// Lets go of the bot of a seat where the node is apart, and it sat there for two seconds since.
+    fn leave_late(&mut self, seat: u8, now: u64)
+        ensures { IsKept W.Wire self.old.desk self.new.desk }
+    {
+        if !self.desk.apart.is_apart() || !self.lasting.is_late(self.desk.seats.since(seat), now) {
+            return;
+        }
+        self.desk.hang_up(seat);
+    }
+
     /// Tells that a seat named a line that is none of it.
     fn note_parted(&mut self, seat: u8, parting: Parting)
         ensures { IsKept W.Wire self.old.desk self.new.desk }
     {
         match parting {
-            Parting::Over => (),
+            Parting::Over | Parting::Wait => (),
             Parting::Other => self.tell(ServerNotice::OtherLine { seat }),
         }
     }
 
-    /// Looks at the bots that wait for lines, and at those that are parted from.
+    /// Looks at the bots that wait for lines, at those that are parted from, and at those that sit at a node that is apart.
     pub(crate) fn look_at_lines(&mut self, now: u64)
         ensures { IsKept W.Wire self.old.desk self.new.desk }
     {
@@ -169,13 +179,19 @@ impl<D: Disk + Drop, W: Wire + Drop> NodeServer<D, W> {
         for seat in 0..SEATS {
             self.look_at_line(seat, applied, now);
             self.leave_parted(seat);
+            self.leave_late(seat, now);
         }
     }
 
-    /// Whether a seat may be told a line at once.
+    /// Whether the bot of a seat is parted from, and was written all that it was told.
+    fn is_parted(&self, seat: u8) -> bool {
+        self.desk.seats.parting(seat).is_some() && self.desk.seats.backlog(seat) == 0
+    }
+
+    /// Whether a seat may be told a line at once, or let go of.
     pub(crate) fn owes_lines(&self) -> bool {
         for seat in 0..SEATS {
-            if is_behind(&self.desk.member, &self.desk.seats, seat) {
+            if self.is_parted(seat) || is_behind(&self.desk.member, &self.desk.seats, seat) {
                 return true;
             }
         }

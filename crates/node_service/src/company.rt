@@ -9,7 +9,7 @@ ghost use Rattle.node_peers.specs.Peering.{own_of, passed_of, frames_of, heard_o
 ghost use Rattle.node_peers.specs.Sending.{Sends};
 ghost use Rattle.node_wires.specs.declared.line.Line.TheVariants.{Peer, Seat};
 ghost use Rattle.node_wires.specs.Passages.{Wrote, logged_in, seats_in, wrote_over};
-ghost use Rattle.node_service.specs.Company.{joined_in, IsShown, AreShown, HearsOn, TellsReplaced, LosesLife, TellsOrLoses};
+ghost use Rattle.node_service.specs.Company.{joined_in, IsShown, AreShown, HearsOn, TellsOlder, TellsReplaced, LosesLife, TellsOrLoses};
 
 use crate::server_notice::ServerNotice;
 use node_links::{OwnReport, PeerFault, Whose};
@@ -26,6 +26,8 @@ pub(crate) struct Company {
     pub(crate) told: VecDeque<ServerNotice>,
     /// The peers told that one keeps another life of this node's store.
     is_replaced: bool,
+    /// The peers told that this node's store is an older copy.
+    is_older: bool,
     /// There was no memory to tell a life that was to be kept.
     is_life_lost: bool,
     ghost shown: { AreShown (own_of peers) (passed_of peers) told.items } by { are_told_prop (own_of peers) (passed_of peers) (joined_in told.items) },
@@ -38,6 +40,7 @@ impl Drop for Company {
             peers: _,
             told: _,
             is_replaced: _,
+            is_older: _,
             is_life_lost: _,
         } = self;
     }
@@ -52,6 +55,22 @@ fn tells_replaced(notice: &Option<Notice>) -> bool
             Notice::Refused {
                 peer: _,
                 fault: PeerFault::StoreReplaced(Whose::Own),
+                source: _,
+            },
+        ) => true,
+        _ => false,
+    }
+}
+
+/// Whether this tells that this node's store is an older copy.
+fn tells_older(notice: &Option<Notice>) -> bool
+    ensures { result ≡ true → TellsOlder notice.now }
+{
+    match notice {
+        Some(
+            Notice::Refused {
+                peer: _,
+                fault: PeerFault::StoreOlder(Whose::Own),
                 source: _,
             },
         ) => true,
@@ -81,6 +100,7 @@ impl Company {
         ensures peers { result.peers ≡ peers }
         ensures told { result.told.items ≡ [] }
         ensures replaced { result.is_replaced ≡ false }
+        ensures older { result.is_older ≡ false }
         ensures lost { result.is_life_lost ≡ false }
     {
         let told = VecDeque::new(alloc);
@@ -88,6 +108,7 @@ impl Company {
             peers,
             told,
             is_replaced: false,
+            is_older: false,
             is_life_lost: false,
         }
     }
@@ -110,6 +131,7 @@ impl Company {
         requires { IsShown (own_of self.old.peers) (passed_of self.old.peers) told }
         ensures peers { self.new.peers ≡ self.old.peers }
         ensures replaced { self.new.is_replaced ≡ self.old.is_replaced }
+        ensures older { self.new.is_older ≡ self.old.is_older }
         ensures lost { LosesLife self.old.is_life_lost self.new.is_life_lost self.old.told.items self.new.told.items told }
         ensures told { TellsOrLoses result self.old.told.items self.new.told.items told self.new.is_life_lost }
     {
@@ -130,6 +152,13 @@ impl Company {
         self.is_replaced
     }
 
+    /// Whether the peers told that this node's store is an older copy.
+    pub(crate) fn is_older(&self) -> bool
+        ensures { result ≡ self.now.is_older }
+    {
+        self.is_older
+    }
+
     /// Whether there was no memory to tell a life that was to be kept.
     pub(crate) fn is_life_lost(&self) -> bool
         ensures { result ≡ self.now.is_life_lost }
@@ -146,11 +175,15 @@ impl Company {
         ensures heard { heard_of self.new.peers ≡ heard_of self.old.peers ++ heard_by result }
         ensures told { IfSome result (λ notice. IsTold (own_of self.new.peers) (passed_of self.new.peers) notice) }
         ensures replaced { self.new.is_replaced ≡ true → (self.old.is_replaced ≡ true) ⊎ TellsReplaced result }
+        ensures older { self.new.is_older ≡ true → (self.old.is_older ≡ true) ⊎ TellsOlder result }
         ensures lost { self.new.is_life_lost ≡ self.old.is_life_lost }
     {
         let notice = self.peers.next();
         if tells_replaced(&notice) {
             self.is_replaced = true;
+        }
+        if tells_older(&notice) {
+            self.is_older = true;
         }
         notice
     }

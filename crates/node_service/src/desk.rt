@@ -1,6 +1,6 @@
 //! A node's process at its wires: each call of the node, and what it made handed on.
 
-ghost use Rattle.std.specs.Prelude.{◌≡◌, [], ◌∷◌, ◌++◌, true, false, map, IfSome};
+ghost use Rattle.std.specs.Prelude.{◌≡◌, ℕ, [], ◌∷◌, ◌++◌, true, false, map, IfSome};
 ghost use Rattle.dealer_world.specs.Calls.{added_by};
 ghost use Rattle.dealer_world.specs.KeptShown.{reader_by};
 ghost use Rattle.dealer_world.specs.Recordings.{text_by};
@@ -17,12 +17,14 @@ ghost use Rattle.node_wires.specs.Passages.{Wrote, logged_in, seats_in};
 ghost use Rattle.node_service.specs.Showing.{added, LogGains};
 ghost use Rattle.node_service.specs.Telling.{told_by, incoming_by};
 ghost use Rattle.node_service.specs.Company.{HearsOn};
+ghost use Rattle.node_service.specs.Seated.{seat_left, IsFree};
 ghost use Rattle.node_service.specs.Sittings.{seat_in, Loosens, Frees, Refuses};
 ghost use Rattle.node_service.specs.Handed.{mark_handed};
 ghost use Rattle.node_service.specs.Crossing.{KeepsLines};
 ghost use Rattle.node_service.specs.Handing.{HandsOn};
 ghost use Rattle.node_service.specs.Bots.{IsServedAt, AreServed};
 
+use crate::apart::Apart;
 use crate::company::Company;
 use crate::limits::{LONG, SEATS};
 use crate::local_node::LocalNode;
@@ -32,7 +34,7 @@ use dealer_node::{Out, Reader};
 use dealer_world::Event;
 use node_links::OwnReport;
 use node_peers::Notice;
-use node_seats::{SeatNotice, Seats};
+use node_seats::{Called, SeatNotice, Seats};
 use node_status::Askers;
 use node_wires::Wire;
 use promise_store::Disk;
@@ -48,6 +50,8 @@ pub(crate) struct Desk<D: Disk + Drop, W: Wire + Drop> {
     pub(crate) log_failed: bool,
     /// How the bots of seats are at the node.
     pub(crate) sittings: Sittings,
+    /// The node is without a quorum for a while, or isn't: while it is who sits is told no lines, but to come again later.
+    pub(crate) apart: Apart,
 }
 
 /// By hand, so that letting one go is one call for whoever owns it (docs/ARCHITECTURE.md, Habits).
@@ -61,6 +65,7 @@ impl<D: Disk + Drop, W: Wire + Drop> Drop for Desk<D, W> {
             askers: _,
             log_failed: _,
             sittings: _,
+            apart: _,
         } = self;
     }
 }
@@ -90,6 +95,22 @@ fn seat_of(event: &Event) -> Option<u8>
         } => Some(*seat),
         Event::Connect { node: _, seat } => Some(*seat),
         Event::Drop { .. }
+        | Event::Frame { .. }
+        | Event::Tick { .. }
+        | Event::Away { .. }
+        | Event::Stop { .. }
+        | Event::Start { .. } => None,
+    }
+}
+
+/// The seat of which the node has no session any more once it was given this.
+fn seat_left(event: &Event) -> Option<u8>
+    ensures { result ≡ seat_left event.now }
+{
+    match event {
+        Event::Drop { node: _, seat } => Some(*seat),
+        Event::Connect { .. }
+        | Event::Line { .. }
         | Event::Frame { .. }
         | Event::Tick { .. }
         | Event::Away { .. }
@@ -179,9 +200,24 @@ impl<D: Disk + Drop, W: Wire + Drop> Desk<D, W> {
     pub(crate) fn refuse(&mut self, event: &Event)
         ensures kept { IsKept W.Wire self.old self.new }
         ensures refuses { Refuses event.now self.old.sittings self.new.sittings }
+        ensures free { IsFree (seat_in event.now) self.new.seats.seats.items }
     {
         match seat_of(event) {
             Some(seat) => self.hang_up(seat),
+            None => (),
+        }
+    }
+
+    /// The node was given this: where it is the end of a seat nobody sits there any more.
+    pub(crate) fn part_from(&mut self, event: &Event)
+        ensures kept { IsKept W.Wire self.old self.new }
+        ensures sittings { self.new.sittings ≡ self.old.sittings }
+        ensures free { IsFree (seat_left event.now) self.new.seats.seats.items }
+    {
+        match seat_left(event) {
+            Some(seat) => {
+                let _ = self.seats.hang_up(&mut self.wire, seat);
+            }
             None => (),
         }
     }
@@ -196,7 +232,7 @@ impl<D: Disk + Drop, W: Wire + Drop> Desk<D, W> {
         let now = self.wire.now();
         send_all(self.member.made(), &mut self.company, now);
         show_all(self.member.made(), &mut self.wire, &mut self.log_failed);
-        tell_all(&self.member, &mut self.seats)
+        tell_all(&self.member, &mut self.seats, self.apart.is_apart())
     }
 
     /// Peers are told from now on what the node has promised.
@@ -274,6 +310,33 @@ impl<D: Disk + Drop, W: Wire + Drop> Desk<D, W> {
         notice
     }
 
+    /// Takes the next one who came to a seat's port and hasn't shown its token. At closed seats, a bit each, nobody is taken in.
+    pub(crate) fn next_caller(&mut self, seat: u8, closed: u16, now: u64) -> Called
+        ensures closed { KeepsClosed closed result.notice }
+        ensures takes { Takes D.Disk (incoming_by result.notice) (served_by W.Wire self.old) (served_by W.Wire self.new) }
+        ensures piece { (number most : ℕ) → IsPieceOf number most result.notice }
+    {
+        let called = self.seats.next_caller(&mut self.wire, seat, closed, now);
+        note_gone(&called.notice, &mut self.sittings);
+        called
+    }
+
+    /// More came to a seat's port than are taken of it in a turn.
+    pub(crate) fn crowd(&mut self, seat: u8, now: u64)
+        ensures { IsKept W.Wire self.old self.new }
+    {
+        self.seats.crowd(seat, now);
+    }
+
+    /// The node is apart from now on, or isn't.
+    pub(crate) fn set_apart(&mut self, is_apart: bool)
+        ensures kept { IsKept W.Wire self.old self.new }
+        ensures only { self.new.apart.is_apart ≡ true → is_apart ≡ true }
+        ensures seats { self.new.seats ≡ self.old.seats }
+    {
+        self.apart.set(is_apart);
+    }
+
     /// The wires.
     pub(crate) fn wire_mut(&mut self) -> &mut W {
         &mut self.wire
@@ -312,16 +375,17 @@ impl<D: Disk + Drop, W: Wire + Drop> Desk<D, W> {
         }
     }
 
-    /// Tells the bot of a seat what there is to tell. False without memory for that.
+    /// Tells the bot of a seat what there is to tell. False where it is to be let go of.
     fn tell_bot(&mut self, seat: u8) -> bool
         ensures kept { IsKept W.Wire self.old self.new }
         ensures served { result ≡ true → IsServedAt D.Disk (look_of self.old.member.station) seat (bot_at self.new.seats.seats.items seat) (waits_at self.new.seats.seats.items seat) }
         ensures others { KeepsOtherBots seat self.old.seats.seats.items self.new.seats.seats.items }
     {
-        tell_bot(&self.member, &mut self.seats, seat)
+        tell_bot(&self.member, &mut self.seats, seat, self.apart.is_apart())
     }
 
-    /// The same. A bot that something can't be told, for want of memory, is let go of.
+    /// The same. A bot that something can't be told, for want of memory, is let go of; and where the node is apart one that named
+    /// the version without `#RESUME`.
     fn tell_seat(&mut self, seat: u8)
         ensures kept { IsKept W.Wire self.old self.new }
         ensures served { IsServedAt D.Disk (look_of self.old.member.station) seat (bot_at self.new.seats.seats.items seat) (waits_at self.new.seats.seats.items seat) }
@@ -332,7 +396,7 @@ impl<D: Disk + Drop, W: Wire + Drop> Desk<D, W> {
         }
     }
 
-    /// Tells seats what there is to tell. A bot that something can't be told, for want of memory, is let go of.
+    /// Tells seats what there is to tell, or to come again later, as `tell_seat` does.
     pub(crate) fn tell_seats(&mut self)
         ensures kept { IsKept W.Wire self.old self.new }
         ensures served { AreServed D.Disk (look_of self.new.member.station) self.new.seats.seats.items }
@@ -358,7 +422,14 @@ impl<D: Disk + Drop, W: Wire + Drop> Desk<D, W> {
                 self.sittings.let_go(seat);
                 true
             }
-            _ => false,
+            // A write takes nobody in; who came by one would be nobody to the node.
+            Some(SeatNotice::Came { seat }) => {
+                let _ = self.seats.hang_up(&mut self.wire, seat);
+                false
+            }
+            Some(SeatNotice::Piece { .. }) => false,
+            Some(SeatNotice::Refused { .. }) => false,
+            None => false,
         }
     }
 

@@ -1,14 +1,29 @@
 //! The times of a node's process, each in this one place. Times are whole microseconds.
 
-/// Calls of the node take so long in a turn at most, and the one that was begun then; the rest of what came waits for the
-/// next turn.
+/// What peers told is taken for so long in a turn at most, and what was begun then; the rest waits for the next turn. One thing is taken
+/// in any case.
 pub const CALLS: u64 = 20_000;
+
+/// So many things are taken in any case where each behind the first costs no sync, so that a process that gets little of a processor
+/// keeps up with what well peers send it.
+pub const LEAST_TAKEN: u64 = 4;
+
+/// In so many turns all that lay at the seats when the process woke is read, of each one thing a turn: more than a bot sends ahead, and
+/// all who wait at a port.
+pub const LOOKS: u8 = 64;
+
+/// So long one who came to a seat's port, or who dialled, takes at most until it counts as sleep of the process.
+pub const CALLER: u64 = 500;
 
 /// What a call, or a wait beyond what was asked for, takes longer than this isn't counted as the peers' silence.
 pub const LONG: u64 = 50_000;
 
-/// So long a node is without a quorum until its seats are let go of, so that their bots go elsewhere.
+/// So long a node is without a quorum until it is apart: who sits is told to come again later, and let go of, so that bots go
+/// elsewhere.
 pub const HANG_UP: u64 = 300_000;
+
+/// A node that is apart looks so often at least for how long bots sit there.
+pub const APART: u64 = 100_000;
 
 /// The match is over here, and the connections that are open have been so, for this long at least when the process ends:
 /// beats that say so have gone to all peers by then.
@@ -38,6 +53,12 @@ pub const LINE_AHEAD: u32 = 64;
 
 /// Once so long has passed it is told which seats haven't come yet, and again each time that so long has passed.
 pub const MISSING: u64 = 60_000_000;
+
+/// Once so long has passed it is told which peers are far behind, and again each time that so long has passed.
+pub const BEHIND: u64 = 60_000_000;
+
+/// A peer that is so many commands behind is far behind: more than a ballot proposes ahead.
+pub const FAR: u32 = 65;
 
 /// The most nodes of a match.
 pub const NODES: usize = clockwork::limits::MOST_PEERS + 1;

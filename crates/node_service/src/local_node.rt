@@ -9,11 +9,10 @@ ghost use Rattle.node_rules.specs.Seats.{session_at};
 ghost use Rattle.stations.specs.Stations.{Acts};
 ghost use Rattle.node_service.specs.Bots.{OfTable};
 ghost use Rattle.node_service.specs.declared.limits.TheConstants.{SEATS as COUNT};
-ghost use Rattle.node_service.specs.Calling.{MayBeGiven};
-ghost use Rattle.node_service.specs.Called.{started_by, started_after, Calls};
+ghost use Rattle.node_service.specs.Calling.{MayBeGiven, started_by, started_after};
 ghost use Rattle.node_service.specs.Sittings.{IsGivenBy};
 ghost use Rattle.dealer_node.specs.Taking.{TakesDown};
-ghost use Rattle.node_service.specs.Ending.{EndsBy, IsNeeded, IsRefusal, IsFaultAfter, IsOverAt};
+ghost use Rattle.node_service.specs.Ending.{is_needed, takes_down, is_meant, EndsBy, IsNeededAfter, IsRefusal, IsFaultAfter, IsOverAt};
 
 use crate::desk::Desk;
 use crate::server::NodeServer;
@@ -31,10 +30,13 @@ pub struct LocalNode<D: Disk + Drop> {
     made: Out,
     /// It was started, which happens once.
     is_started: bool,
-    /// The fault that ends its process: the one by which the first such call was answered.
+    /// The fault that ends its process: the one by which the first such call was answered; and whether that call was a start, or the
+    /// end of a seat.
     fault: Option<NodeFault>,
+    was_needed: bool,
     /// By what terms its match is played.
     terms: Terms,
+    ghost meant: { is_meant was_needed fault ≡ true },
 }
 
 /// By hand, so that letting one go is one call for whoever owns it (docs/ARCHITECTURE.md, Habits).
@@ -45,6 +47,7 @@ impl<D: Disk + Drop> Drop for LocalNode<D> {
             made: _,
             is_started: _,
             fault: _,
+            was_needed: _,
             terms: _,
         } = self;
     }
@@ -80,7 +83,7 @@ fn is_started_by(event: &Event, is_started: bool) -> bool
 
 /// Whether this is a start, or the end of a seat.
 fn is_needed(event: &Event) -> bool
-    ensures { IsNeeded event.now → result ≡ true }
+    ensures { result ≡ is_needed event.now }
 {
     match event {
         Event::Start { .. } | Event::Drop { .. } => true,
@@ -95,7 +98,9 @@ fn is_needed(event: &Event) -> bool
 
 /// Whether a call that was answered by this fault took the node down.
 fn takes_down(fault: NodeFault) -> bool
-    ensures { TakesDown (Err fault) → result ≡ true }
+    ensures value { result ≡ takes_down fault }
+    ensures down { TakesDown (Err fault) → result ≡ true }
+    ensures only { result ≡ true → TakesDown (Err fault) }
 {
     match fault {
         NodeFault::Store(_) | NodeFault::Conflict => true,
@@ -112,6 +117,8 @@ fn takes_down(fault: NodeFault) -> bool
 fn ending_fault(event: &Event, answer: Result<(), NodeFault>) -> Option<NodeFault>
     ensures answered { IfSome result (λ fault. answer ≡ Err fault) }
     ensures ends { EndsBy event.now (Some answer) → IsSome result }
+    ensures only { IsSome result → EndsBy event.now (Some answer) }
+    ensures meant { is_meant (is_needed event.now) result ≡ true }
 {
     match answer {
         Ok(()) => None,
@@ -139,8 +146,8 @@ impl<D: Disk + Drop> LocalNode<D> {
             made: Out::new(alloc),
             is_started: false,
             fault: None,
+            was_needed: false,
             terms: Terms {
-                nodes: 0,
                 patience: None,
                 start: 0,
                 gives_up: false,
@@ -151,7 +158,12 @@ impl<D: Disk + Drop> LocalNode<D> {
 
     /// The same by these terms of its match.
     pub(crate) fn under(self, terms: Terms) -> LocalNode<D>
-        ensures { result ≡ record self { terms = terms } }
+        ensures station { result.station ≡ self.station }
+        ensures made { result.made ≡ self.made }
+        ensures started { result.is_started ≡ self.is_started }
+        ensures fault { result.fault ≡ self.fault }
+        ensures needed { result.was_needed ≡ self.was_needed }
+        ensures terms { result.terms ≡ terms }
     {
         let mut member = self;
         member.terms = terms;
@@ -170,7 +182,8 @@ impl<D: Disk + Drop> LocalNode<D> {
     fn step(&mut self, event: &Event) -> Option<Result<(), NodeFault>>
         requires { MayBeGiven self.old.is_started event.now }
         ensures started { self.new.is_started ≡ started_after event.now result self.old.is_started }
-        ensures fault { IsFaultAfter self.old.fault result self.new.fault }
+        ensures fault { IsFaultAfter event.now self.old.fault result self.new.fault }
+        ensures needed { IsNeededAfter event.now self.old.was_needed result self.new.was_needed }
         ensures ends { EndsBy event.now result → IsSome self.new.fault }
         ensures terms { self.new.terms ≡ self.old.terms }
         ensures acts { IfSome result (λ answer. Acts D.Disk event.now self.new.made answer (look_of self.old.station) (look_of self.new.station)) }
@@ -191,14 +204,25 @@ impl<D: Disk + Drop> LocalNode<D> {
 
     /// An event was answered so: a fault that ends the process is noted, unless one was before.
     fn note_fault(&mut self, event: &Event, answer: Result<(), NodeFault>)
-        ensures same { self.new ≡ record self.old { fault = self.new.fault } }
-        ensures fault { IsFaultAfter self.old.fault (Some answer) self.new.fault }
+        ensures same { self.new ≡ record self.old { fault = self.new.fault; was_needed = self.new.was_needed; meant = self.new.meant } }
+        ensures fault { IsFaultAfter event.now self.old.fault (Some answer) self.new.fault }
+        ensures needed { IsNeededAfter event.now self.old.was_needed (Some answer) self.new.was_needed }
         ensures ends { EndsBy event.now (Some answer) → IsSome self.new.fault }
     {
-        if self.fault.is_none() {
-            self.fault = ending_fault(event, answer);
+        if self.fault.is_some() {
+            return;
+        }
+        if let Some(fault) = ending_fault(event, answer) {
+            self.was_needed = is_needed(event);
+            self.fault = Some(fault);
         }
     }
+
+    /// What holds of the fault that ends its process: the call that it answered took the node down, or was a start, or the end of a
+    /// seat.
+    pub(crate) fn limits(&self)
+        ensures { is_meant self.now.was_needed self.now.fault ≡ true }
+    {}
 
     /// The fault that ends its process, once there is one.
     pub(crate) fn ending_fault(&self) -> Option<NodeFault>
@@ -279,6 +303,7 @@ impl<D: Disk + Drop> LocalNode<D> {
 
 impl<D: Disk + Drop, W: Wire + Drop> Desk<D, W> {
     ghost use Rattle.node_service.specs.Arriving.{taken_for};
+    ghost use Rattle.node_service.specs.Called.{Calls};
     ghost use Rattle.node_service.specs.Desks.{served_by};
     ghost use Rattle.node_service.specs.Going.{Does};
 
@@ -300,6 +325,7 @@ impl<D: Disk + Drop, W: Wire + Drop> Desk<D, W> {
             self.refuse(event);
             return answer;
         }
+        self.part_from(event);
         self.sittings.settle(event);
         self.hang_up_all(deaf);
         answer
@@ -308,6 +334,7 @@ impl<D: Disk + Drop, W: Wire + Drop> Desk<D, W> {
 
 impl<D: Disk + Drop, W: Wire + Drop> NodeServer<D, W> {
     ghost use Rattle.node_service.specs.Arriving.{taken_for};
+    ghost use Rattle.node_service.specs.Called.{Calls};
     ghost use Rattle.node_service.specs.Going.{Does};
     ghost use Rattle.node_service.specs.Knowing.{MayCall};
     ghost use Rattle.node_service.specs.Serving.{served_of};

@@ -4,12 +4,13 @@ ghost use Rattle.std.specs.Prelude.{◌≡◌, ◌<◌};
 ghost use Rattle.node_service.specs.declared.limits.TheConstants.{SEATS as COUNT};
 ghost use Rattle.node_service.specs.Knowing.{seat_to_act};
 
-use crate::limits::SEATS;
+use crate::limits::{FAR, SEATS};
 use crate::local_node::LocalNode;
 use crate::server::NodeServer;
 use crate::server_notice::ServerNotice;
 use clockwork::Seen;
 use node_links::OwnReport;
+use node_peers::Lag;
 use node_wires::Wire;
 use paxos_wire::Ballot;
 use promise_store::Disk;
@@ -141,12 +142,68 @@ impl<D: Disk + Drop, W: Wire + Drop> NodeServer<D, W> {
         }
     }
 
-    /// The same of each seat.
-    pub(crate) fn note_wrong_tokens(&mut self, now: u64)
+    /// Tells how many who came to a seat were closed for want of a place, where that is to be told now. Without memory it is told
+    /// later.
+    fn note_turned_away(&mut self, seat: u8, now: u64)
+        requires { seat < COUNT }
+        ensures { IsKept W.Wire self.old.desk self.new.desk }
+    {
+        let so_far = self.desk.seats.turned_away(seat);
+        let count = self.turned_away.due(seat, so_far, now);
+        if count == 0 {
+            return;
+        }
+        let is_told = self
+            .desk
+            .company
+            .tell(ServerNotice::TurnedAway { seat, count });
+        if is_told {
+            self.turned_away.tell(seat, so_far, now);
+        }
+    }
+
+    /// Tells of each seat who came to it without its token, and who found no place.
+    pub(crate) fn note_callers(&mut self, now: u64)
         ensures { IsKept W.Wire self.old.desk self.new.desk }
     {
         for seat in 0..SEATS {
             self.note_wrong_token(seat, now);
+            self.note_turned_away(seat, now);
+        }
+    }
+
+    /// Tells that a peer is far behind, if it is. It says whether it is.
+    fn note_behind_at(&mut self, peer: u8, now: u64) -> bool
+        ensures { IsKept W.Wire self.old.desk self.new.desk }
+    {
+        let Some(Lag { behind, slowest }) = self.desk.company.peers.lag(peer, now) else {
+            return false;
+        };
+        // What was applied within the last heartbeats isn't told by any yet: at most a quarter of what the last second had.
+        if behind.saturating_sub(self.rate.last / 4) < FAR {
+            return false;
+        }
+        self.tell(ServerNotice::Behind {
+            peer,
+            behind,
+            slowest,
+        });
+        true
+    }
+
+    /// Tells which peers are far behind, where this node campaigns, once a minute.
+    pub(crate) fn note_behind(&mut self, now: u64)
+        ensures { IsKept W.Wire self.old.desk self.new.desk }
+    {
+        if !self.watch.seen.campaigns || !self.lasting.may_tell_behind(now) {
+            return;
+        }
+        let mut is_told = false;
+        for number in 0..self.nodes() {
+            is_told |= self.note_behind_at(number, now);
+        }
+        if is_told {
+            self.lasting.tell_behind(now);
         }
     }
 
@@ -159,7 +216,11 @@ impl<D: Disk + Drop, W: Wire + Drop> NodeServer<D, W> {
             front: seen.front,
             campaigns: seen.campaigns,
             over: seen.over,
-            seats: self.desk.seats.bits(),
+            seats: if self.desk.apart.is_apart() {
+                0
+            } else {
+                self.desk.seats.bits()
+            },
         };
         self.desk.speak(told, now);
     }

@@ -8,6 +8,8 @@ ghost use Rattle.stations.specs.Looking.{look_of};
 ghost use Rattle.slot_log.specs.Hand.{Match};
 ghost use Rattle.node_seats.specs.Seating.{bot_at, waits_at, KeepsOtherBots};
 ghost use Rattle.node_seats.specs.Telling.{IsToldAll};
+ghost use Rattle.node_service.specs.Apartness.{PutsOff};
+ghost use Rattle.node_service.specs.Seated.{SatBefore};
 ghost use Rattle.node_service.specs.Bots.{newest_place, IsRefusedBy, IsStart, IsBehindAll, KeepBots, HasBegun, IsToldOver, OfTable, IsServedAt};
 
 use crate::limits::SEATS;
@@ -120,11 +122,13 @@ pub(crate) fn is_behind<D: Disk + Drop>(member: &LocalNode<D>, seats: &Seats, se
 
 /// Where the bot of a seat isn't told lines yet, it is from the line on from which it asked to be; or it is told that there is no
 /// such line. False without memory for that.
-#[tactic(auto, using(crate::proofs::Bots::bots_still))]
+#[tactic(auto, using(crate::proofs::Bots::bots_still, crate::proofs::Apartness::none_put_off, crate::proofs::Seated::sat_still, crate::proofs::Seated::sat_said))]
 fn begin<D: Disk + Drop>(member: &LocalNode<D>, seats: &mut Seats, seat: u8) -> bool
     ensures bots { KeepBots D.Disk (look_of member.now.station) (look_of member.now.station) seats.old.seats.items seats.new.seats.items }
     ensures said { (passed : List Passage) → AreSaid passed seats.old.seats.items → AreSaid passed seats.new.seats.items }
+    ensures waits { PutsOff false seats.old.seats.items seats.new.seats.items }
     ensures guests { seats.new.guests ≡ seats.old.guests }
+    ensures sat { SatBefore seats.old.seats.items seats.new.seats.items }
     ensures begun { result ≡ true → OfTable D.Disk (look_of member.now.station) (λ table. seat < table.game.players → HasBegun table seat (bot_at seats.new.seats.items seat)) }
     ensures others { KeepsOtherBots seat seats.old.seats.items seats.new.seats.items }
 {
@@ -146,11 +150,13 @@ fn begin<D: Disk + Drop>(member: &LocalNode<D>, seats: &mut Seats, seat: u8) -> 
 
 /// Tells the bot of a seat that was told no line that the line that it named is none, where the table still hasn't it. False
 /// without memory for that.
-#[tactic(auto, using(crate::proofs::Bots::bots_still))]
+#[tactic(auto, using(crate::proofs::Bots::bots_still, crate::proofs::Apartness::none_put_off, crate::proofs::Seated::sat_still, crate::proofs::Seated::sat_said))]
 pub(crate) fn refuse<D: Disk + Drop>(member: &LocalNode<D>, seats: &mut Seats, seat: u8) -> bool
     ensures bots { KeepBots D.Disk (look_of member.now.station) (look_of member.now.station) seats.old.seats.items seats.new.seats.items }
     ensures said { (passed : List Passage) → AreSaid passed seats.old.seats.items → AreSaid passed seats.new.seats.items }
+    ensures waits { PutsOff false seats.old.seats.items seats.new.seats.items }
     ensures guests { seats.new.guests ≡ seats.old.guests }
+    ensures sat { SatBefore seats.old.seats.items seats.new.seats.items }
 {
     member.station().limits();
     let table = member.node().table();
@@ -189,7 +195,9 @@ fn has_line(table: &Table, seat: u8, named: &[u8]) -> bool
 fn tell<D: Disk + Drop>(member: &LocalNode<D>, seats: &mut Seats, seat: u8) -> bool
     ensures bots { KeepBots D.Disk (look_of member.now.station) (look_of member.now.station) seats.old.seats.items seats.new.seats.items }
     ensures said { (passed : List Passage) → AreSaid passed seats.old.seats.items → AreSaid passed seats.new.seats.items }
+    ensures waits { PutsOff false seats.old.seats.items seats.new.seats.items }
     ensures guests { seats.new.guests ≡ seats.old.guests }
+    ensures sat { SatBefore seats.old.seats.items seats.new.seats.items }
     ensures begun { (table : Match) → HasBegun table seat (bot_at seats.old.seats.items seat) → HasBegun table seat (bot_at seats.new.seats.items seat) }
     ensures told { result ≡ true → OfTable D.Disk (look_of member.now.station) (λ table. seat < table.game.players → IsToldAll table seat (bot_at seats.new.seats.items seat) (waits_at seats.new.seats.items seat)) }
     ensures others { KeepsOtherBots seat seats.old.seats.items seats.new.seats.items }
@@ -200,11 +208,13 @@ fn tell<D: Disk + Drop>(member: &LocalNode<D>, seats: &mut Seats, seat: u8) -> b
 
 /// Tells the bot of a seat that the match is over, where it is, all its lines were told, and the bot asked to be told from a line
 /// on. False without memory for that.
-#[tactic(auto, using(crate::proofs::Bots::bots_still))]
+#[tactic(auto, using(crate::proofs::Bots::bots_still, crate::proofs::Apartness::none_put_off, crate::proofs::Seated::sat_still, crate::proofs::Seated::sat_said))]
 fn end<D: Disk + Drop>(member: &LocalNode<D>, seats: &mut Seats, seat: u8) -> bool
     ensures bots { KeepBots D.Disk (look_of member.now.station) (look_of member.now.station) seats.old.seats.items seats.new.seats.items }
     ensures said { (passed : List Passage) → AreSaid passed seats.old.seats.items → AreSaid passed seats.new.seats.items }
+    ensures waits { PutsOff false seats.old.seats.items seats.new.seats.items }
     ensures guests { seats.new.guests ≡ seats.old.guests }
+    ensures sat { SatBefore seats.old.seats.items seats.new.seats.items }
     ensures begun { (table : Match) → HasBegun table seat (bot_at seats.old.seats.items seat) → HasBegun table seat (bot_at seats.new.seats.items seat) }
     ensures told { (table : Match) → IsToldAll table seat (bot_at seats.old.seats.items seat) (waits_at seats.old.seats.items seat) → IsToldAll table seat (bot_at seats.new.seats.items seat) (waits_at seats.new.seats.items seat) }
     ensures over { result ≡ true → OfTable D.Disk (look_of member.now.station) (λ table. seat < table.game.players → IsToldOver table seat (bot_at seats.new.seats.items seat)) }
@@ -227,12 +237,35 @@ fn end<D: Disk + Drop>(member: &LocalNode<D>, seats: &mut Seats, seat: u8) -> bo
     seats.part(seat, Parting::Over)
 }
 
-/// Tells the bot of a seat what there is to tell, where its session is ready. False without memory: then it is to be let go of.
-#[tactic(auto, using(crate::proofs::Bots::bots_still))]
-pub(crate) fn tell_bot<D: Disk + Drop>(member: &LocalNode<D>, seats: &mut Seats, seat: u8) -> bool
+/// Tells the bot of a seat to come again later, where it said `#RESUME`: its node is apart. False where it named the version
+/// without that, or without memory: then it is to be let go of.
+#[tactic(auto, using(crate::proofs::Bots::bots_still, crate::proofs::Apartness::none_put_off, crate::proofs::Seated::sat_still, crate::proofs::Seated::sat_said, crate::proofs::Owing::served_gone))]
+fn put_off<D: Disk + Drop>(member: &LocalNode<D>, seats: &mut Seats, seat: u8) -> bool
     ensures bots { KeepBots D.Disk (look_of member.now.station) (look_of member.now.station) seats.old.seats.items seats.new.seats.items }
     ensures said { (passed : List Passage) → AreSaid passed seats.old.seats.items → AreSaid passed seats.new.seats.items }
+    ensures waits { PutsOff true seats.old.seats.items seats.new.seats.items }
     ensures guests { seats.new.guests ≡ seats.old.guests }
+    ensures sat { SatBefore seats.old.seats.items seats.new.seats.items }
+    ensures served { result ≡ true → IsServedAt D.Disk (look_of member.now.station) seat (bot_at seats.new.seats.items seat) (waits_at seats.new.seats.items seat) }
+    ensures others { KeepsOtherBots seat seats.old.seats.items seats.new.seats.items }
+{
+    if seats.has_resumed(seat) {
+        return seats.part(seat, Parting::Wait);
+    }
+    if !member.is_connected(seat) {
+        return true;
+    }
+    !seats.sits(seat as usize)
+}
+
+/// Tells the bot of a seat what there is to tell, where its session is ready. False without memory: then it is to be let go of.
+#[tactic(auto, using(crate::proofs::Bots::bots_still, crate::proofs::Apartness::none_put_off, crate::proofs::Seated::sat_still, crate::proofs::Seated::sat_said))]
+fn tell_lines<D: Disk + Drop>(member: &LocalNode<D>, seats: &mut Seats, seat: u8) -> bool
+    ensures bots { KeepBots D.Disk (look_of member.now.station) (look_of member.now.station) seats.old.seats.items seats.new.seats.items }
+    ensures said { (passed : List Passage) → AreSaid passed seats.old.seats.items → AreSaid passed seats.new.seats.items }
+    ensures waits { PutsOff false seats.old.seats.items seats.new.seats.items }
+    ensures guests { seats.new.guests ≡ seats.old.guests }
+    ensures sat { SatBefore seats.old.seats.items seats.new.seats.items }
     ensures served { result ≡ true → IsServedAt D.Disk (look_of member.now.station) seat (bot_at seats.new.seats.items seat) (waits_at seats.new.seats.items seat) }
     ensures others { KeepsOtherBots seat seats.old.seats.items seats.new.seats.items }
 {
@@ -248,16 +281,46 @@ pub(crate) fn tell_bot<D: Disk + Drop>(member: &LocalNode<D>, seats: &mut Seats,
     end(member, seats, seat)
 }
 
-/// Tells the bots of all seats what there is to tell. It says which are to be let go of, a bit each.
-#[tactic(auto, using(crate::proofs::Bots::bots_still))]
-pub(crate) fn tell_all<D: Disk + Drop>(member: &LocalNode<D>, seats: &mut Seats) -> u16
+/// Tells the bot of a seat what there is to tell: lines, or where its node is apart to come again later. False where it is to be
+/// let go of.
+#[tactic(auto, using(crate::proofs::Apartness::none_in_any))]
+pub(crate) fn tell_bot<D: Disk + Drop>(
+    member: &LocalNode<D>,
+    seats: &mut Seats,
+    seat: u8,
+    is_apart: bool,
+) -> bool
     ensures bots { KeepBots D.Disk (look_of member.now.station) (look_of member.now.station) seats.old.seats.items seats.new.seats.items }
     ensures said { (passed : List Passage) → AreSaid passed seats.old.seats.items → AreSaid passed seats.new.seats.items }
+    ensures waits { PutsOff is_apart seats.old.seats.items seats.new.seats.items }
     ensures guests { seats.new.guests ≡ seats.old.guests }
+    ensures sat { SatBefore seats.old.seats.items seats.new.seats.items }
+    ensures served { result ≡ true → IsServedAt D.Disk (look_of member.now.station) seat (bot_at seats.new.seats.items seat) (waits_at seats.new.seats.items seat) }
+    ensures others { KeepsOtherBots seat seats.old.seats.items seats.new.seats.items }
+{
+    if is_apart {
+        put_off(member, seats, seat)
+    } else {
+        tell_lines(member, seats, seat)
+    }
+}
+
+/// Tells the bots of all seats what there is to tell. It says which are to be let go of, a bit each.
+#[tactic(auto, using(crate::proofs::Bots::bots_still, crate::proofs::Apartness::none_put_off, crate::proofs::Seated::sat_still, crate::proofs::Seated::sat_said))]
+pub(crate) fn tell_all<D: Disk + Drop>(
+    member: &LocalNode<D>,
+    seats: &mut Seats,
+    is_apart: bool,
+) -> u16
+    ensures bots { KeepBots D.Disk (look_of member.now.station) (look_of member.now.station) seats.old.seats.items seats.new.seats.items }
+    ensures said { (passed : List Passage) → AreSaid passed seats.old.seats.items → AreSaid passed seats.new.seats.items }
+    ensures waits { PutsOff is_apart seats.old.seats.items seats.new.seats.items }
+    ensures guests { seats.new.guests ≡ seats.old.guests }
+    ensures sat { SatBefore seats.old.seats.items seats.new.seats.items }
 {
     let mut failed = 0u16;
     for seat in 0..SEATS {
-        if !tell_bot(member, seats, seat) {
+        if !tell_bot(member, seats, seat, is_apart) {
             failed |= bit_of(seat);
         }
     }

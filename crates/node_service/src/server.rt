@@ -15,14 +15,16 @@ ghost use Rattle.node_service.specs.Called.{Calls};
 ghost use Rattle.node_service.specs.Ending.{is_well, IsFault, IsOverAt};
 ghost use Rattle.node_service.specs.Logging.{IsFresh, IsBegun, HasOneLog, IsAcceptedOver};
 ghost use Rattle.node_service.specs.Fitting.{Fits};
+ghost use Rattle.node_service.specs.Seated.{AreSomebody};
 ghost use Rattle.node_service.specs.declared.outcome.Outcome.TheVariants.{GoesOn as Further, Over as IsOver};
 
+use crate::apart::Apart;
 use crate::awaited_lines::AwaitedLines;
 use crate::company::Company;
 use crate::deals::read_deals;
 use crate::desk::Desk;
 use crate::lasting::Lasting;
-use crate::limits::NODES;
+use crate::limits::{CALLER, NODES};
 use crate::local_node::LocalNode;
 use crate::noting::seen_of;
 use crate::outcome::Outcome;
@@ -34,6 +36,8 @@ use crate::server_notice::ServerNotice;
 use crate::sitting::Sittings;
 use crate::terms::Terms;
 use crate::turn_timer::TurnTimer;
+use crate::turned_away::TurnedAway;
+use crate::unread::Unread;
 use crate::wrong_tokens::WrongTokens;
 use clockwork::limits::SHORTEST;
 use clockwork::{Opening, Waking, Watch};
@@ -62,12 +66,16 @@ pub struct NodeServer<D: Disk + Drop, W: Wire + Drop> {
     /// What is kept of each seat, and what the commands that the node applied say of its acts.
     pub(crate) seat_watches: SeatWatches,
     pub(crate) acts: SeatActs,
-    /// Since when anybody is played for, and what was heard since the process slept.
+    /// Since when anybody is played for, and what was heard and read since the process slept.
     pub(crate) opening: Opening,
     pub(crate) waking: Waking,
+    pub(crate) unread: Unread,
     pub(crate) rate: Rate,
-    /// What came of seats was read in this turn.
+    /// What came of seats was read in this turn, and at some seat's port more may be than were taken in it.
     pub(crate) has_read_seats: bool,
+    pub(crate) has_callers: bool,
+    /// Of these seats it was told that a bot sits there, a bit each.
+    pub(crate) seated: u16,
     /// How long a peer may be silent and still counts as present.
     pub(crate) silence: u64,
     /// When it was last looked at what is due; and by what was known then: whether the node learns what was chosen before, and
@@ -85,6 +93,7 @@ pub struct NodeServer<D: Disk + Drop, W: Wire + Drop> {
     pub(crate) leader: Option<Ballot>,
     pub(crate) is_started: bool,
     pub(crate) wrong_tokens: WrongTokens,
+    pub(crate) turned_away: TurnedAway,
     pub(crate) awaited_lines: AwaitedLines,
     /// The peers are those of another node: nothing is done.
     is_foreign: bool,
@@ -106,8 +115,11 @@ impl<D: Disk + Drop, W: Wire + Drop> Drop for NodeServer<D, W> {
             acts: _,
             opening: _,
             waking: _,
+            unread: _,
             rate: _,
             has_read_seats: _,
+            has_callers: _,
+            seated: _,
             silence: _,
             looked: _,
             replays: _,
@@ -119,6 +131,7 @@ impl<D: Disk + Drop, W: Wire + Drop> Drop for NodeServer<D, W> {
             leader: _,
             is_started: _,
             wrong_tokens: _,
+            turned_away: _,
             awaited_lines: _,
             is_foreign: _,
             is_over: _,
@@ -130,10 +143,10 @@ impl<D: Disk + Drop, W: Wire + Drop> NodeServer<D, W> {
     ghost use Rattle.node_service.specs.Desks.{IsKept};
     ghost use Rattle.node_service.specs.Going.{GoesOn, GoesOnWith, GoesOnToLife, Does};
     ghost use Rattle.node_service.specs.Turns.{IsTurnOf};
-    ghost use Rattle.node_service.specs.Serving.{served_of, told_in, station_of, outcome_in, ending_in, fault_in, look_in, nodes_of};
+    ghost use Rattle.node_service.specs.Serving.{served_of, told_in, station_of, outcome_in, ending_in, fault_in, heard_in, look_in, nodes_of};
     ghost use Rattle.node_service.specs.Meaning.{IsMeant, IsKnownEverywhere};
     ghost use Rattle.node_service.specs.Knowing.{MayCall, players_of};
-    ghost use Rattle.node_service.specs.Timing.{marked_at};
+    ghost use Rattle.node_service.specs.Timing.{marked_at, unread_at, with_callers};
 
     /// The process of this member, by these terms. Nothing is done yet. Where the peers are those of another node nothing ever
     /// is.
@@ -161,6 +174,7 @@ impl<D: Disk + Drop, W: Wire + Drop> NodeServer<D, W> {
         ensures further { (own_of peers).number ≡ (look_in result).number → member.fault ≡ None → outcome_in result ≡ Further }
         ensures started { (served_of result).started ≡ member.is_started }
         ensures fits { (look_in result).deeds ≡ [] → Fits (served_of result) }
+        ensures somebody { ((seat : ℕ) → bot_at seats.seats.items seat ≡ no_bot) → AreSomebody (served_of result) }
     {
         let now = wire.now();
         let seen = seen_of(&member);
@@ -177,6 +191,7 @@ impl<D: Disk + Drop, W: Wire + Drop> NodeServer<D, W> {
                 askers,
                 log_failed: false,
                 sittings: Sittings::new(),
+                apart: Apart::new(),
             },
             watch: Watch::new(seen, now),
             reports: PeerReports::new(),
@@ -186,8 +201,11 @@ impl<D: Disk + Drop, W: Wire + Drop> NodeServer<D, W> {
             acts,
             opening: Opening::new(),
             waking: Waking::new(),
+            unread: Unread::new(),
             rate: Rate::new(seen.front, now),
             has_read_seats: false,
+            has_callers: false,
+            seated: 0,
             silence: SHORTEST,
             looked: now,
             replays: false,
@@ -199,6 +217,7 @@ impl<D: Disk + Drop, W: Wire + Drop> NodeServer<D, W> {
             leader: None,
             is_started: false,
             wrong_tokens: WrongTokens::new(),
+            turned_away: TurnedAway::new(),
             awaited_lines: AwaitedLines::new(),
             is_foreign,
             is_over: false,
@@ -245,7 +264,8 @@ impl<D: Disk + Drop, W: Wire + Drop> NodeServer<D, W> {
     pub(crate) fn nodes(&self) -> u8
         ensures { result ≡ nodes_of self.now }
     {
-        self.desk.member.terms().nodes.min(NODES as u8)
+        let nodes = self.desk.member.station().config().nodes();
+        nodes.min(NODES) as u8
     }
 
     /// How many seats the match has, as many as there may be at most.
@@ -263,6 +283,19 @@ impl<D: Disk + Drop, W: Wire + Drop> NodeServer<D, W> {
         ensures { W.passed result.now ≡ (served_of self.now).passed }
     {
         &self.desk.wire
+    }
+
+    /// How many of those who dialled this node so far left, or were let go of, before they were there, without a fault to tell.
+    pub fn unheard(&self) -> u64 {
+        self.desk.company.peers.unheard()
+    }
+
+    /// The greatest ballot that a peer is known to have promised, as it told or as was known when this process began; none of a number
+    /// that no node has.
+    pub fn heard(&self, peer: u8) -> Option<Ballot>
+        ensures { result ≡ heard_in self.now peer }
+    {
+        self.desk.company.peers.heard(peer)
     }
 
     /// When the process last left a turn, in microseconds of its wires' clock; before the first turn, when it began.
@@ -308,6 +341,9 @@ impl<D: Disk + Drop, W: Wire + Drop> NodeServer<D, W> {
         if company.is_replaced() {
             return Outcome::StoreReplaced;
         }
+        if company.is_older() {
+            return Outcome::StoreOlder;
+        }
         if company.is_life_lost() {
             return Outcome::Failed(NodeFault::OutOfMemory);
         }
@@ -339,6 +375,7 @@ impl<D: Disk + Drop, W: Wire + Drop> NodeServer<D, W> {
         ensures further { result ≡ Further → (ending_in self.now ≡ Further) × (is_over ≡ false) }
         ensures fault { IsFault result → IsMeant self.now result }
     {
+        self.desk.member.limits();
         let runs = self.desk.member.node().running();
         match self.ending() {
             Outcome::GoesOn if !runs => Outcome::Failed(NodeFault::Down),
@@ -353,6 +390,7 @@ impl<D: Disk + Drop, W: Wire + Drop> NodeServer<D, W> {
         ensures log { is_well result ≡ true → self.now.desk.log_failed ≡ false }
         ensures runs { is_well result ≡ true → runs (look_in self.now).node ≡ true }
         ensures over { result ≡ IsOver → IsOverAt D.Disk (look_in self.now).node }
+        ensures behind { result ≡ IsOver → ending_in self.now ≡ Further }
         ensures fault { outcome_in self.now ≡ Further → IsFault result → IsMeant self.now result }
     {
         if self.is_over && !self.desk.member.is_over() {
@@ -406,6 +444,7 @@ impl<D: Disk + Drop, W: Wire + Drop> NodeServer<D, W> {
     pub(crate) fn mark(&mut self, now: u64, most: u64)
         ensures kept { self.new.desk ≡ self.old.desk }
         ensures waking { self.new.waking ≡ marked_at self.old now most }
+        ensures unread { self.new.unread ≡ unread_at self.old now most }
         ensures marked { self.new.marked ≡ now }
         ensures in_calls { self.new.in_calls ≡ 0 }
     {
@@ -414,6 +453,8 @@ impl<D: Disk + Drop, W: Wire + Drop> NodeServer<D, W> {
         let stood = self.stood();
         self.waking.stand(stood);
         self.waking.pass(lost);
+        self.unread.pass(lost);
+        self.watch.pass(lost, now);
         self.marked = now;
         self.in_calls = 0;
     }
@@ -432,12 +473,39 @@ impl<D: Disk + Drop, W: Wire + Drop> NodeServer<D, W> {
         now
     }
 
+    /// How many dialled so far, whoever they are: turned away or taken in.
+    fn callers(&self) -> u64 {
+        let turned_away = self.desk.wire.turned_away();
+        turned_away.saturating_add(self.desk.company.peers.callers())
+    }
+
+    /// What so many took who came to ports isn't sleep, up to `CALLER` each; nor is so much that wasn't before.
+    pub(crate) fn note_busy(&mut self, in_calls: u64, callers: u64, took: u64)
+        ensures kept { self.new.desk ≡ self.old.desk }
+        ensures in_calls { self.new.in_calls ≡ with_callers in_calls callers took }
+    {
+        let busy = took.min(callers.saturating_mul(CALLER));
+        self.in_calls = in_calls.saturating_add(busy);
+    }
+
+    /// Takes what peers sent, and dials those that are to be dialled. What it took since that moment isn't sleep, up to `CALLER` for
+    /// each who dialled meanwhile.
+    fn hear_peers(&mut self, begun: u64)
+        ensures { IsKept W.Wire self.old.desk self.new.desk }
+    {
+        let before = self.callers();
+        self.desk.hear(begun);
+        let came = self.callers().saturating_sub(before);
+        let now = self.desk.now();
+        self.note_busy(self.in_calls, came, now.saturating_sub(begun));
+    }
+
     /// How long the next turn may wait, where that is how long it is until a tick may be due. Not at all where something is
     /// left.
     pub(crate) fn rest(&self, is_all: bool, until_due: u64, now: u64) -> u64
         ensures { result ≤ LOOK }
     {
-        if !is_all || self.desk.sittings.first_let_go().is_some() {
+        if !is_all || self.has_callers || self.desk.sittings.first_let_go().is_some() {
             return 0;
         }
         until_due
@@ -465,7 +533,8 @@ impl<D: Disk + Drop, W: Wire + Drop> NodeServer<D, W> {
     }
 
     /// One turn: waits for so many microseconds at most, takes what came, and does what is due. It answers what is left to
-    /// do, and how long the next turn may wait. Once the process is to end nothing is done.
+    /// do, and how long the next turn may wait. Once the process is to end nothing is done, nor before its node runs: so nothing is said
+    /// to peers before that.
     ///
     /// What peers told is taken first, and then of each seat one thing at most: a bot that comes, or a piece of 512 bytes at most. Behind
     /// what is due, where all of peers was taken, one frame of a peer at most that was set aside: it may cost syncs.
@@ -481,11 +550,13 @@ impl<D: Disk + Drop, W: Wire + Drop> NodeServer<D, W> {
         ensures log { is_well result.0 ≡ true → (served_of self.new).log_failed ≡ false }
         ensures runs { is_well result.0 ≡ true → runs (look_in self.new).node ≡ true }
         ensures over { result.0 ≡ IsOver → IsOverAt D.Disk (look_in self.new).node }
+        ensures behind { result.0 ≡ IsOver → ending_in self.new ≡ Further }
         ensures known { outcome_in self.old ≡ Further → result.0 ≡ IsOver → IsKnownEverywhere self.new self.new.left }
         ensures further { result.0 ≡ Further → outcome_in self.new ≡ Further }
         ensures fault { outcome_in self.old ≡ Further → IsFault result.0 → IsMeant self.new result.0 }
         ensures wait { result.1 ≤ LOOK }
         ensures served { result.0 ≡ Further → AreServed D.Disk (look_in self.new) (served_of self.new).bots }
+        ensures down { runs (look_in self.old).node ≡ false → self.new ≡ self.old }
         ensures ended { (outcome_in self.old ≡ Further → ⊥) → self.new ≡ self.old }
     {
         let outcome = self.outcome();
@@ -509,11 +580,12 @@ impl<D: Disk + Drop, W: Wire + Drop> NodeServer<D, W> {
         // Nobody follows those who sit there now within this turn, nor one another.
         let closed = self.desk.seats.taken_bits();
         let begun = self.wait(most);
-        self.desk.hear(begun);
+        self.hear_peers(begun);
         // What beats told is older than what the frames behind them say.
         self.look(begun);
-        let (is_read, is_all) = self.take_all(alloc, closed, begun);
-        self.note_wrong_tokens(begun);
+        let taking = self.desk.now();
+        let (is_read, is_all) = self.take_all(alloc, closed, taking);
+        self.note_callers(begun);
         if self.ending() != Outcome::GoesOn {
             self.part();
             return (false, 0);
@@ -523,6 +595,7 @@ impl<D: Disk + Drop, W: Wire + Drop> NodeServer<D, W> {
         let now = self.desk.now();
         self.note_waiting(now);
         self.note_missing(now);
+        self.note_behind(now);
         self.look_at_lines(now);
         let is_asked = self.answer_askers(alloc, now);
         let over = self.finish(is_all, now);
@@ -530,7 +603,7 @@ impl<D: Disk + Drop, W: Wire + Drop> NodeServer<D, W> {
         // Whoever was behind has room for more now.
         let owes_lines = self.owes_lines();
         self.desk.tell_seats();
-        self.note_read(is_all, now);
+        self.note_read(is_read, is_all, now);
         self.left = now;
         let is_over = self.is_done(over, now);
         // Behind a frame that was set aside something else may be due.

@@ -57,7 +57,7 @@ pub enum ServerNotice {
         there: u32,
         here: u32,
     },
-    /// A bot sits at a seat.
+    /// A bot sits at a seat; it isn't told where that is to come again later.
     Seated {
         seat: u8,
     },
@@ -78,6 +78,19 @@ pub enum ServerNotice {
         count: u32,
         source: Option<IpAddr>,
     },
+    /// So many who came to a seat's port since this was last told of it were closed, since there was no place for them. It is told
+    /// once a second at most.
+    TurnedAway {
+        seat: u8,
+        count: u32,
+    },
+    /// This node campaigns, and a peer is so many commands behind it; its slowest answer took so many microseconds lately. It is told
+    /// once a minute at most.
+    Behind {
+        peer: u8,
+        behind: u32,
+        slowest: u64,
+    },
     /// The bot of a seat named a line that is none of this seat in this match: it is told so, and let go of.
     OtherLine {
         seat: u8,
@@ -96,7 +109,7 @@ pub enum ServerNotice {
     },
     /// The node and the peers that it hears are more than half of all nodes.
     Quorum,
-    /// They have not been for a while: the seats are let go of, and nobody is seated.
+    /// They have not been for a while: the bots of seats are told to come again later, and let go of.
     QuorumLost,
     /// This node campaigns in a ballot, where another node did so last, or none.
     Campaigns {

@@ -25,11 +25,11 @@ impl<D: Disk + Drop, W: Wire + Drop> NodeServer<D, W> {
         view.is_open && is_heard(view.heard, now, self.silence)
     }
 
-    /// Whether a bot sits here at a seat that doesn't still wait for the line that it named.
+    /// Whether a bot sits here at a seat that doesn't still wait for the line that it named; at a node that is apart none does.
     pub(crate) fn sits_here(&self, seat: u8) -> bool
         ensures { result ≡ sits_here self.now seat }
     {
-        seat < SEATS && self.desk.seats.is_here(seat as usize)
+        seat < SEATS && !self.desk.apart.is_apart() && self.desk.seats.is_here(seat as usize)
     }
 
     /// Whether one does at the peer of this number, as far as that is there and has told.

@@ -8,22 +8,25 @@ ghost use Rattle.node_wires.specs.declared.line.Line.TheVariants.{Seat};
 ghost use Rattle.node_service.specs.Arriving.{OfSeat, OfPeer, incoming_of};
 ghost use Rattle.node_service.specs.Telling.{told_of};
 ghost use Rattle.node_service.specs.declared.limits.TheConstants.{SEATS as COUNT};
+ghost use Rattle.node_service.specs.Taking.{least_of, is_enough};
 ghost use Rattle.node_service.specs.Turns.{Counts, IsFirstOf};
 ghost use Rattle.node_service.specs.Company.{TellsLife};
 ghost use Rattle.node_peers.specs.Hearing.{IsTold};
 ghost use Rattle.node_peers.specs.Peering.{own_of, passed_of};
 ghost use Rattle.node_peers.specs.declared.notice.Notice.TheVariants.{Joined};
 
-use crate::limits::{CALLS, SEATS};
+use crate::limits::{CALLS, LEAST_TAKEN, SEATS};
 use crate::outcome::Outcome;
+use crate::seat_lines::bit_of;
 use crate::server::NodeServer;
 use crate::server_notice::{ServerNotice, Setting};
 use crate::sitting::Sitting;
 use dealer_world::Event;
 use node_links::{PeerFault, Settings};
 use node_peers::Notice;
-use node_seats::SeatNotice;
+use node_seats::{Called, Parting, SeatNotice};
 use node_wires::Wire;
+use node_wires::limits::TAKEN_AT_ONCE;
 use peer_codes::Life;
 use promise_store::Disk;
 use std::alloc::Global;
@@ -60,6 +63,40 @@ fn with_thing(taken: u16, notice: &SeatNotice) -> u16
     }
 }
 
+/// How many things are taken in any case, also by a process that lost its processor meanwhile: one, and up to four while the next
+/// one costs no sync.
+fn least_of(costs_no_sync: bool) -> u64
+    ensures { result ≡ least_of costs_no_sync }
+{
+    if costs_no_sync { LEAST_TAKEN } else { 1 }
+}
+
+/// Whether so many things that were taken since that moment are enough: they have taken their time.
+fn is_enough(taken: u64, costs_no_sync: bool, begun: u64, now: u64) -> bool
+    ensures { result ≡ is_enough taken costs_no_sync begun now }
+{
+    taken >= least_of(costs_no_sync) && now.saturating_sub(begun) >= CALLS
+}
+
+/// Whether something more of a seat may be there behind this. Behind one who is refused there is nothing.
+fn has_more(notice: &SeatNotice) -> bool {
+    match notice {
+        SeatNotice::Refused { .. } => false,
+        SeatNotice::Came { .. } | SeatNotice::Piece { .. } | SeatNotice::Gone { .. } => {
+            notice.may_have_more()
+        }
+    }
+}
+
+/// What was taken of those who came to a seat's port.
+#[derive(Clone, Copy)]
+pub(crate) enum Taker {
+    /// Nobody was there.
+    Nobody,
+    /// One was, and whether something more of the seat may be there now.
+    One { has_more: bool },
+}
+
 /// What was taken of what came.
 #[derive(Clone, Copy)]
 pub(crate) enum Taken {
@@ -75,7 +112,7 @@ impl<D: Disk + Drop, W: Wire + Drop> NodeServer<D, W> {
     ghost use Rattle.node_service.specs.Desks.{IsKept};
     ghost use Rattle.node_service.specs.Going.{Does, GoesOnWith};
     ghost use Rattle.node_service.specs.Taking.{StopsAtLife, TakesNext};
-    ghost use Rattle.node_service.specs.Turns.{AreRead, ComeOfSeatsBut, IsLate, IsNextBut, IsTurnBut};
+    ghost use Rattle.node_service.specs.Turns.{AreCallersBut, AreRead, ComeOfSeatsBut, IsLate, IsNextBut, IsTurnBut};
     ghost use Rattle.node_service.specs.Serving.{served_of};
 
     /// Takes what came: first what peers told, and then of each seat one thing at most, so that none that sends without end
@@ -92,13 +129,24 @@ impl<D: Disk + Drop, W: Wire + Drop> NodeServer<D, W> {
         (is_read, self.take_all_of_seats(closed))
     }
 
-    /// Takes what peers told, one thing after another, until calls have taken their time. It says whether nothing is left.
+    /// Whether what is taken next costs no sync: that a bot was let go of, or else what peers told.
+    fn costs_no_sync(&self) -> bool {
+        self.desk.sittings.first_let_go().is_some() || self.desk.company.peers.costs_no_sync()
+    }
+
+    /// Whether so many things that were taken of peers since that moment are enough for this turn.
+    fn has_taken_enough(&self, taken: u64, begun: u64, now: u64) -> bool {
+        is_enough(taken, self.costs_no_sync(), begun, now)
+    }
+
+    /// Takes what peers told, one thing after another, until calls have taken their time since that moment: one thing at least, and
+    /// up to four while the next one costs no sync. It says whether nothing is left.
     fn take_all_of_peers(&mut self, alloc: Global, begun: u64) -> bool
         ensures { GoesOnWith D.Disk (AreRead result) (served_of self.old) (served_of self.new) }
     {
-        for _ in 0..u64::MAX {
+        for taken in 0..u64::MAX {
             let now = self.desk.now();
-            if self.ending() != Outcome::GoesOn || now.saturating_sub(begun) >= CALLS {
+            if self.ending() != Outcome::GoesOn || self.has_taken_enough(taken, begun, now) {
                 return false;
             }
             match self.take_next(alloc) {
@@ -145,33 +193,98 @@ impl<D: Disk + Drop, W: Wire + Drop> NodeServer<D, W> {
         }
     }
 
-    /// Takes what came next of each seat, and of each guest: of a seat one thing at most. At closed seats nobody is taken in. It says
-    /// whether nothing is left: for a seat at which nobody was to be taken in any more, and nobody sits, somebody may wait.
+    /// Takes those who came to ports of seats with tokens, and then what came next of each seat, and of each guest: of a seat one
+    /// thing at most. At closed seats nobody is taken in. It says whether nothing is left: for a seat at which nobody was to be taken
+    /// in any more, and nobody sits, somebody may wait.
     fn take_all_of_seats(&mut self, closed: u16) -> bool
         ensures { GoesOnWith D.Disk (ComeOfSeatsBut closed) (served_of self.old) (served_of self.new) }
     {
         let now = self.desk.now();
-        let mut is_all = true;
+        let shut = closed | self.shut();
         let mut taken = 0u16;
+        let mut is_all = self.take_callers(shut, &mut taken, now);
         for at in 0..self.desk.seats.looks() {
             if self.ending() != Outcome::GoesOn {
                 return false;
             }
-            is_all &= self.take_next_of_seat(at, closed, &mut taken, now);
+            is_all &= self.take_next_of_seat(at, shut, &mut taken, now);
         }
         is_all &= (closed | taken) & !self.desk.seats.taken_bits() == 0;
         is_all
     }
 
-    /// Whether a seat, or who comes to one, is looked at. Whoever isn't here yet waits at the port until the node has a quorum
-    /// and has learned what was chosen before, so that he isn't told all lines of before; without a quorum for a while he is
-    /// turned away.
-    fn takes_in(&self, at: u8) -> bool {
-        match self.desk.sittings.at(at) {
-            Sitting::Here | Sitting::LetGo => true,
-            Sitting::Away => {
-                self.lasting.is_apart || (self.turn_timer.is_quorate && !self.replays)
+    /// The seats at which nobody is taken in now, a bit each: all of them until the node has a quorum and has learned what was
+    /// chosen before, so that nobody is told all lines of before; who comes waits so long. A node that is apart takes in who comes,
+    /// to tell him to come again later.
+    fn shut(&self) -> u16 {
+        let takes_in = self.lasting.is_apart || (self.turn_timer.is_quorate && !self.replays);
+        if takes_in { 0 } else { u16::MAX }
+    }
+
+    /// Takes those who came to the ports of all seats with tokens, as many of each as are taken in a turn. What time that takes isn't
+    /// sleep. It says whether nothing is left of those who were taken in.
+    fn take_callers(&mut self, closed: u16, taken: &mut u16, now: u64) -> bool
+        ensures { GoesOnWith D.Disk (AreCallersBut closed taken.old taken.new) (served_of self.old) (served_of self.new) }
+    {
+        let in_calls = self.in_calls;
+        let mut is_all = true;
+        let mut count = 0u64;
+        self.has_callers = false;
+        for seat in 0..SEATS {
+            is_all &= self.take_callers_of(seat, closed, taken, &mut count, now);
+        }
+        let took = self.desk.now().saturating_sub(now);
+        self.note_busy(in_calls, count, took);
+        is_all
+    }
+
+    /// The same of one seat. Where more are there that is noted.
+    fn take_callers_of(
+        &mut self,
+        seat: u8,
+        closed: u16,
+        taken: &mut u16,
+        count: &mut u64,
+        now: u64,
+    ) -> bool
+        ensures { GoesOnWith D.Disk (AreCallersBut closed taken.old taken.new) (served_of self.old) (served_of self.new) }
+    {
+        let mut is_all = true;
+        for _ in 0..TAKEN_AT_ONCE {
+            if self.ending() != Outcome::GoesOn {
+                return false;
             }
+            match self.take_caller(seat, closed, taken, now) {
+                Taker::Nobody => return is_all,
+                Taker::One { has_more } => is_all &= !has_more,
+            }
+            *count = count.saturating_add(1);
+        }
+        self.desk.crowd(seat, now);
+        self.has_callers = true;
+        is_all
+    }
+
+    /// Takes the next one who came to a seat's port. Where something was taken of the seat before, nobody is taken in there, as at a
+    /// closed one.
+    fn take_caller(&mut self, seat: u8, closed: u16, taken: &mut u16, now: u64) -> Taker
+        ensures { GoesOnWith D.Disk (AreCallersBut closed taken.old taken.new) (served_of self.old) (served_of self.new) }
+    {
+        let Called {
+            was_there,
+            notice,
+            ..
+        } = self.desk.next_caller(seat, closed | *taken, now);
+        match notice {
+            Some(told) => {
+                let has_more = has_more(&told);
+                *taken = with_thing(*taken, &told);
+                self.take_seat_notice(told);
+                self.leave_all();
+                Taker::One { has_more }
+            }
+            None if was_there => Taker::One { has_more: false },
+            None => Taker::Nobody,
         }
     }
 
@@ -180,15 +293,12 @@ impl<D: Disk + Drop, W: Wire + Drop> NodeServer<D, W> {
     fn take_next_of_seat(&mut self, at: u8, closed: u16, taken: &mut u16, now: u64) -> bool
         ensures { GoesOnWith D.Disk (IsNextBut at closed taken.old taken.new) (served_of self.old) (served_of self.new) }
     {
-        if !self.takes_in(at) {
-            return true;
-        }
         if has_bit(*taken, at) {
             return false;
         }
         match self.desk.next_of_seats(at, closed | *taken, now) {
             Some(notice) => {
-                let has_more = notice.may_have_more();
+                let has_more = has_more(&notice);
                 *taken = with_thing(*taken, &notice);
                 self.take_seat_notice(notice);
                 self.leave_all();
@@ -265,8 +375,8 @@ impl<D: Disk + Drop, W: Wire + Drop> NodeServer<D, W> {
         }
     }
 
-    /// A connection to a peer is closed by a fault. Where the peer keeps another life of this node's store, that ends the
-    /// process.
+    /// A connection to a peer is closed by a fault. Where the peer keeps another life of this node's store, or has heard of a greater
+    /// ballot than it promises, that ends the process.
     pub(crate) fn note_refused(&mut self, peer: u8, fault: PeerFault, source: Option<IpAddr>)
         ensures { IsKept W.Wire self.old.desk self.new.desk }
     {
@@ -352,21 +462,50 @@ impl<D: Disk + Drop, W: Wire + Drop> NodeServer<D, W> {
         let _ = self.call(&Event::Line { node, seat, bytes });
     }
 
-    /// A bot was taken in at a seat. Where the node has been without a quorum for a while it is turned away.
+    /// A bot was taken in at a seat.
     pub(crate) fn seat_bot(&mut self, seat: u8)
         ensures { Does D.Disk (OfSeat (Began (Seat seat)) ∷ []) (served_of self.old) (served_of self.new) }
     {
-        if self.lasting.is_apart {
+        let node = self.desk.member.number();
+        match self.call(&Event::Connect { node, seat }) {
+            Some(Ok(())) => self.note_seated(seat),
+            _ => self.desk.hang_up(seat),
+        }
+    }
+
+    /// A bot sits at a seat: that is told, and it counts as one that sits there, unless the node is apart.
+    fn note_seated(&mut self, seat: u8)
+        ensures { IsKept W.Wire self.old.desk self.new.desk }
+    {
+        if self.desk.apart.is_apart() {
+            return;
+        }
+        self.seat_watches.take(seat);
+        self.seated |= bit_of(seat);
+        self.tell(ServerNotice::Seated { seat });
+    }
+
+    /// The node isn't apart any more: who came meanwhile and was told nothing yet sits at a seat as if he came now, and who was told
+    /// to come again later is let go of.
+    fn note_joined_seat(&mut self, seat: u8)
+        ensures { IsKept W.Wire self.old.desk self.new.desk }
+    {
+        if self.desk.seats.parting(seat) == Some(Parting::Wait) {
             self.desk.hang_up(seat);
             return;
         }
-        let node = self.desk.member.number();
-        match self.call(&Event::Connect { node, seat }) {
-            Some(Ok(())) => {
-                self.seat_watches.take(seat);
-                self.tell(ServerNotice::Seated { seat });
-            }
-            _ => self.desk.hang_up(seat),
+        let is_new = self.seated & bit_of(seat) == 0;
+        if is_new && matches!(self.desk.sittings.at(seat), Sitting::Here) {
+            self.note_seated(seat);
+        }
+    }
+
+    /// The same of all seats.
+    pub(crate) fn note_joined_seats(&mut self)
+        ensures { IsKept W.Wire self.old.desk self.new.desk }
+    {
+        for seat in 0..SEATS {
+            self.note_joined_seat(seat);
         }
     }
 
@@ -376,6 +515,17 @@ impl<D: Disk + Drop, W: Wire + Drop> NodeServer<D, W> {
     {
         let node = self.desk.member.number();
         if let Some(Ok(())) = self.call(&Event::Drop { node, seat }) {
+            self.note_left(seat);
+        }
+    }
+
+    /// The bot of a seat is gone: that is told where it was told that it sat there.
+    fn note_left(&mut self, seat: u8)
+        ensures { IsKept W.Wire self.old.desk self.new.desk }
+    {
+        let was_told = self.seated & bit_of(seat) != 0;
+        self.seated &= !bit_of(seat);
+        if was_told {
             self.tell(ServerNotice::Left { seat });
         }
     }

@@ -3,8 +3,6 @@ use node_links::Settings;
 /// What a process is told of its match beside its node.
 #[derive(Clone, Copy, Debug)]
 pub struct Terms {
-    /// How many nodes the match has.
-    pub nodes: u8,
     /// How long a seat may hold the table, in whole microseconds, until it is played for, a day at most; without it nobody is.
     pub patience: Option<u64>,
     /// How long seats are waited for that haven't come yet, in whole microseconds, before anybody is played for.

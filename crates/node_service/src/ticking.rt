@@ -1,6 +1,6 @@
 //! When the node ticks, and when the seat to act is played for.
 
-ghost use Rattle.std.specs.Prelude.{◌≡◌, ◌≤◌, ◌<◌, [], None, IfSome, true};
+ghost use Rattle.std.specs.Prelude.{◌≡◌, ◌≤◌, ◌<◌, [], None, IfSome, true, false};
 ghost use Rattle.clockwork.specs.declared.limits.TheConstants.{LATEST as LAST, LONGEST_PATIENCE as LONGEST, MOST_PEERS as MOST, MOST_NODES as ALL};
 ghost use Rattle.node_service.specs.declared.limits.TheConstants.{SEATS as COUNT};
 ghost use Rattle.clockwork.specs.declared.answer.Due.TheVariants.{Now};
@@ -89,6 +89,7 @@ impl<D: Disk + Drop, W: Wire + Drop> NodeServer<D, W> {
     ghost use Rattle.node_service.specs.Others.{listed};
     ghost use Rattle.node_service.specs.Acts.{acts_at};
     ghost use Rattle.node_service.specs.Watching.{IsOfSeat};
+    ghost use Rattle.node_service.specs.Unread.{read_in, may_be_read};
     ghost use Rattle.node_service.specs.Timing.{marked_at, watch_given, timer_given, seen_below, seen_by, look_at, KeepsRest, LooksAtSeats, opened_at};
     ghost use Rattle.node_service.specs.Knowing.{is_owed_by, other_at, others_of, is_there, moment_of, IsTickDue, rank_for, seen_at, stood_of, awaited_of, expected_of, IsExpected, HasOwnAct, IsNobodyExpected, IsAwayDue};
 
@@ -272,13 +273,37 @@ impl<D: Disk + Drop, W: Wire + Drop> NodeServer<D, W> {
         }
     }
 
-    /// A turn ends: nothing is left to read, unless something is left of what came, or at a connection.
-    pub(crate) fn note_read(&mut self, is_all: bool, now: u64)
-        ensures { self.new.desk ≡ self.old.desk }
+    /// A turn ends in which all that peers told was taken, and of each seat what came next, or not.
+    fn count_turn(&mut self, is_read: bool)
+        ensures kept { self.new.desk ≡ self.old.desk }
+        ensures unread { self.new.unread ≡ read_in is_read self.old.unread }
+        ensures waking { self.new.waking ≡ self.old.waking }
     {
-        if is_all && self.desk.company.peers.wait(now) > 0 {
+        self.unread.read(is_read);
+    }
+
+    /// What came in a sleep was read, as far as it may be, where nothing of peers is left at a connection.
+    fn wake_up(&mut self, may_be_read: bool, now: u64)
+        ensures kept { self.new.desk ≡ self.old.desk }
+        ensures unread { self.new.unread ≡ self.old.unread }
+        ensures early { may_be_read ≡ false → self.new.waking ≡ self.old.waking }
+    {
+        if may_be_read && self.desk.company.peers.wait(now) > 0 {
             self.waking.read_all();
         }
+    }
+
+    /// A turn ends in which all that peers told was taken, and of each seat what came next, or not; and nothing is left of seats, or
+    /// something is. What came in a sleep is read where nothing is left of peers either, and of seats nothing is left, or so many such
+    /// turns have come since: so no seat that sends without end keeps the process from waking.
+    pub(crate) fn note_read(&mut self, is_read: bool, is_all: bool, now: u64)
+        ensures kept { self.new.desk ≡ self.old.desk }
+        ensures unread { self.new.unread ≡ read_in is_read self.old.unread }
+        ensures early { may_be_read is_all self.new.unread ≡ false → self.new.waking ≡ self.old.waking }
+    {
+        self.count_turn(is_read);
+        let may_be_read = self.unread.may_be_read(is_all);
+        self.wake_up(may_be_read, now);
     }
 
     /// What went by in this turn beyond what calls of the node took: where that is long the process slept.
@@ -370,6 +395,7 @@ impl<D: Disk + Drop, W: Wire + Drop> NodeServer<D, W> {
             stood: self.stood(),
             slept: self.waking.slept,
             nodes: self.nodes(),
+            crowded: self.desk.seats.crowded(seat).unwrap_or(0),
         }
     }
 
@@ -467,19 +493,29 @@ impl<D: Disk + Drop, W: Wire + Drop> NodeServer<D, W> {
         }
     }
 
-    /// Without a quorum for a while the seats are let go of.
+    /// The node has a quorum at this moment, or hasn't: without one for a while it is apart, unless the match is over here.
+    fn stand(&mut self, is_quorate: bool, now: u64) -> Turned
+        ensures kept { IsKept W.Wire self.old.desk self.new.desk }
+        ensures apart { self.new.desk.apart.is_apart ≡ true → is_quorate ≡ false }
+    {
+        self.turn_timer.stand(is_quorate, now);
+        let turned = self.lasting.stand(is_quorate, now);
+        let is_apart = self.lasting.is_apart && !self.watch.seen.over;
+        self.desk.set_apart(is_apart);
+        turned
+    }
+
+    /// The same. Who sits is told to come again later from then on; that is told.
     pub(crate) fn note_quorum(&mut self, is_quorate: bool, now: u64)
         ensures { IsKept W.Wire self.old.desk self.new.desk }
     {
-        self.turn_timer.stand(is_quorate, now);
-        match self.lasting.stand(is_quorate, now) {
-            Turned::Stays => (),
-            Turned::Had => self.tell(ServerNotice::Quorum),
-            Turned::Lost => {
-                self.desk.hang_up_all(u16::MAX);
-                self.tell(ServerNotice::QuorumLost);
+        match self.stand(is_quorate, now) {
+            Turned::Stays | Turned::Unmet => (),
+            Turned::Had => {
+                self.note_joined_seats();
+                self.tell(ServerNotice::Quorum);
             }
-            Turned::Unmet => self.desk.hang_up_all(u16::MAX),
+            Turned::Lost => self.tell(ServerNotice::QuorumLost),
         }
     }
 }

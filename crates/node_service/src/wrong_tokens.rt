@@ -33,7 +33,7 @@ const NOBODY: Untold = Untold {
 };
 
 /// Whether a note may follow the one that was made at that moment.
-fn is_noted(noted: Option<u64>, now: u64) -> bool
+pub(crate) fn is_noted(noted: Option<u64>, now: u64) -> bool
     ensures { result ≡ is_noted noted now }
 {
     match noted {

@@ -216,3 +216,58 @@ fn who_was_promised_nothing_does_not_lead(rt: HostRuntime) -> Result<(), Fail> {
     assert_told(&rt, &mut world, 0, HEARD)?;
     Ok(())
 }
+
+/// Comments of a bot, as many bytes as are read of a seat in a turn.
+fn comments(alloc: Global) -> Result<Vec<u8>, AllocError> {
+    let mut bytes = Vec::new(alloc);
+    for _ in 0..4u64 {
+        bytes.push(b';')?;
+        for _ in 0..125u64 {
+            bytes.push(b'a')?;
+        }
+        bytes.extend_from_slice(b"\r\n")?;
+    }
+    Ok(bytes)
+}
+
+/// A bot comes to a seat of each node.
+fn come_everywhere(rt: &impl Abort, world: &mut World, seat: u8) -> Result<(), AllocError> {
+    for node in 0..3 {
+        wire_of(rt, world, node).come_to_seat(seat);
+    }
+    go_on(rt, world, 3)?;
+    for node in 0..3 {
+        wire_of(rt, world, node).come(Line::Seat(seat), b"VERSION:2.0.0\r\n")?;
+    }
+    go_on(rt, world, 3)
+}
+
+/// The match goes on for so many turns, while whoever sits at seat 0 of each node sends comments without end.
+fn comment_on(rt: &impl Abort, world: &mut World, turns: u64) -> Result<(), AllocError> {
+    let bytes = comments(world.alloc)?;
+    for _ in 0..turns {
+        for node in 0..3 {
+            let wire = wire_of(rt, world, node);
+            wire.take_written(Line::Seat(0));
+            wire.take_written(Line::Seat(1));
+            wire.come(Line::Seat(0), &bytes)?;
+        }
+        world.step(rt)?;
+    }
+    Ok(())
+}
+
+/// So it is also behind a sleep of all processes: what came in it counts as read after a while.
+#[test]
+fn who_sends_without_end_is_played_for(rt: HostRuntime) -> Result<(), Fail> {
+    let mut world = empty_of(&rt, rt.alloc(), 60, Some(100_000))?;
+    go_on(&rt, &mut world, 300)?;
+    come_everywhere(&rt, &mut world, 0)?;
+    comment_on(&rt, &mut world, 500)?;
+    let before = orders(&world);
+    assert!(rt; before > 0);
+    world.now = world.now.saturating_add(6_000_000);
+    comment_on(&rt, &mut world, 1_200)?;
+    assert!(rt; orders(&world) > before.saturating_add(2));
+    Ok(())
+}

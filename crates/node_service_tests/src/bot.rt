@@ -6,6 +6,9 @@ use std::alloc::{AllocError, Global};
 /// What a bot sends last before it is told lines.
 const VERSION: &[u8] = b"VERSION:2.0.0\r\n";
 
+/// What a node without a quorum tells it.
+const WAIT: &[u8] = b"#WAIT\r\n";
+
 /// A bot: it dials one node after another until one keeps it, and answers each line by one action, whether it is to act or
 /// not.
 #[derive(Drop)]
@@ -15,6 +18,8 @@ pub(crate) struct Bot {
     pub(crate) at: u8,
     /// It sits there, as far as it knows.
     sits: bool,
+    /// It dialled, and wasn't taken in yet.
+    has_dialled: bool,
     /// For so many more turns of the world it doesn't dial.
     pause: u64,
     /// What was told to it and isn't answered yet.
@@ -29,6 +34,8 @@ pub(crate) struct Bot {
     last: Vec<u8>,
     /// It named its last line, and wasn't told it again yet.
     is_again: bool,
+    /// How often it was told to come again later.
+    pub(crate) waits: u64,
     /// It was told that the match is over: it does nothing more.
     is_over: bool,
 }
@@ -57,6 +64,7 @@ impl Bot {
             seat,
             at,
             sits: false,
+            has_dialled: false,
             pause: 0,
             told: Vec::new(alloc),
             action,
@@ -65,6 +73,7 @@ impl Bot {
             heard: Vec::new(alloc),
             last: Vec::new(alloc),
             is_again: false,
+            waits: 0,
             is_over: false,
         }
     }
@@ -72,6 +81,7 @@ impl Bot {
     /// Its node is gone, or has let it go: it dials the next after a while.
     pub(crate) fn go_on(&mut self, nodes: u8) {
         self.sits = false;
+        self.has_dialled = false;
         self.pause = 20;
         self.told.clear();
         self.at = if self.at.saturating_add(1) < nodes {
@@ -108,10 +118,14 @@ impl Bot {
         let line = Line::Seat(self.seat);
         if wire.is_open(line) {
             self.sits = true;
+            self.has_dialled = false;
             self.ask(wire)?;
             return wire.come(line, VERSION);
         }
-        wire.come_to_seat(self.seat);
+        if !self.has_dialled {
+            self.has_dialled = true;
+            wire.come_to_seat(self.seat);
+        }
         Ok(())
     }
 
@@ -127,8 +141,17 @@ impl Bot {
         wire.come(line, &self.asks)
     }
 
+    /// It is told to come again later, behind its lines: that isn't kept.
+    fn note_wait(&mut self) {
+        if self.told.ends_with(WAIT) {
+            self.waits = self.waits.saturating_add(1);
+            self.told.truncate(self.told.len() - WAIT.len());
+        }
+    }
+
     /// Keeps what was told, up to the end of its last whole line.
     fn keep(&mut self) -> Result<(), AllocError> {
+        self.note_wait();
         let Some(last) = last_line(&self.told) else {
             return Ok(());
         };

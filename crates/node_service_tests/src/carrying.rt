@@ -20,6 +20,13 @@ impl World {
         }
     }
 
+    /// Nothing comes through to a node any more, or all does again: what was said meanwhile too.
+    pub(crate) fn hold_back(&mut self, node: u8, is_held: bool) {
+        for other in 0..self.nodes {
+            self.cut(other, node, is_held);
+        }
+    }
+
     /// Nothing comes through from one node to another any more, or all does again.
     fn cut(&mut self, from: u8, to: u8, is_cut: bool) {
         if let Some(row) = self.cuts.get_mut(from as usize) {

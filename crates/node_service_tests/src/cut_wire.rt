@@ -14,12 +14,25 @@ use std::net::IpAddr;
 pub(crate) struct CutWire<W: Wire + Drop> {
     wire: W,
     calls: CallsLeft,
+    /// So long each look at the clock takes, in microseconds, and all looks took so far.
+    look: u64,
+    late: u64,
 }
 
 impl<W: Wire + Drop> CutWire<W> {
     /// These wires, which are cut behind so many calls.
     pub(crate) fn new(wire: W, calls: CallsLeft) -> CutWire<W> {
-        CutWire { wire, calls }
+        CutWire {
+            wire,
+            calls,
+            look: 0,
+            late: 0,
+        }
+    }
+
+    /// The process gets little of a processor from now on: each look at the clock takes so many microseconds.
+    pub(crate) fn set_look(&mut self, look: u64) {
+        self.look = look;
     }
 
     /// The wires themselves.
@@ -42,7 +55,8 @@ impl<W: Wire + Drop> Wire for CutWire<W> {
     ghost passed = { λ cut. W.passed cut.wire };
 
     fn now(&mut self) -> u64 {
-        self.wire.now()
+        self.late = self.late.saturating_add(self.look);
+        self.wire.now().saturating_add(self.late)
     }
 
     fn wait(&mut self, most: u64) {

@@ -10,16 +10,26 @@
 //! - `resume_tests`: what a bot is told that asks for lines from one on.
 //! - `follower_tests`: who comes to a seat whose bot went.
 //! - `away_tests`: a match at which nobody sits, and what is told to one who asks.
+//! - `apart_tests`: who comes to a node that is without a quorum, and who sits there when it loses it.
+//! - `copy_tests`: a node whose store is an older copy of the one that its peers know, and what they know of it; `slow_tests`: a node
+//!   that gets little of a processor.
+//! - `caller_tests`: who comes to seats that have tokens, among strangers.
 #![tactic(auto)]
 
+#[cfg(test)]
+mod apart_tests;
 #[cfg(test)]
 mod away_tests;
 #[cfg(test)]
 mod bot;
 #[cfg(test)]
+mod caller_tests;
+#[cfg(test)]
 mod calls_left;
 #[cfg(test)]
 mod carrying;
+#[cfg(test)]
+mod copy_tests;
 #[cfg(test)]
 mod cut_disk;
 #[cfg(test)]
@@ -38,5 +48,7 @@ mod place;
 mod resume_tests;
 #[cfg(test)]
 mod samples;
+#[cfg(test)]
+mod slow_tests;
 #[cfg(test)]
 mod world;

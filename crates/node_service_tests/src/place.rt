@@ -60,6 +60,9 @@ pub(crate) struct Counts {
     pub(crate) ordered: [u64; 2],
     /// That a seat named a line that is none of it.
     pub(crate) other: u64,
+    /// Who came to a seat without its token, and who found no place there.
+    pub(crate) wrong: u64,
+    pub(crate) turned_away: u64,
 }
 
 impl Counts {
@@ -72,6 +75,12 @@ impl Counts {
             ServerNotice::Left { seat: 0 } => self.left = self.left.saturating_add(1),
             ServerNotice::Ordered { seat } => self.count_order(seat),
             ServerNotice::OtherLine { .. } => self.other = self.other.saturating_add(1),
+            ServerNotice::WrongToken { count, .. } => {
+                self.wrong = self.wrong.saturating_add(count as u64)
+            }
+            ServerNotice::TurnedAway { count, .. } => {
+                self.turned_away = self.turned_away.saturating_add(count as u64)
+            }
             _ => (),
         }
     }
@@ -102,6 +111,8 @@ impl Place {
                 left: 0,
                 ordered: [0, 0],
                 other: 0,
+                wrong: 0,
+                turned_away: 0,
             },
             call: 0,
             has_failed: false,

@@ -8,7 +8,7 @@ use match_log::{Name, SeatNames};
 use matchstate::read_deal;
 use node_links::Own;
 use node_peers::Peers;
-use node_seats::Seats;
+use node_seats::{Seats, TokenDigest};
 use node_service::{LocalNode, NodeServer, Outcome, Terms};
 use node_status::Askers;
 use node_wires::MemoryWire;
@@ -88,6 +88,30 @@ pub(crate) struct Waiting {
     pub(crate) start: u64,
     /// One at which nobody is may be given up.
     pub(crate) gives_up: bool,
+    /// Seats have tokens: `token_line` shows each.
+    pub(crate) has_tokens: bool,
+}
+
+/// The line by which the bot of any seat shows its token.
+pub(crate) const TOKEN_LINE: &[u8] =
+    b"#TOKEN aaaaaaaaaaaaaaaaaaaaaaaaaaaaaaaaaaaaaaaaaaaaaaaaaaaaaaaaaaaaaaaa\r\n";
+
+/// SHA-256 of its token.
+const TOKEN: TokenDigest = TokenDigest {
+    bytes: [
+        0xff, 0xe0, 0x54, 0xfe, 0x7a, 0xe0, 0xcb, 0x6d, 0xc6, 0x5c, 0x3a, 0xf9, 0xb6, 0x1d, 0x52,
+        0x09, 0xf4, 0x39, 0x85, 0x1d, 0xb4, 0x3d, 0x0b, 0xa5, 0x99, 0x73, 0x37, 0xdf, 0x15, 0x46,
+        0x68, 0xeb,
+    ],
+};
+
+/// The tokens of seats, where they have some.
+fn tokens(alloc: Global, has_tokens: bool) -> Result<Option<Vec<TokenDigest>>, AllocError> {
+    if has_tokens {
+        Ok(Some(Vec::from_slice(alloc, &[TOKEN, TOKEN])?))
+    } else {
+        Ok(None)
+    }
 }
 
 /// The process of a node, in a match of so many nodes and hands, over this disk.
@@ -113,10 +137,9 @@ pub(crate) fn server(
     let mut wire = MemoryWire::new(alloc, call)?;
     wire.set_now(now);
     let peers = Peers::new(alloc, own(node, nodes), &[], SILENCE)?;
-    let seats = Seats::new(alloc, 2, None)?;
+    let seats = Seats::new(alloc, 2, tokens(alloc, waiting.has_tokens)?)?;
     let askers = Askers::new(alloc)?;
     let terms = Terms {
-        nodes,
         patience: waiting.patience,
         start: waiting.start,
         gives_up: waiting.gives_up,

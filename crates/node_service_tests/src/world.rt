@@ -1,9 +1,12 @@
 //! All processes of a match, turn after turn.
 
 use crate::bot::Bot;
+use crate::cut_disk::CutDisk;
 use crate::place::{NODES, Place};
 use crate::samples::{Waiting, disk_of, new_disk, server};
+use dealer_node::Node;
 use node_service::Outcome;
+use promise_store::MemoryDisk;
 use std::alloc::{AllocError, Global};
 use std::process::Abort;
 
@@ -74,6 +77,7 @@ impl World {
                 patience: None,
                 start: 0,
                 gives_up: true,
+                has_tokens: false,
             },
         })
     }
@@ -113,7 +117,7 @@ impl World {
         }
         match outcome {
             Outcome::GoesOn => Ok(()),
-            Outcome::Over => {
+            Outcome::Over | Outcome::StoreOlder => {
                 place.outcome = outcome;
                 self.kill(node)
             }
@@ -196,13 +200,46 @@ impl World {
         }
     }
 
+    /// A node, where it has a process.
+    fn node(&self, number: u8) -> Option<&Node<CutDisk<MemoryDisk>>> {
+        let server = self.places.get(number as usize)?.server.as_ref()?;
+        Some(server.station().node())
+    }
+
+    /// How many commands a node has applied; 0 while it has no process.
+    pub(crate) fn front_of(&self, number: u8) -> u32 {
+        match self.node(number) {
+            Some(node) => node.front(),
+            None => 0,
+        }
+    }
+
+    /// The ballot that a node has promised, if it has a process and has promised one, as a number: by its round, then its node.
+    pub(crate) fn promised(&self, number: u8) -> Option<u64> {
+        let ballot = self.node(number)?.promised()?;
+        Some(u64::from(ballot.round) << 8 | u64::from(ballot.node))
+    }
+
+    /// The greatest ballot that a node knows another one to have promised, as such a number.
+    pub(crate) fn heard(&self, number: u8, other: u8) -> Option<u64> {
+        let server = self.places.get(number as usize)?.server.as_ref()?;
+        let ballot = server.heard(other)?;
+        Some(u64::from(ballot.round) << 8 | u64::from(ballot.node))
+    }
+
+    /// A node's process dies, and its disk has these bytes when it begins again.
+    pub(crate) fn put_back(&mut self, number: u8, bytes: Vec<u8>) -> Result<(), AllocError> {
+        self.kill(number)?;
+        if let Some(place) = self.places.get_mut(number as usize) {
+            place.bytes = bytes;
+        }
+        Ok(())
+    }
+
     /// Whether a node prepares or leads a ballot.
     pub(crate) fn campaigns(&self, node: u8) -> bool {
-        let Some(place) = self.places.get(node as usize) else {
-            return false;
-        };
-        match &place.server {
-            Some(server) => server.station().node().campaigns(),
+        match self.node(node) {
+            Some(node) => node.campaigns(),
             None => false,
         }
     }

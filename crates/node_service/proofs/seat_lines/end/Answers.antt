@@ -4,6 +4,7 @@ use Rattle.node_seats.specs.declared.bot.Telling.{Telling}
 use Rattle.node_seats.specs.declared.words.Asked.TheVariants as asks
 use Rattle.node_seats.specs.Seating.{bot_at, waits_at}
 use Rattle.node_service.specs.Bots.{HadTableSince}
+use Rattle.node_service.proofs.Apartness.{over_off}
 use Rattle.node_service.proofs.Bots.{had_now, some_of, bots_over}
 use Rattle.node_service.proofs.Owing.{told_ended, over_before}
 use Rattle.node_service.proofs.seat_lines.end.Goals as goal
@@ -31,3 +32,6 @@ returns-clause-told g c =
     let new = c.part.new.self.seats.items in
     let seat = c.args.seat in
     told_ended seat (bot_at old seat) (bot_at new seat) (waits_at old seat) (waits_at new seat) c.part.ensures.parts c.part.ensures.says.here
+
+pub returns-clause-waits : goal.returns-clause-waits
+returns-clause-waits g c = over_off c.args.seat c.args.seats.now.seats.items c.part.new.self.seats.items c.part.ensures.parts c.part.ensures.says

@@ -4,6 +4,7 @@ use Rattle.node_seats.specs.declared.words.Asked.{Asked}
 use Rattle.node_seats.specs.declared.words.Asked.TheVariants as asks
 use Rattle.node_seats.specs.Seating.{bot_at}
 use Rattle.node_service.specs.Bots.{IsRefusedBy, HadTableSince}
+use Rattle.node_service.proofs.Apartness.{refused_off}
 use Rattle.node_service.proofs.Bots.{had_now, bots_refused}
 use Rattle.node_service.proofs.seat_lines.refuse.Goals as goal
 
@@ -18,3 +19,6 @@ returns-clause-bots g c =
     let asked : words.asked ≡ asks.Line = sym c.asked-asked.ensures.asked ∙ c.names_line.ensures c.if-not-names_line.false in
     let named : IsRefusedBy table seat asks.Line words.named = subst (λ (n : List ℕ). IsRefusedBy table seat asks.Line n) c.asked-asked.ensures.named (c.has_line.ensures c.if-has_line.false) in
     bots_refused look table seat seats c.part.new.self.seats.items had (subst (λ (a : Asked). IsRefusedBy table seat a words.named) (sym asked) named) c.part.ensures.parts c.part.ensures.says
+
+pub returns-clause-waits : goal.returns-clause-waits
+returns-clause-waits g c = refused_off c.args.seat c.args.seats.now.seats.items c.part.new.self.seats.items c.part.ensures.parts c.part.ensures.says

@@ -1,9 +1,11 @@
-use Rattle.std.proofs.Common.{◌≡◌, ◌++◌, List, inl, refl, sym, ◌∙◌, ap, subst, map}
+use Rattle.std.proofs.Common.{◌≡◌, ◌++◌, Bool, List, inl, refl, sym, ◌∙◌, ap, subst, map}
 use Rattle.node_wires.specs.declared.passages.Passages.{Passages}
 use Rattle.node_wires.specs.Passages.{Passage, logged_in, seats_in}
 use Rattle.dealer_world.specs.Recordings.{text_by}
 use Rattle.dealer_node.specs.Outs.{Told}
 use Rattle.node_peers.specs.Peering.{passed_of, frames_of}
+use Rattle.node_service.specs.Apartness.{PutsOff}
+use Rattle.node_service.proofs.Apartness.{waits_by}
 use Rattle.node_service.specs.Crossing.{IsCarried}
 use Rattle.node_service.specs.Handed.{mark_handed}
 use Rattle.node_service.specs.Showing.{added, LogGains}
@@ -25,11 +27,13 @@ returns-clause-hands g c =
           (subst (λ (t : Told). LogGains old.log_failed shows.log_failed (added (map text_by t.shown)) (logged_in (g.W.Wire.passed c.now-now.new.self)) (logged_in (g.W.Wire.passed shows.wire))) c.made-2.ensures c.show_all.ensures.log);
       sent = sent;
       bots = c.tell_all.ensures.bots;
+      sat = c.tell_all.ensures.sat;
       seats = c.show_all.ensures.seats ∙ ap seats_in same;
       heard = c.send_all.ensures.heard;
       guests = c.tell_all.ensures.guests;
       hears = c.send_all.ensures.hears;
       asked = λ place within. inl refl;
+      waits = waits_by old.apart old.seats.seats.items bots (subst (λ (b : Bool). PutsOff b old.seats.seats.items bots) c.is_apart.ensures c.tell_all.ensures.waits);
       carried = λ is.
           subst (λ (m : List Passage). IsCarried (g.W.Wire.passed shows.wire) m bots old.askers.askers.items) (sym lines)
           (carried_shown (g.W.Wire.passed old.wire) (g.W.Wire.passed shows.wire) (passed_of old.company.peers) old.seats.seats.items bots old.askers.askers.items kept

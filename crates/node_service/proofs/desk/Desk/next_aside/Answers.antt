@@ -4,6 +4,7 @@ use Rattle.node_wires.specs.Passages.{Passage, seats_in}
 use Rattle.node_peers.specs.Peering.{own_of, passed_of, heard_of}
 use Rattle.stations.specs.Looking.{look_of}
 use Rattle.node_service.specs.Crossing.{IsCarried}
+use Rattle.node_service.proofs.Apartness.{waits_same}
 use Rattle.node_service.proofs.Bots.{bots_still}
 use Rattle.node_service.proofs.Crossing.{heard_now}
 use Rattle.node_service.proofs.Telling.{no_seat_told, told_is_heard}
@@ -28,7 +29,9 @@ returns-clause-takes g c =
       hosts = hosts_none old.seats.guests old.seats.guests refl;
       let_in = let_in_of_peers old.seats.guests c.next_aside.result;
       sittings = λ seat. inl refl;
+      somebody = λ are seat sits. inl (are seat sits);
       hears = c.next_aside.ensures.hears;
       asked = λ place within. inl refl;
+      waits = waits_same old.apart old.seats.seats.items;
       carried = λ is. subst (λ (m : List Passage). IsCarried (g.W.Wire.passed old.wire) m old.seats.seats.items old.askers.askers.items) (sym lines) is;
     }

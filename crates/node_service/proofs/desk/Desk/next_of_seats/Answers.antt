@@ -2,9 +2,11 @@ use Rattle.std.proofs.Common.{List, ◌++◌, inl, refl, sym, ◌∙◌, ap, app
 use Rattle.node_wires.specs.Passages.{Passage, seats_in}
 use Rattle.node_peers.specs.Peering.{own_of, passed_of, heard_of}
 use Rattle.stations.specs.Looking.{look_of}
+use Rattle.node_service.proofs.Apartness.{waits_changed}
 use Rattle.node_service.proofs.Bots.{bots_changed}
 use Rattle.node_service.proofs.Hearing.{hears_none}
 use Rattle.node_service.proofs.Crossing.{carried_seated}
+use Rattle.node_service.proofs.Seated.{coming_somebody}
 use Rattle.node_service.proofs.Incoming.{passed_is_incoming, no_peer_told, none_of_peers}
 use Rattle.node_service.proofs.Welcoming.{hosts_coming, let_in_coming}
 use Rattle.node_service.proofs.desk.Desk.next_of_seats.Goals as goal
@@ -26,8 +28,10 @@ returns-clause-takes g c =
       hosts = hosts_coming c.next-notice.result old.seats c.next-notice.new.self (g.W.Wire.passed old.wire) (g.W.Wire.passed c.next-notice.new.wire) c.next-notice.ensures.comes;
       let_in = let_in_coming c.next-notice.result old.seats c.next-notice.new.self (g.W.Wire.passed old.wire) (g.W.Wire.passed c.next-notice.new.wire) c.next-notice.ensures.comes;
       sittings = c.note_gone.ensures;
+      somebody = λ are. coming_somebody c.next-notice.result old.seats.seats.items c.next-notice.new.self.seats.items old.sittings c.note_gone.new.sittings c.next-notice.ensures.comes.sits c.note_gone.ensures are;
       hears = hears_none _ _ _ _ refl refl;
       asked = λ place within. inl refl;
+      waits = waits_changed old.apart c.next-notice.result old.seats.seats.items c.next-notice.new.self.seats.items c.next-notice.ensures.comes.sits;
       carried = λ is.
           carried_seated (g.W.Wire.passed old.wire) (g.W.Wire.passed c.next-notice.new.wire) (passed_of old.company.peers) old.seats.seats.items c.next-notice.new.self.seats.items old.askers.askers.items c.next-notice.ensures.others
           c.next-notice.ensures.unsaid c.next-notice.ensures.said is;

@@ -2,4 +2,4 @@ use Rattle.node_service.proofs.Keeping.{then_kept}
 use Rattle.node_service.proofs.server.NodeServer.leave.Goals as goal
 
 pub returns-in-Some-Ok : goal.returns-in-Some-Ok
-returns-in-Some-Ok g c = then_kept g.W.Wire c.call.ensures.goes c.tell.ensures
+returns-in-Some-Ok g c = then_kept g.W.Wire c.call.ensures.goes c.note_left.ensures

@@ -4,4 +4,4 @@ use Rattle.node_service.proofs.Turns.{ComeBelow}
 use Rattle.node_service.proofs.server.NodeServer.take_all_of_seats.Given as goal
 
 abbrev pub invariant-loop-at : goal.invariant-loop-at
-invariant-loop-at g l = GoesOnWith g.D.Disk (ComeBelow l.at l.fn.closed l.taken) (served_of l.fn.self) (served_of l.self)
+invariant-loop-at g l = GoesOnWith g.D.Disk (ComeBelow l.at l.shut l.taken) (served_of l.fn.self) (served_of l.self)

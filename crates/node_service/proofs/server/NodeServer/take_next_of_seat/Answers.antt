@@ -7,13 +7,6 @@ use Rattle.node_service.proofs.Keeping.{goes_kept, as_it_was}
 use Rattle.node_service.proofs.Turns.{next_none, first_of, spares_of}
 use Rattle.node_service.proofs.server.NodeServer.take_next_of_seat.Goals as goal
 
-pub returns-then-not-takes_in : goal.returns-then-not-takes_in
-returns-then-not-takes_in g c =
-    let desk = c.args.self.now.desk in
-    let kept : IsKept g.W.Wire desk desk = as_it_was g.W.Wire refl in
-    let taken = c.args.taken.now in
-    does_such (IsNextBut c.args.at c.args.closed taken taken) (next_none c.args.at c.args.closed taken) (goes_kept g.W.Wire kept)
-
 pub returns-then-has_bit : goal.returns-then-has_bit
 returns-then-has_bit g c =
     let desk = c.args.self.now.desk in

@@ -1,5 +1,5 @@
 use Rattle.node_service.specs.Desks.{IsKept}
-use Rattle.node_service.proofs.server.NodeServer.note_wrong_tokens.Given as goal
+use Rattle.node_service.proofs.server.NodeServer.note_joined_seats.Given as goal
 
 abbrev pub invariant-loop-seat : goal.invariant-loop-seat
 invariant-loop-seat g l = IsKept g.W.Wire l.initial.self.desk l.self.desk
