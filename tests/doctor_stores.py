@@ -24,7 +24,8 @@ def no_store_yet(room):
         for name in ("node1.journal", "node1.kept", "match.kept"):
             (at / "stores" / name).unlink()
 
-    wants_look(room, "store", "copy match.kept of machine 0 there, then run holdem_table init match.toml 1", change)
+    advice = "put it there; only if this node never ran: copy match.kept of machine 0 there, then run holdem_table init match.toml 1"
+    wants_look(room, "store", advice, change)
 
 
 @test
@@ -109,7 +110,7 @@ def a_lost_folder_of_stores_is_never_made_anew(room):
 @test
 def a_store_lost_with_its_node_is_never_made_anew(room):
     """The log of this match shows that the node ran; that of another match, and a file of another name, don't."""
-    cases = (20, "node1.log", "never run init"), (20, "node1.log.3", "never run init"), (21, "node1.log", "if this node never ran"), (20, "node1.logs", "if this node never ran")
+    cases = (20, "node1.log", "never run init"), (20, "node1.log.3", "never run init"), (21, "node1.log", "only if this node never ran"), (20, "node1.logs", "only if this node never ran")
     for hands, name, said in cases:
 
         def change(at, port, hands=hands, name=name):
@@ -119,12 +120,25 @@ def a_store_lost_with_its_node_is_never_made_anew(room):
         wants_look(room / f"{hands}.{name}", "store", said, change)
 
 
+LIFE = "life 0123456789abcdef0123456789abcdef\n"
+
+
 @test
 def a_damaged_kept_store_of_a_peer(room):
-    def change(at, port):
-        (at / "stores/node1.peer2.kept").write_text("")
+    for number, text in enumerate(("", LIFE + f"{'promisex 4.0':25}\n", LIFE + f"{'promised 4.0':24}\n", LIFE + f"{'promised 4':25}\n")):
 
-    wants_look(room, "store", "node1.peer2.kept is damaged: its one line is the line life of node2.kept on machine 2", change)
+        def change(at, port, text=text):
+            (at / "stores/node1.peer2.kept").write_text(text)
+
+        wants_look(room / f"{number}", "store", "node1.peer2.kept is damaged: its first line is the line life of node2.kept on machine 2", change)
+
+
+@test
+def a_kept_store_of_a_peer_whose_promise_is_known(room):
+    """Its second line has spaces behind the ballot."""
+    at, _ = machine(room)
+    (at / "stores/node1.peer2.kept").write_text(LIFE + f"{'promised 4294967295.2':25}\n")
+    want(all(verdict == "ok" for verdict, _ in rows(ask(at))["store"]), f"{rows(ask(at))['store']}")
 
 
 @test

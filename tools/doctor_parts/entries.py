@@ -23,6 +23,7 @@ class Entry(Enum):
     MATCH_FILE = "A wrong match file"
     NO_STORE = "No store in its place"
     NOT_THERE = "A peer that isn't there"
+    OLDER_COPY = "An older copy of a store"
     ONE_KEY = "A key on one side"
     RUNS = "It runs already"
     SEED = "A wrong seed"
@@ -34,12 +35,14 @@ class Entry(Enum):
 # By how a fault of a connection begins, and by how the last line of a process begins, with the note before it. The first one counts.
 REFUSALS = [
     ("122 ", Entry.ONE_KEY), ("123 OtherMatch number", Entry.SWAPPED), ("123 ", Entry.ANOTHER_MATCH), ("124 ", Entry.KEYS), ("127 ", Entry.LOST), ("128 ", Entry.TWICE),
+    ("130 ", Entry.OLDER_COPY),
 ]  # fmt: skip
 ENDS = [
     ("91 Store 6[012]", Entry.DAMAGED), ("91 Store 63 .*: no room'", Entry.DISK_FULL), ("91 ", Entry.DISK_FAILED), ("95 ", Entry.CONFLICT), ("103 ", Entry.NO_STORE),
     ("104 .*only if this node never ran'", Entry.NO_STORE), ("10[0124] ", Entry.MATCH_FILE), ("105 ", Entry.ADDRESS), ("106 .*: no room'", Entry.DISK_FULL), ("106 ", Entry.LOG_LOST),
     ("108 ", Entry.RUNS), (r"109 .*peer\d\.kept'", Entry.DAMAGED_PEER_KEPT), (r"109 .*logs\.kept'", Entry.DAMAGED_LOGS_KEPT), ("109 OtherMatch node", Entry.SEED),
     ("109 OtherMatch match.kept", Entry.ANOTHER_MATCH), ("109 ", Entry.MATCH_FILE), ("127 ", Entry.LOST), ("129 ", Entry.LOGS_DIFFER),
+    ("130 ", Entry.OLDER_COPY),
 ]  # fmt: skip
 
 

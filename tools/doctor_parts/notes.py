@@ -9,8 +9,15 @@ STARTED = re.compile(r"match \S+, node \d: started\b")
 PEER = re.compile(r"peer (\d): (.*)")
 REFUSED = re.compile(r"inbound connection refused: (.*?) \(from peer (\d)'s address\)(?: \(\d+ times\))?")
 # Faults of connections that don't pass by themselves, and the last line of a process that a fault ended.
-LASTING = re.compile(r"12[234578] ")
+LASTING = re.compile(r"(?:12[234578]|130) [A-Z]")
 FAULT = re.compile(r"\d{2,3} [A-Z]\w*")
+
+
+def end_of(lines):
+    """The fault that is the last of these notes, if it is one, behind the note before it."""
+    if not lines or not FAULT.match(lines[-1]):
+        return None
+    return " after ".join([lines[-1], *(f"'{line}'" for line in lines[-2:-1])])
 
 
 class Notes:
@@ -26,9 +33,7 @@ class Notes:
 
     def end(self):
         """The fault that ended the process, if one did, behind the note before it."""
-        if not self.lines or not FAULT.match(self.lines[-1]):
-            return None
-        return " after ".join([self.lines[-1], *(f"'{line}'" for line in self.lines[-2:-1])])
+        return end_of(self.lines)
 
     def refused(self):
         """For each node the fault by which its last connection was refused, if none was taken since."""

@@ -6,7 +6,10 @@ use match_file::{Counts, Difference, Key, MatchFault};
 use match_log::Name;
 use node_links::{Digests, Mismatch, Numbers, Own, PeerFault, Whose, WrongNumber};
 use node_peers::Peers;
-use node_runs::{LifeKeeper, NodeEnd, key_text, node_run, read_key};
+use node_runs::{
+    KEPT_BYTES, KeptPeer, LifeKeeper, NodeEnd, PromiseKeeper, kept_peer_text, key_text, node_run,
+    read_kept_peer, read_key,
+};
 use node_seats::Seats;
 use node_service::{LocalNode, NodeServer, Terms};
 use node_status::Askers;
@@ -23,14 +26,18 @@ use std::test::Fail;
 
 /// The lines of all notes that tell nothing of a seat.
 const NOTES: &[u8] = b"match m1, node 2: started, first unchosen slot 7
+match m1, node 2: can be started (its ports were not tried)
+seed 0 of node 2: is this the machine of node 2?
 key port is for serve only, ignored
 stores/match.kept: not found: copy it from the machine of node 0
+stores/node2.journal: an older copy: put the newest one back, or leave this node out
 no key: connections between nodes are neither authenticated nor encrypted
 match?[2J.key: open to others than its owner
 status at 127.0.0.1:7090
 peer 1: connected
 peer 1: disconnected
 peer 2: 127 StoreReplaced
+peer 2: 130 StoreOlder
 peer 0: 123 OtherMatch digest: here 1a2b3c4d, there 0000000a (from 10.0.0.7)
 inbound connection refused: 123 OtherMatch number 2 called, not 1
 inbound connection refused: 124 WrongProof (from peer 2's address)
@@ -38,7 +45,8 @@ peer 2: patience 100, here 12
 peer 2: start 1.050, here none
 peer 2: away wait, here play
 peer 2: tokens differ
-inbound connection refused: no place
+inbound connection refused: no Hello, or no place
+peer 2: 1900 commands behind, slowest answer in seconds: 0.612
 quorum: more than half of the nodes are connected
 quorum lost: bots are disconnected until it returns
 campaigns in ballot (5, 1)
@@ -47,15 +55,18 @@ the match is over
 ";
 
 /// Notes of all kinds, in the order of their lines.
-fn notes<'a>(name: Name) -> [NodeNote<'a>; 22] {
+fn notes<'a>(name: Name) -> [NodeNote<'a>; 27] {
     [
         NodeNote::Begins {
             name,
             node: 2,
             front: 7,
         },
+        NodeNote::CanStart { name, node: 2 },
+        NodeNote::OtherMachine(2),
         NodeNote::PassedOver("port"),
         NodeNote::NotCopied("stores/match.kept"),
+        NodeNote::OlderCopy("stores/node2.journal"),
         NodeNote::NoKey,
         NodeNote::BadKey("match\u{1b}[2J.key", KeyFault::NotSecret),
         NodeNote::Status(SocketAddr::from(([127, 0, 0, 1], 7090))),
@@ -64,6 +75,11 @@ fn notes<'a>(name: Name) -> [NodeNote<'a>; 22] {
         NodeNote::Refused {
             peer: 2,
             fault: PeerFault::StoreReplaced(Whose::Other),
+            source: None,
+        },
+        NodeNote::Refused {
+            peer: 2,
+            fault: PeerFault::StoreOlder(Whose::Other),
             source: None,
         },
         NodeNote::Refused {
@@ -104,6 +120,11 @@ fn notes<'a>(name: Name) -> [NodeNote<'a>; 22] {
         },
         NodeNote::OtherTokens(2),
         NodeNote::NoPlace,
+        NodeNote::Behind {
+            peer: 2,
+            behind: 1900,
+            slowest: 612_999,
+        },
         NodeNote::Quorum,
         NodeNote::QuorumLost,
         NodeNote::Campaigns(Ballot { round: 5, node: 1 }),
@@ -161,6 +182,8 @@ fn the_status_says_what_is_at_fault(rt: HostRuntime) -> Result<(), Fail> {
     ends(&rt, alloc, entry, 2, "101 BadEntry peers")?;
     is_same(&rt, NodeEnd::StoreReplaced.status(), 2);
     prints(&rt, alloc, &NodeEnd::StoreReplaced, "127 StoreReplaced")?;
+    is_same(&rt, NodeEnd::StoreOlder.status(), 2);
+    prints(&rt, alloc, &NodeEnd::StoreOlder, "130 StoreOlder")?;
     Ok(())
 }
 
@@ -183,6 +206,35 @@ fn a_key_is_64_digits(rt: HostRuntime) -> Result<(), Fail> {
     is_written(&rt, &read.bytes, &key.bytes);
     holds(&rt, 2u64, read_key(b"a0").is_none());
     Ok(())
+}
+
+#[test]
+fn a_text_says_what_a_store_promised(rt: HostRuntime) -> Result<(), Fail> {
+    let life = Life { bytes: [0xa0; 16] };
+    let promised = Some(Ballot { round: 42, node: 1 });
+    let kept = KeptPeer { life, promised };
+    let text = kept_peer_text(rt.alloc(), &kept)?;
+    let line = b"life a0a0a0a0a0a0a0a0a0a0a0a0a0a0a0a0\npromised 42.1            \n";
+    is_written(&rt, &text, line);
+    is_same(&rt, text.len(), KEPT_BYTES);
+    is_same(&rt, read_kept_peer(&text) == Some(kept), true);
+    let promised = None;
+    let kept = KeptPeer { life, promised };
+    let text = kept_peer_text(rt.alloc(), &kept)?;
+    is_written(&rt, &text, b"life a0a0a0a0a0a0a0a0a0a0a0a0a0a0a0a0\n");
+    is_same(&rt, read_kept_peer(&text) == Some(kept), true);
+    is_same(&rt, read_kept_peer(b"promised 42.1 \n").is_none(), true);
+    Ok(())
+}
+
+/// Keeps no promise.
+#[derive(Drop)]
+struct NoPromises;
+
+impl PromiseKeeper for NoPromises {
+    fn keep(&mut self, _peer: u8, _ballot: Ballot) -> bool {
+        false
+    }
 }
 
 /// Keeps no life: none is told in these tests.
@@ -219,7 +271,6 @@ fn server<D: Disk + Drop>(
     let member = LocalNode::new(alloc, station);
     let askers = Askers::new(alloc)?;
     let terms = Terms {
-        nodes: 3,
         patience: None,
         start: 0,
         gives_up: false,
@@ -251,7 +302,8 @@ fn ran(alloc: Global, call: u64, notes: &mut Vec<u8>) -> Result<ProcessEnd, Fail
         return Ok(UNBEGUN);
     };
     let mut lives = NoLives;
-    let end = node_run(alloc, &mut server, &mut lives, 7000, notes).err();
+    let mut promises = NoPromises;
+    let end = node_run(alloc, &mut server, &mut lives, &mut promises, 7000, notes).err();
     let has_failed = match server.station().node().disk() {
         Some(disk) => disk.failures() > 0,
         None => true,

@@ -78,6 +78,8 @@ pub(crate) struct NodeArguments<'a> {
     pub(crate) path: &'a str,
     /// The node's number, counted from 0.
     pub(crate) node: u8,
+    /// Whether it is only looked whether the node can be started.
+    pub(crate) is_look: bool,
     /// Whether the time stands before each note.
     pub(crate) has_times: bool,
 }
@@ -161,6 +163,7 @@ fn node_task<'a>(matches: &ArgMatches<'a>) -> Result<Task<'a>, Ending> {
         Some(node) => Ok(Task::Node(NodeArguments {
             path,
             node,
+            is_look: matches.get_flag("look"),
             has_times: matches.get_flag("times"),
         })),
         None => Err(Ending::WrongWords(WrongWords::Incomplete)),

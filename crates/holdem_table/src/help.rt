@@ -297,6 +297,11 @@ campaigns, which seats never came, were seated or disconnected, came with a
 wrong token, or got the default action; with --times the time (UTC) stands
 before each. Nothing is printed on standard output.
 
+With --look it reads what a start reads, each record of the store too, but for
+its ports, which it leaves alone. It changes nothing, and ends as that start
+would, with the same last line; with status 0 where nothing is wrong, and with
+108 StoreInUse where the node runs.
+
 Exit status:
   0  the match is over, and the other nodes know it
   1  a port can't be bound (105 LinkFailed), the log is in use or can't be
@@ -306,8 +311,8 @@ Exit status:
      BadEntry, 102 Game), MATCH, its game, match.kept or the store can't be
      read or isn't there (104 Unreadable), the store is in use (108
      StoreInUse), what lies beside the store is of another match, node or
-     source of deals (109 OtherMatch), or a peer knows another store of this
-     node (127 StoreReplaced)
+     source of deals (109 OtherMatch), a peer knows another store of this node
+     (127 StoreReplaced), or the store is an older copy (130 StoreOlder)
   3  the store was refused or failed (91 Store), the log would contradict one
      of an earlier start (129 LogDiffers), or two commands were chosen for one
      slot (95 Conflict): check the disk, and restart the machine before you

@@ -9,12 +9,12 @@ use crate::init::{make_store, read, refuse_present, sync_folder, tell_unused};
 use crate::kept_match::{kept_path, unmade_file};
 use crate::made_files::{Readers, put};
 use crate::notes::Notes;
+use crate::seeds::tell_own_seed;
 use dealer_kind::Config;
 use match_file::{
     Key, MatchFault, MatchFile, MatchId, NodeKept, identified_text, kept_text, node_kept_text,
     source_digest,
 };
-use match_runs::is_short;
 use operator_notes::{Cause, NodeNote, node_kept_path, store_path};
 use std::random::RandomSource;
 use std::{fs, io};
@@ -48,9 +48,7 @@ fn make_node(rt: &HostRuntime, path: &str, node: u8, notes: &mut Notes<'_>) -> R
         notes.tell_no_such_node(node, config.nodes() as u8);
         return Err(Ending::Match(MatchFault::BadEntry(Key::Node)));
     }
-    if is_short(config.source(node as usize)) {
-        notes.tell_short_seeds(&[node]);
-    }
+    tell_own_seed(&config, node, notes);
     let store = store_path(rt.alloc(), folder, node)?;
     refuse_present(rt, store.as_str(), notes)?;
     refuse_met_peers(rt, folder, node, config.nodes() as u8, notes)?;

@@ -6,9 +6,9 @@ use crate::made_files::{Readers, put};
 use crate::notes::Notes;
 use crate::open_files::tell_open_file;
 use dealer_node::NodeFault;
-use match_file::{Difference, life_text, read_life};
+use match_file::{Difference, life_text};
 use match_runs::Unserved;
-use node_runs::LifeKeeper;
+use node_runs::{KeptPeer, LifeKeeper, read_kept_peer};
 use operator_notes::{Cause, life_path};
 use peer_codes::Life;
 use promise_store::StoreFault;
@@ -37,28 +37,28 @@ impl<'a> LifeFiles<'a> {
     }
 
     /// What is kept of each node, by number; none of a peer whose file isn't there. `OtherMatch` (109) comes where a file says
-    /// no life. A note names it, and one that can't be read, or that others can read.
+    /// nothing. A note names it, and one that can't be read, or that others can read.
     pub(crate) fn read(
         &self,
         nodes: u8,
         notes: &mut Notes<'_>,
-    ) -> Result<Vec<Option<Life>>, Unserved> {
-        let mut lives = Vec::with_capacity(self.rt.alloc(), nodes as usize)?;
+    ) -> Result<Vec<Option<KeptPeer>>, Unserved> {
+        let mut kept = Vec::with_capacity(self.rt.alloc(), nodes as usize)?;
         for peer in 0..nodes {
             let path = life_path(self.rt.alloc(), self.folder, self.node, peer)?;
-            lives.reserve(1)?;
-            lives.push_reserved(self.read_at(path.as_str(), notes)?);
+            kept.reserve(1)?;
+            kept.push_reserved(self.read_at(path.as_str(), notes)?);
         }
-        Ok(lives)
+        Ok(kept)
     }
 
-    /// The life in the file at this path.
-    fn read_at(&self, path: &str, notes: &mut Notes<'_>) -> Result<Option<Life>, Unserved> {
+    /// What the file at this path says.
+    fn read_at(&self, path: &str, notes: &mut Notes<'_>) -> Result<Option<KeptPeer>, Unserved> {
         match fs::read(self.rt, path) {
             Ok(text) => {
                 tell_open_file(self.rt, path, notes);
-                match read_life(&text) {
-                    Some(bytes) => Ok(Some(Life { bytes })),
+                match read_kept_peer(&text) {
+                    Some(kept) => Ok(Some(kept)),
                     None => Err(refused(path, Difference::Unread, notes)),
                 }
             }

@@ -3,17 +3,27 @@ use std::fs::{File, TryLockError};
 use std::os::unix::fs::MetadataExt;
 use std::{fs, io};
 
-/// A file that was opened at this path, locked against other processes until it is closed. Where another one holds a lock
-/// on it, or has put another file in its place meanwhile, the error is that the lock would have to be waited for. Where
-/// the system gives no locks, a note says so, and the file is taken without one.
+/// How a file's lock is taken.
+#[derive(Clone, Copy)]
+pub(crate) enum Lock {
+    /// Against other processes, until the file is closed.
+    Held,
+    /// To see whether another process has one: it is given back at once.
+    Tried,
+}
+
+/// A file that was opened at this path, and its lock taken so. Where another process holds a lock on it, or has put another
+/// file in its place meanwhile, the error is that the lock would have to be waited for. Where the system gives no locks, a
+/// note says so, and the file is taken without one.
 pub(crate) fn locked(
     rt: &HostRuntime,
     opened: io::Result<File>,
     path: &str,
+    lock: Lock,
     notes: &mut Notes<'_>,
 ) -> io::Result<File> {
     let file = opened?;
-    if !has_lock(rt, &file, path)? {
+    if !has_lock(rt, &file, path, lock)? {
         notes.tell_unlocked(path);
     }
     Ok(file)
@@ -24,19 +34,28 @@ pub(crate) fn surely_locked(
     rt: &HostRuntime,
     opened: io::Result<File>,
     path: &str,
+    lock: Lock,
     notes: &mut Notes<'_>,
 ) -> io::Result<Option<File>> {
     let file = opened?;
-    if has_lock(rt, &file, path)? {
+    if has_lock(rt, &file, path, lock)? {
         return Ok(Some(file));
     }
     notes.tell_unlocked(path);
     Ok(None)
 }
 
+/// Whether another process holds a lock on a file that was opened at this path, or has put another one in its place.
+pub(crate) fn is_in_use(rt: &HostRuntime, file: &File, path: &str) -> bool {
+    match has_lock(rt, file, path, Lock::Tried) {
+        Err(error) => error.kind() == io::ErrorKind::WouldBlock,
+        Ok(_) => false,
+    }
+}
+
 /// Whether the system gave a lock of a file that was opened at this path.
-fn has_lock(rt: &HostRuntime, file: &File, path: &str) -> io::Result<bool> {
-    let is_given = match file.try_lock() {
+fn has_lock(rt: &HostRuntime, file: &File, path: &str, lock: Lock) -> io::Result<bool> {
+    let is_given = match try_lock(file, lock) {
         Ok(()) => true,
         Err(TryLockError::WouldBlock) => return Err(io::Error::from(io::ErrorKind::WouldBlock)),
         Err(TryLockError::Error(_)) => false,
@@ -45,6 +64,20 @@ fn has_lock(rt: &HostRuntime, file: &File, path: &str) -> io::Result<bool> {
         Ok(is_given)
     } else {
         Err(io::Error::from(io::ErrorKind::WouldBlock))
+    }
+}
+
+/// Takes the lock of a file.
+fn try_lock(file: &File, lock: Lock) -> Result<(), TryLockError> {
+    match lock {
+        Lock::Held => file.try_lock(),
+        Lock::Tried => {
+            file.try_lock_shared()?;
+            match file.unlock() {
+                Ok(()) => Ok(()),
+                Err(error) => Err(TryLockError::Error(error)),
+            }
+        }
     }
 }
 

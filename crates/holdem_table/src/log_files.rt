@@ -2,7 +2,7 @@
 
 ghost use Rattle.std.specs.Prelude.{◌≤◌};
 
-use crate::locking::locked;
+use crate::locking::{Lock, locked};
 use crate::made_files::Readers;
 use crate::notes::Notes;
 use match_links::TcpLinks;
@@ -27,7 +27,7 @@ pub(crate) fn open_logs(
     for node in 0..nodes {
         found.reserve(1)?;
         let path = log_path(rt.alloc(), folder, node as u8)?;
-        found.push_reserved(log_at(rt, path.as_str(), notes)?);
+        found.push_reserved(log_at(rt, path.as_str(), Lock::Held, notes)?);
     }
     let mut logs = Vec::new(rt.alloc());
     let mut node: u8 = 0;
@@ -51,16 +51,21 @@ pub(crate) fn open_log(
     notes: &mut Notes<'_>,
 ) -> Result<File, Unserved> {
     let path = log_path(rt.alloc(), folder, node)?;
-    match log_at(rt, path.as_str(), notes)? {
+    match log_at(rt, path.as_str(), Lock::Held, notes)? {
         Some(log) => Ok(log),
         None => make_log(rt, folder, node, notes),
     }
 }
 
-/// The log at this path, locked; none where none is there.
-fn log_at(rt: &HostRuntime, path: &str, notes: &mut Notes<'_>) -> Result<Option<File>, Unserved> {
+/// The log at this path, and its lock taken so; none where none is there.
+fn log_at(
+    rt: &HostRuntime,
+    path: &str,
+    lock: Lock,
+    notes: &mut Notes<'_>,
+) -> Result<Option<File>, Unserved> {
     let opened = File::options().read(true).append(true).open(rt, path);
-    match locked(rt, opened, path, notes) {
+    match locked(rt, opened, path, lock, notes) {
         Ok(log) => Ok(Some(log)),
         Err(error) if error.kind() == io::ErrorKind::NotFound => Ok(None),
         Err(error) => Err(no_log(path, &error, notes)),
@@ -78,22 +83,28 @@ fn make_log(
     let mut options = File::options();
     options.read(true).append(true).create(true);
     let made = Readers::Group.open(rt, &mut options, path.as_str());
-    if is_without_folder(rt, folder, &made) {
-        notes.tell_file(folder, Cause::NoFolder);
-        return Err(Unserved::Fault(ServeFault::LogFailed));
+    if is_not_found(&made) {
+        refuse_no_folder(rt, folder, notes)?;
     }
     had(rt, made, path.as_str(), notes)
 }
 
-/// Whether a log couldn't be made since there is no such folder.
-fn is_without_folder(rt: &HostRuntime, folder: &str, made: &io::Result<File>) -> bool {
+/// Whether a log couldn't be made since something isn't there.
+fn is_not_found(made: &io::Result<File>) -> bool {
     match made {
-        Err(error) if error.kind() == io::ErrorKind::NotFound => {}
-        _ => return false,
-    }
-    match fs::metadata(rt, folder) {
         Err(error) => error.kind() == io::ErrorKind::NotFound,
         Ok(_) => false,
+    }
+}
+
+/// Refuses a folder of logs that isn't there; a note names it.
+fn refuse_no_folder(rt: &HostRuntime, folder: &str, notes: &mut Notes<'_>) -> Result<(), Unserved> {
+    match fs::metadata(rt, folder) {
+        Err(error) if error.kind() == io::ErrorKind::NotFound => {
+            notes.tell_file(folder, Cause::NoFolder);
+            Err(Unserved::Fault(ServeFault::LogFailed))
+        }
+        _ => Ok(()),
     }
 }
 
@@ -104,7 +115,7 @@ fn had(
     path: &str,
     notes: &mut Notes<'_>,
 ) -> Result<File, Unserved> {
-    match locked(rt, opened, path, notes) {
+    match locked(rt, opened, path, Lock::Held, notes) {
         Ok(log) => Ok(log),
         Err(error) => Err(no_log(path, &error, notes)),
     }
@@ -150,6 +161,23 @@ pub(crate) fn begin_log(
     LogPlace { rt, folder, node }.begin(log, old_logs, notes)
 }
 
+/// Looks at the log of a node as a start does before it begins one, and changes nothing.
+pub(crate) fn look_at_log(
+    rt: &HostRuntime,
+    folder: &str,
+    node: u8,
+    notes: &mut Notes<'_>,
+) -> Result<(), Unserved> {
+    let path = log_path(rt.alloc(), folder, node)?;
+    match log_at(rt, path.as_str(), Lock::Tried, notes)? {
+        Some(log) => {
+            let _ = LogPlace { rt, folder, node }.fate(&log, path.as_str(), notes)?;
+            Ok(())
+        }
+        None => refuse_no_folder(rt, folder, notes),
+    }
+}
+
 /// The greatest number of the logs that are kept of a node; none where none is.
 pub(crate) fn newest_kept(
     rt: &HostRuntime,
@@ -158,6 +186,17 @@ pub(crate) fn newest_kept(
     notes: &mut Notes<'_>,
 ) -> Result<Option<u32>, Unserved> {
     LogPlace { rt, folder, node }.newest(notes)
+}
+
+/// What becomes of a log that is there when a node is started.
+#[derive(Clone, Copy)]
+enum Fate {
+    /// It is empty, and goes on.
+    GoesOn,
+    /// All of it stands at the front of the newest kept one: it is emptied.
+    Emptied,
+    /// It is kept, behind the newest kept one, which has this number.
+    Kept(Option<u32>),
 }
 
 /// Where the log of a node lies, and those that are kept of it.
@@ -176,18 +215,30 @@ impl LogPlace<'_> {
         old_logs: &mut Vec<File>,
         notes: &mut Notes<'_>,
     ) -> Result<File, Unserved> {
-        if is_empty(&log) {
-            return Ok(log);
-        }
         let path = log_path(self.rt.alloc(), self.folder, self.node)?;
-        let newest = self.newest(notes)?;
-        if self.stands_in(path.as_str(), newest, notes)? {
-            return emptied(log, path.as_str(), notes);
+        match self.fate(&log, path.as_str(), notes)? {
+            Fate::GoesOn => Ok(log),
+            Fate::Emptied => emptied(log, path.as_str(), notes),
+            Fate::Kept(newest) => {
+                old_logs.reserve(1)?;
+                let new = self.keep(path.as_str(), newest, notes)?;
+                old_logs.push_reserved(log);
+                Ok(new)
+            }
         }
-        old_logs.reserve(1)?;
-        let new = self.keep(path.as_str(), newest, notes)?;
-        old_logs.push_reserved(log);
-        Ok(new)
+    }
+
+    /// What is to become of this log, which is at this path.
+    fn fate(&self, log: &File, path: &str, notes: &mut Notes<'_>) -> Result<Fate, Unserved> {
+        if is_empty(log) {
+            return Ok(Fate::GoesOn);
+        }
+        let newest = self.newest(notes)?;
+        if self.stands_in(path, newest, notes)? {
+            Ok(Fate::Emptied)
+        } else {
+            Ok(Fate::Kept(newest))
+        }
     }
 
     /// The greatest number of the logs that are kept of the node; none where none is.

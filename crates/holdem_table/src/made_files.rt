@@ -1,9 +1,9 @@
 //! Small files that are made whole: their text is on the disk before they have their name.
 
 use std::alloc::{AllocError, Global};
-use std::fs::{File, OpenOptions, Permissions};
+use std::fs::{File, FileTimes, OpenOptions, Permissions};
 use std::io::Write;
-use std::os::unix::fs::{OpenOptionsExt, PermissionsExt};
+use std::os::unix::fs::{FileExt, OpenOptionsExt, PermissionsExt};
 use std::{fs, io};
 
 /// Who may read a file that is made, besides its owner, who may write it too. The user's mask of rights has no say in it.
@@ -64,14 +64,43 @@ pub(crate) fn put(
     text: &[u8],
     readers: Readers,
 ) -> io::Result<()> {
+    put_of(rt, folder, path, text, readers, FileTimes::new())
+}
+
+/// The same; the file has these times, if any are set.
+fn put_of(
+    rt: &HostRuntime,
+    folder: &str,
+    path: &str,
+    text: &[u8],
+    readers: Readers,
+    times: FileTimes,
+) -> io::Result<()> {
     let new = beside(rt.alloc(), path)?;
     let mut options = File::options();
     options.write(true).create(true).truncate(true);
     let mut file = readers.open(rt, &mut options, new.as_str())?;
     file.write_all(text)?;
+    file.set_times(times)?;
     file.sync_all()?;
     fs::rename(rt, new.as_str(), path)?;
     sync(rt, folder)
+}
+
+/// Makes a file of the owner anew, as `put` does, in place of one that is there. It keeps the time of that, so that it still
+/// tells when the file was made.
+pub(crate) fn put_again(rt: &HostRuntime, folder: &str, path: &str, text: &[u8]) -> io::Result<()> {
+    let times = FileTimes::new().set_modified(fs::metadata(rt, path)?.modified()?);
+    put_of(rt, folder, path, text, Readers::Owner, times)
+}
+
+/// Writes a text over what a file has behind this many bytes, by one write where the system takes it whole. It may not be on the
+/// disk then. The file keeps its time, so that it still tells when it was made.
+pub(crate) fn write_over(rt: &HostRuntime, path: &str, text: &[u8], offset: u64) -> io::Result<()> {
+    let file = File::options().write(true).open(rt, path)?;
+    let made = file.metadata()?.modified()?;
+    file.write_all_at(text, offset)?;
+    file.set_modified(made)
 }
 
 /// Where a file is written until it has its name.

@@ -22,6 +22,7 @@ mod node;
 mod notes;
 mod open_files;
 mod own_logs;
+mod promise_files;
 mod relay;
 mod relay_notes;
 mod seeds;

@@ -13,10 +13,12 @@ use crate::init::tell_unused;
 use crate::life_files::LifeFiles;
 use crate::notes::Notes;
 use crate::open_files::tell_open_file;
+use crate::promise_files::PromiseFiles;
+use crate::seeds::tell_own_seed;
 use crate::serve::{configure, read};
 use dealer_kind::Config;
 use match_file::{Key as Entry, MatchFault, MatchFile, NodeEntries};
-use match_runs::{Unserved, is_short};
+use match_runs::Unserved;
 use node_runs::{ComparedWire, KeptLog, NodeEnd, node_run};
 use node_service::NodeServer;
 use node_wires::TcpWire;
@@ -43,26 +45,37 @@ struct Place<'a> {
 /// store locked and read, what is kept of peers and logs read, the ports bound, and the log opened and locked, in this order,
 /// before anything is changed. A log that would contradict a kept one is never written: the node ends (129). Notes go to
 /// standard error, one a line; the one before a fault names its address or file, where it has one.
+///
+/// Where it is only to be looked, all of this is looked at in the same way and order but for the ports, which aren't bound,
+/// and each record of the store is read. Then it ends as a start would: by the same fault with the same note before it, or
+/// with a note that the node can be started. No file is made or written, and no lock kept. It can't see what only writing
+/// shows: a full disk, or a folder in which this user may make no file. Where a process of the node runs, or begins meanwhile,
+/// it is `StoreInUse` (108).
 pub(crate) fn node(rt: &HostRuntime, arguments: NodeArguments<'_>) -> Result<(), NodeEnd> {
     let mut notes = Notes::new(rt, arguments.has_times);
     let text = read(rt, arguments.path, &mut notes).map_err(end_by)?;
     tell_open_file(rt, arguments.path, &mut notes);
     let file = MatchFile::read(rt.alloc(), &text)?;
-    run_file(rt, &file, arguments.node, &mut notes)
+    run_file(rt, &file, arguments, &mut notes)
 }
 
 /// The steps of it once there is a match file to read them from.
 fn run_file(
     rt: &HostRuntime,
     file: &MatchFile,
-    node: u8,
+    arguments: NodeArguments<'_>,
     notes: &mut Notes<'_>,
 ) -> Result<(), NodeEnd> {
+    let node = arguments.node;
     tell_unused(rt, file, notes)?;
     let config = configure(rt, file, notes).map_err(end_by)?;
     config.limits();
     let entries = entries_of(rt, file, &config, node, notes).map_err(end_by)?;
-    run_entries(rt, config, node, entries, notes)
+    if arguments.is_look {
+        look_at_entries(rt, &config, node, entries, notes).map_err(end_by)
+    } else {
+        run_entries(rt, config, node, entries, notes)
+    }
 }
 
 /// What the match file says of a node, if the match has one of this number. Notes tell the keys by which it doesn't go.
@@ -79,15 +92,38 @@ fn entries_of<'a>(
         notes.tell_no_such_node(node, config.nodes() as u8);
         return Err(Unserved::Match(MatchFault::BadEntry(Entry::Node)));
     }
-    if is_short(config.source(node as usize)) {
-        notes.tell_short_seeds(&[node]);
-    }
+    tell_own_seed(config, node, notes);
     config.limits();
     let entries = file.node_entries(rt.alloc(), config.game().players())?;
     for key in file.unused_by_node(rt.alloc())? {
         notes.tell_node(&NodeNote::PassedOver(key.text()));
     }
     Ok(entries)
+}
+
+/// Looks whether a node can be started, once all entries are right.
+fn look_at_entries(
+    rt: &HostRuntime,
+    config: &Config,
+    node: u8,
+    entries: NodeEntries<'_>,
+    notes: &mut Notes<'_>,
+) -> Result<(), Unserved>
+    requires { node < length config.now.sources }
+{
+    let place = Place {
+        rt,
+        stores: entries.stores,
+        logs: entries.logs,
+        node,
+    };
+    let _ = place.access(entries, notes)?;
+    place.look(config, notes)?;
+    notes.tell_node(&NodeNote::CanStart {
+        name: *config.name(),
+        node,
+    });
+    Ok(())
 }
 
 /// Runs a node once all entries are right.
@@ -109,6 +145,7 @@ fn run_entries(
     let access = place.access(entries, notes).map_err(end_by)?;
     let port = access.seats.port();
     let mut lives = LifeFiles::new(rt, place.stores, node);
+    let mut promises = PromiseFiles::new(rt, place.stores, node);
     let mut old_logs = Vec::new(rt.alloc());
     let (opened, kept) = place
         .open(&config, access, &lives, &mut old_logs, notes)
@@ -116,7 +153,15 @@ fn run_entries(
     let mut server = place
         .begin(config, opened, KeptLog::new(&kept.text), notes)
         .map_err(end_by)?;
-    let Err(end) = node_run(rt.alloc(), &mut server, &mut lives, port, notes) else {
+    let ended = node_run(
+        rt.alloc(),
+        &mut server,
+        &mut lives,
+        &mut promises,
+        port,
+        notes,
+    );
+    let Err(end) = ended else {
         notes.tell_node(&NodeNote::Over);
         return Ok(());
     };

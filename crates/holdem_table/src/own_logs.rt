@@ -49,18 +49,23 @@ impl OwnLogs<'_> {
         notes: &mut Notes<'_>,
     ) -> Result<Option<u32>, Unserved> {
         let newest = newest_kept(self.rt, self.folder, self.node, notes)?;
-        match (first, newest) {
-            (Some(first), Some(newest)) if first <= newest => Ok(Some(newest)),
-            (Some(_), _) => Ok(None),
-            (None, newest) => {
-                let next = match newest {
-                    Some(newest) => newest.saturating_add(1),
-                    None => 1,
-                };
-                self.begin(next, notes)?;
-                Ok(None)
-            }
+        if first.is_none() {
+            let next = match newest {
+                Some(newest) => newest.saturating_add(1),
+                None => 1,
+            };
+            self.begin(next, notes)?;
         }
+        Ok(own(first, newest))
+    }
+
+    /// Looks at the newest kept log as a start does, and changes nothing.
+    pub(crate) fn look(&self, first: Option<u32>, notes: &mut Notes<'_>) -> Result<(), Unserved> {
+        let newest = newest_kept(self.rt, self.folder, self.node, notes)?;
+        if let Some(number) = own(first, newest) {
+            let _ = self.read(number, notes)?;
+        }
+        Ok(())
     }
 
     /// Makes `nodeI.logs.kept`.
@@ -81,5 +86,13 @@ impl OwnLogs<'_> {
             Ok(text) => Ok(text),
             Err(error) => Err(no_log(path.as_str(), &error, notes)),
         }
+    }
+}
+
+/// The number of the newest kept log, if it is of the store whose logs begin with this one.
+fn own(first: Option<u32>, newest: Option<u32>) -> Option<u32> {
+    match (first, newest) {
+        (Some(first), Some(newest)) if first <= newest => Some(newest),
+        _ => None,
     }
 }

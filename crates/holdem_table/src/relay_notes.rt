@@ -27,7 +27,7 @@ const UNFIT: &str =
 const TAKEN: &str = "another client has this seat:";
 
 /// Why no node is dialled for a while: nodes end connections before any line.
-const TURNED_AWAY: &str = "turned away: no quorum yet, or a wrong token?";
+const TURNED_AWAY: &str = "turned away: a wrong token?";
 
 /// Appends text.
 fn put(line: &mut Vec<u8>, text: &str) -> Result<(), AllocError> {

@@ -1,10 +1,13 @@
 //! The seeds of a match's nodes: `init` draws them, and who plays by them is told which can be guessed.
 
+ghost use Rattle.std.specs.Prelude.{◌<◌, length};
+
 use crate::init::{print, read_config};
 use crate::init_node::drawn;
 use crate::notes::Notes;
-use dealer_kind::Config;
+use dealer_kind::{Config, Source};
 use match_runs::{drawn_seed, is_short, seed_line, short_seeds};
+use operator_notes::NodeNote;
 use std::alloc::AllocError;
 use streamed::Ending;
 
@@ -47,4 +50,34 @@ pub(crate) fn tell_seeds(
         notes.tell_short_seeds(&nodes);
     }
     Ok(())
+}
+
+/// Tells that the seed of this node can be guessed, if it can; where it is 0 and that of another node isn't, the match file
+/// may be that of the other's machine, and a note asks this in its place.
+pub(crate) fn tell_own_seed(config: &Config, node: u8, notes: &mut Notes<'_>)
+    requires { node < length config.now.sources }
+{
+    let source = config.source(node as usize);
+    if has_seed_0(source) && are_others_seeded(config) {
+        notes.tell_node(&NodeNote::OtherMachine(node));
+    } else if is_short(source) {
+        notes.tell_short_seeds(&[node]);
+    }
+}
+
+/// Whether a source of deals is the seed 0.
+fn has_seed_0(source: &Source) -> bool {
+    matches!(source, Source::Seed(0))
+}
+
+/// Whether a node of a match has another seed than 0.
+fn are_others_seeded(config: &Config) -> bool {
+    for node in 0..config.nodes() {
+        if let Source::Seed(seed) = config.source(node) {
+            if *seed != 0 {
+                return true;
+            }
+        }
+    }
+    false
 }

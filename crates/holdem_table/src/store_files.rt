@@ -3,14 +3,15 @@
 ghost use Rattle.std.specs.Prelude.{◌≡◌, ◌≤◌, IfOk, length};
 
 use crate::kept_match::unread;
-use crate::locking::{locked, surely_locked};
+use crate::locking::{Lock, is_in_use, locked, surely_locked};
 use crate::notes::Notes;
 use crate::open_files::tell_open_file;
 use dealer_node::NodeFault;
 use match_links::limits::NODES;
 use match_runs::Unserved;
+use node_runs::look_at_store;
 use operator_notes::{Cause, store_path};
-use promise_store::{FileDisk, Store, StoreFault};
+use promise_store::FileDisk;
 use serving::ServeFault;
 use std::alloc::AllocError;
 use std::fs::File;
@@ -37,21 +38,39 @@ pub(crate) fn open_stores(
     Ok(disks)
 }
 
-/// Opens and locks the store of a node that runs in a process of its own, one of so many, and looks whether it is one. It
-/// writes nothing there. A store of which the system gives no lock is refused (108), as one in use is: nothing would keep a
-/// second process from it. A note says which it was.
+/// Opens the store of a node that runs in a process of its own, one of so many, takes its lock so, and looks whether it is a
+/// store. It writes nothing there. A store of which the system gives no lock is refused (108), as one in use is: nothing would
+/// keep a second process from it. A note says which it was.
 pub(crate) fn open_own_store(
     rt: &HostRuntime,
     folder: &str,
     (node, nodes): (u8, u8),
+    lock: Lock,
     notes: &mut Notes<'_>,
 ) -> Result<FileDisk, Unserved> {
     let path = store_path(rt.alloc(), folder, node)?;
     let opened = store_at(rt, path.as_str());
-    match surely_locked(rt, opened, path.as_str(), notes) {
-        Ok(Some(file)) => look_at_store(rt, file, path.as_str(), (node, nodes), notes),
+    match surely_locked(rt, opened, path.as_str(), lock, notes) {
+        Ok(Some(file)) => look_at(rt, file, path.as_str(), (node, nodes), notes),
         Ok(None) => Err(Unserved::StoreInUse),
         Err(error) => Err(no_store(path.as_str(), &error, notes)),
+    }
+}
+
+/// Refuses the store of such a node (108) where another process has it now; a note names it.
+pub(crate) fn refuse_store_in_use(
+    rt: &HostRuntime,
+    folder: &str,
+    node: u8,
+    notes: &mut Notes<'_>,
+) -> Result<(), Unserved> {
+    let path = store_path(rt.alloc(), folder, node)?;
+    match store_at(rt, path.as_str()) {
+        Ok(file) if is_in_use(rt, &file, path.as_str()) => {
+            notes.tell_file(path.as_str(), Cause::InUse);
+            Err(Unserved::StoreInUse)
+        }
+        _ => Ok(()),
     }
 }
 
@@ -64,8 +83,8 @@ fn open_store(
 ) -> Result<FileDisk, Unserved> {
     let path = store_path(rt.alloc(), folder, node)?;
     let opened = store_at(rt, path.as_str());
-    match locked(rt, opened, path.as_str(), notes) {
-        Ok(file) => look_at_store(rt, file, path.as_str(), (node, nodes), notes),
+    match locked(rt, opened, path.as_str(), Lock::Held, notes) {
+        Ok(file) => look_at(rt, file, path.as_str(), (node, nodes), notes),
         Err(error) => Err(no_store(path.as_str(), &error, notes)),
     }
 }
@@ -85,7 +104,7 @@ fn no_store(path: &str, error: &io::Error, notes: &mut Notes<'_>) -> Unserved {
 }
 
 /// The disk of a file that has a store of this node of so many. A note names one that hasn't, and one that others can read.
-fn look_at_store(
+fn look_at(
     rt: &HostRuntime,
     file: File,
     path: &str,
@@ -93,12 +112,14 @@ fn look_at_store(
     notes: &mut Notes<'_>,
 ) -> Result<FileDisk, Unserved> {
     tell_open_file(rt, path, notes);
-    match Store::look(rt.alloc(), FileDisk::new(file), node, nodes) {
-        Ok(disk) => Ok(disk),
-        Err((_, StoreFault::OutOfMemory)) => Err(Unserved::from(AllocError)),
-        Err((disk, fault)) => {
-            notes.tell_file(path, cause(&disk));
-            Err(Unserved::Fault(ServeFault::Node(NodeFault::Store(fault))))
+    let (disk, answer) = look_at_store(rt.alloc(), FileDisk::new(file), node, nodes);
+    match answer {
+        Ok(()) => Ok(disk),
+        Err(fault) => {
+            if let NodeFault::Store(_) = fault {
+                notes.tell_file(path, cause(&disk));
+            }
+            Err(Unserved::Fault(ServeFault::Node(fault)))
         }
     }
 }

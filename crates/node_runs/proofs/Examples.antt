@@ -11,8 +11,8 @@ use Rattle.std.specs.declared.fs.attrs.Metadata.{Metadata}
 use Rattle.hex.specs.Hex.{decode_pairs, encode_with}
 use Rattle.hex.specs.declared.error.FromHexError.TheVariants.{InvalidHexCharacter, InvalidStringLength, OddLength}
 use Rattle.peer_codes.specs.declared.fault.RecordFault.TheVariants.{BadHello, BadLength}
-use Rattle.node_links.specs.declared.peer_fault.PeerFault.TheVariants.{Record, AlreadyHere, StoreReplaced as NotTheStore}
-use Rattle.node_links.specs.declared.peer_fault.Whose.TheVariants.{Own}
+use Rattle.node_links.specs.declared.peer_fault.PeerFault.TheVariants.{Record, AlreadyHere, StoreReplaced as NotTheStore, StoreOlder}
+use Rattle.node_links.specs.declared.peer_fault.Whose.TheVariants.{Own, Other}
 use Rattle.promise_store.specs.declared.fault.StoreFault.TheVariants.{Disk}
 use Rattle.dealer_node.specs.declared.fault.NodeFault.TheVariants as fault
 use Rattle.match_file.specs.declared.match_fault.MatchFault.TheVariants as file
@@ -104,6 +104,10 @@ one_joined : note_line (note.Joined 1) ≡ codes "peer 1: connected" ++ 10 ∷ [
 unfolding digits
 one_joined = refl
 
+one_older_copy : note_text (note.Refused 1 (StoreOlder Own) None) ≡ codes "peer 1: 130 StoreOlder"
+unfolding digits
+one_older_copy = refl
+
 one_store_replaced : note_text (note.Refused 1 (NotTheStore Own) None) ≡ codes "peer 1: 127 StoreReplaced"
 unfolding digits
 one_store_replaced = refl
@@ -160,14 +164,14 @@ many_wrong_lines : group_lines names 1 7010 (Some (told.Faulty 0 LineTooLong Non
 unfolding digits
 many_wrong_lines = refl
 
-eleven_others : group_lines names 1 7010 (Some told.Quorum) 180 11 ≡ (codes "11 notes left out" ++ 10 ∷ []) ∷ []
+eleven_others : group_lines names 1 7010 (Some told.Quorum) 198 11 ≡ (codes "11 notes left out" ++ 10 ∷ []) ∷ []
 unfolding digits
 eleven_others = refl
 
-one_other : group_lines names 1 7010 (Some told.Quorum) 180 1 ≡ (codes "quorum: more than half of the nodes are connected" ++ 10 ∷ []) ∷ []
+one_other : group_lines names 1 7010 (Some told.Quorum) 198 1 ≡ (codes "quorum: more than half of the nodes are connected" ++ 10 ∷ []) ∷ []
 one_other = refl
 
-seven_without_a_place : group_lines names 1 7010 None 109 7 ≡ (codes "inbound connection refused: no place (7 times)" ++ 10 ∷ []) ∷ []
+seven_without_a_place : group_lines names 1 7010 None 110 7 ≡ (codes "inbound connection refused: no Hello, or no place (7 times)" ++ 10 ∷ []) ∷ []
 unfolding digits
 seven_without_a_place = refl
 
@@ -188,15 +192,31 @@ callers_by_120 = refl
 callers_by_128 : group_of (told.Callers None 1 AlreadyHere) ≡ 108
 callers_by_128 = refl
 
+callers_by_130 : group_of (told.Callers None 1 (StoreOlder Other)) ≡ 109
+callers_by_130 = refl
+
 -- from an address of a peer they are apart, the first and the last of them
-callers_by_120_at_peer_0 : group_of (told.Callers (Some 0) 3 (Record BadLength)) ≡ 110
+callers_by_120_at_peer_0 : group_of (told.Callers (Some 0) 3 (Record BadLength)) ≡ 111
 callers_by_120_at_peer_0 = refl
 
-callers_by_128_at_peer_6 : group_of (told.Callers (Some 6) 1 AlreadyHere) ≡ 172
-callers_by_128_at_peer_6 = refl
+callers_by_130_at_peer_6 : group_of (told.Callers (Some 6) 1 (StoreOlder Other)) ≡ 180
+callers_by_130_at_peer_6 = refl
 
-one_of_callers_at_a_peer : most_of 172 ≡ 1
+one_of_callers_at_a_peer : most_of 180 ≡ 1
 one_of_callers_at_a_peer = refl
+
+-- callers who were turned away at a seat are apart too, of each seat one line a second
+callers_at_alice : group_of (told.TurnedAway 0 40) ≡ 181
+callers_at_alice = refl
+
+callers_at_the_last_seat : group_of (told.TurnedAway 9 1) ≡ 190
+callers_at_the_last_seat = refl
+
+callers_at_no_seat : group_of (told.TurnedAway 10 1) ≡ others
+callers_at_no_seat = refl
+
+one_of_callers_at_a_seat : most_of 190 ≡ 1
+one_of_callers_at_a_seat = refl
 
 -- that a seat is taken and that it is free is told in one order, and so it is of a peer
 bob_comes : group_of (told.Seated 1) ≡ 16
@@ -205,10 +225,10 @@ bob_comes = refl
 bob_goes : group_of (told.Left 1) ≡ 16
 bob_goes = refl
 
-peer_6_comes : group_of (told.Joined 6 None) ≡ 179
+peer_6_comes : group_of (told.Joined 6 None) ≡ 197
 peer_6_comes = refl
 
-peer_6_goes : group_of (told.Gone 6) ≡ 179
+peer_6_goes : group_of (told.Gone 6) ≡ 197
 peer_6_goes = refl
 
 no_peer_7 : group_of (told.Gone 7) ≡ others
@@ -224,7 +244,7 @@ one_of_82 = refl
 ten_of_who_comes_and_goes : most_of 16 ≡ 10
 ten_of_who_comes_and_goes = refl
 
-ten_of_a_peer : most_of 179 ≡ 10
+ten_of_a_peer : most_of 197 ≡ 10
 ten_of_a_peer = refl
 
 -- ---- how many notes are told
@@ -319,6 +339,12 @@ log_that_differs = refl
 log_that_differs_is_told : end_text end.LogDiffers ≡ codes "129 LogDiffers"
 log_that_differs_is_told = refl
 
+older_copy_is_told : end_text end.StoreOlder ≡ codes "130 StoreOlder"
+older_copy_is_told = refl
+
+older_copy_is_refused : status_of end.StoreOlder ≡ 2
+older_copy_is_refused = refl
+
 store_of_another_life : end_text end.StoreReplaced ≡ codes "127 StoreReplaced"
 store_of_another_life = refl
 
@@ -343,6 +369,15 @@ many_others_came_for_alice = refl
 one_came_from_an_address : (address : Ipv4Addr) → ipv4_octets address ≡ 10 ∷ 0 ∷ 0 ∷ 7 ∷ [] → notice_lines names 1 7010 (told.WrongToken 0 37 (Some (V4 address))) ≡ (codes "seat 0 (alice) at node 1: wrong token (from 10.0.0.7) (37 times)" ++ 10 ∷ []) ∷ []
 unfolding digits
 one_came_from_an_address address octets = rw octets refl
+
+some_were_turned_away : notice_lines names 1 7010 (told.TurnedAway 0 40) ≡ (codes "seat 0 (alice) at node 1: inbound connection refused: no place (40 times)" ++ 10 ∷ []) ∷ []
+unfolding digits
+some_were_turned_away = refl
+
+-- what is below a thousandth is left out
+one_is_far_behind : notice_lines names 1 7010 (told.Behind 2 1900 1062999) ≡ (codes "peer 2: 1900 commands behind, slowest answer in seconds: 1.062" ++ 10 ∷ []) ∷ []
+unfolding digits
+one_is_far_behind = refl
 
 bob_has_another_match : notice_lines names 1 7010 (told.OtherLine 1) ≡ (codes "seat 1 (bob) at node 1: 86 OtherLine" ++ 10 ∷ []) ∷ []
 unfolding digits

@@ -1,6 +1,8 @@
 mod Examples
 mod RunExamples
+mod KeptExamples
 pub mod Feeds
+pub mod KeptPeers
 pub mod Runs
 pub mod CountedLines
 pub mod OneLog
@@ -8,3 +10,4 @@ pub mod Counting
 pub mod Accounts
 pub mod Waiting
 pub mod Telling
+mod StoreAnswers

@@ -15,6 +15,10 @@ over = by_turn (told.Gone 1 ∷ []) (Ok tt) refl
 lost_store : EndsBy outcome.StoreReplaced 0 [] [] (Err end.StoreReplaced)
 lost_store = by_turn [] (Err end.StoreReplaced) refl
 
+-- nor is it of one whose store is an older copy
+older_store : EndsBy outcome.StoreOlder 0 [] [] (Err end.StoreOlder)
+older_store = by_turn [] (Err end.StoreOlder) refl
+
 -- a turn after which a further one comes is no end
 going_on : (answer : Result (Unit {0}) NodeEnd) → end_of outcome.GoesOn ≡ Some answer → ⊥
 going_on answer is = cc

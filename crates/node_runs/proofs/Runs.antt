@@ -17,7 +17,7 @@ use Rattle.node_service.specs.Served.{Served}
 use Rattle.node_service.specs.Ending.{is_well, IsFault, IsOverAt}
 use Rattle.node_service.specs.Meaning.{IsMeant, IsKnownEverywhere}
 use Rattle.node_service.specs.Company.{IsShown, AreShown, ShownStays}
-use Rattle.node_service.specs.Serving.{served_of, told_in, outcome_in}
+use Rattle.node_service.specs.Serving.{served_of, told_in, outcome_in, ending_in}
 use Rattle.node_service.specs.declared.outcome.Outcome.{Outcome}
 use Rattle.node_service.specs.declared.outcome.Outcome.TheVariants as leaves
 use Rattle.node_service.specs.declared.server.NodeServer.{NodeServer}
@@ -35,7 +35,7 @@ use Rattle.node_runs.specs.WaitingNotes.{Holds, TakesCount, TakesOne, newest_of,
 use Rattle.node_runs.specs.declared.note_limits.Count.{Count}
 use Rattle.node_runs.specs.declared.waiting_notes.WaitingNotes.{WaitingNotes}
 use Rattle.node_runs.specs.Running as run
-use Rattle.node_runs.specs.Running.{Turns, Tells, TellsOne, HasFirstReason, HasLife, EndsBy, later_lines, begin_line, Went, Ran, GoesOnTo, end_of, by_fault, by_turn, unkept, by_count}
+use Rattle.node_runs.specs.Running.{Turns, Tells, TellsOne, HasFirstReason, HasLife, EndsBy, IsOneTurn, later_lines, begin_line, Went, Ran, GoesOnTo, end_of, by_fault, by_turn, unkept, by_count}
 use Rattle.node_runs.specs.declared.node_end.NodeEnd.{NodeEnd}
 
 -- what is told at a node goes by its match and its number alone
@@ -91,6 +91,8 @@ well_ended leaves.Over (Ok done) is = refl
 well_ended leaves.Over (Err why) is = tt
 well_ended leaves.StoreReplaced (Ok done) is = cc
 well_ended leaves.StoreReplaced (Err why) is = tt
+well_ended leaves.StoreOlder (Ok done) is = cc
+well_ended leaves.StoreOlder (Err why) is = tt
 well_ended (leaves.Failed fault) (Ok done) is = cc
 well_ended (leaves.Failed fault) (Err why) is = tt
 well_ended leaves.LogFailed (Ok done) is = cc
@@ -103,6 +105,8 @@ over_ended leaves.Over (Ok done) is = refl
 over_ended leaves.Over (Err why) is = tt
 over_ended leaves.StoreReplaced (Ok done) is = cc
 over_ended leaves.StoreReplaced (Err why) is = tt
+over_ended leaves.StoreOlder (Ok done) is = cc
+over_ended leaves.StoreOlder (Err why) is = tt
 over_ended (leaves.Failed fault) (Ok done) is = cc
 over_ended (leaves.Failed fault) (Err why) is = tt
 over_ended leaves.LogFailed (Ok done) is = cc
@@ -113,6 +117,7 @@ goes_on_only : (outcome : Outcome) → end_of outcome ≡ None → outcome ≡ l
 goes_on_only leaves.GoesOn is = refl
 goes_on_only leaves.Over is = cc
 goes_on_only leaves.StoreReplaced is = cc
+goes_on_only leaves.StoreOlder is = cc
 goes_on_only (leaves.Failed fault) is = cc
 goes_on_only leaves.LogFailed is = cc
 
@@ -208,13 +213,15 @@ module _ {D W : Type 0} {disk : Ghosts D} {wire : OfWire W} where
         (away : ℕ)
         → SoFar kept port started first start lives_first now before steps held lives notes → TellsLater (served_of next).look port (max notes.limits.clock next.left) notes notes_due held between
         → notes_due.limits.clock ≡ max notes.limits.clock next.left → TurnsAway (served_of next).look port away notes_due notes_after between held_after → notes_after.limits.clock ≡ notes_due.limits.clock → end_of before ≡ None → told_in now ≡ [] → served_of emptied ≡ served_of now
-        → WentOn disk [] (served_of emptied) (served_of next) → (is_well outcome ≡ true → (served_of next).log_failed ≡ false)
+        → IsOneTurn disk (served_of emptied) (served_of next) outcome → (is_well outcome ≡ true → (served_of next).log_failed ≡ false)
         → (outcome ≡ leaves.Over → IsOverAt disk (served_of next).look.node)
         → outcome_in emptied ≡ outcome_in now → (outcome ≡ leaves.GoesOn → outcome_in next ≡ leaves.GoesOn) → (outcome_in emptied ≡ leaves.GoesOn → outcome ≡ leaves.Over → IsKnownEverywhere next next.left)
-        → (outcome_in emptied ≡ leaves.GoesOn → IsFault outcome → IsMeant next outcome) → SoFar kept port started first start lives_first next outcome (steps + 1) held_after lives notes_after
-    turned law shown now emptied next before outcome steps held between held_after lives notes notes_due notes_after away so later due_at turns_away away_at on is same goes log over stays further known fault =
+        → (outcome_in emptied ≡ leaves.GoesOn → IsFault outcome → IsMeant next outcome) → (outcome ≡ leaves.Over → ending_in next ≡ leaves.GoesOn)
+        → SoFar kept port started first start lives_first next outcome (steps + 1) held_after lives notes_after
+    turned law shown now emptied next before outcome steps held between held_after lives notes notes_due notes_after away so later due_at turns_away away_at on is same goes log over stays further known fault behind =
         let going : outcome_in emptied ≡ leaves.GoesOn = stays ∙ so.further (goes_on_only before on) in
-        let onwards : WentOn disk [] (served_of now) (served_of next) = subst (λ (s : Served (Node D)). WentOn disk [] s (served_of next)) same goes in
+        let turn : IsOneTurn disk (served_of now) (served_of next) outcome = subst (λ (s : Served (Node D)). IsOneTurn disk s (served_of next) outcome) same goes in
+        let onwards : WentOn disk [] (served_of now) (served_of next) = turn.goes in
         let config = onwards.config ∙ so.config in
         let number = onwards.number ∙ so.number in
         let moments : List ℕ = so.moments ++ next.left ∷ [] in
@@ -237,7 +244,7 @@ module _ {D W : Type 0} {disk : Ghosts D} {wire : OfWire W} where
               (subst (λ (o : Outcome). Turns started first so.count so.moments so.told o so.last) (goes_on_only before on)
               (subst (λ (l : List ServerNotice). Turns started first so.count so.moments l before so.last) (append-nil so.told)
               (subst (λ (l : List ServerNotice). Turns started first so.count so.moments (so.told ++ l) before so.last) is so.turns)))
-              (subst (λ (s : Served (Node D)). WentOn disk [] s (served_of next)) so.served onwards) (record { known = known going; fault = fault going });
+              (subst (λ (s : Served (Node D)). IsOneTurn disk s (served_of next) outcome) so.served turn) (record { known = known going; fault = fault going; behind = behind });
           served = refl;
           noted = then.noted;
           holds = then.holds;

@@ -1,5 +1,6 @@
 pub mod KeyFiles
 pub mod KeptLogs
+pub mod KeptPeers
 pub mod NodeEnds
 pub mod NoteGroups
 pub mod NoteLimits
@@ -10,3 +11,4 @@ pub mod Running
 pub mod Tellers
 pub mod OneLog
 pub mod Tokens
+pub mod Looks

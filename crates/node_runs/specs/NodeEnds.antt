@@ -6,9 +6,9 @@ use Rattle.match_file.specs.declared.match_fault.MatchFault.TheVariants.{OutOfMe
 use Rattle.dealer_node.specs.FaultText.{fault_text as node_fault_text}
 use Rattle.dealer_node.specs.declared.fault.NodeFault.TheVariants.{Store, Conflict}
 use Rattle.node_runs.specs.declared.node_end.NodeEnd.{NodeEnd}
-use Rattle.node_runs.specs.declared.node_end.NodeEnd.TheVariants.{Match, Unreadable, StoreInUse, OtherMatch, LinkFailed, LogFailed, Node, StoreReplaced, LogDiffers}
+use Rattle.node_runs.specs.declared.node_end.NodeEnd.TheVariants.{Match, Unreadable, StoreInUse, OtherMatch, LinkFailed, LogFailed, Node, StoreReplaced, StoreOlder, LogDiffers}
 
--- the exit status: 3 of the node's own store and of a log that would differ, 2 of what is refused and of a store that was lost, 1 of what the system refuses
+-- the exit status: 3 of the node's own store and of a log that would differ, 2 of what is refused and of a store that was lost or is an older copy, 1 of what the system refuses
 abbrev pub status_of : NodeEnd → ℕ
 status_of (Match OutOfMemory) = 1
 status_of (Match fault) = 2
@@ -21,6 +21,7 @@ status_of (Node (Store fault)) = 3
 status_of (Node Conflict) = 3
 status_of (Node fault) = 1
 status_of StoreReplaced = 2
+status_of StoreOlder = 2
 status_of LogDiffers = 3
 
 -- the last line
@@ -33,4 +34,5 @@ end_text LinkFailed = codes "105 LinkFailed"
 end_text LogFailed = codes "106 LogFailed"
 end_text (Node fault) = node_fault_text fault
 end_text StoreReplaced = codes "127 StoreReplaced"
+end_text StoreOlder = codes "130 StoreOlder"
 end_text LogDiffers = codes "129 LogDiffers"

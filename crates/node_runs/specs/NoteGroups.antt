@@ -7,24 +7,32 @@ use Rattle.node_service.specs.declared.server_notice.ServerNotice.TheVariants as
 
 -- notes that have no group of their own
 abbrev pub others : ℕ
-others = 180
+others = 198
 
 -- those of callers for whom there was no place
 abbrev pub no_place : ℕ
-no_place = 109
+no_place = 110
 
 -- those of a seat of one kind
 abbrev pub seat_group : ℕ → ℕ → ℕ
 seat_group seat kind = if nat_lt seat 10 && nat_lt kind 10 then 10 * seat + kind else others
 
--- those of callers by one fault, 120 to 128: from an address of a peer, or from others
+-- which of the ten faults of callers it is: 120 to 128, or 130
+abbrev pub fault_kind : ℕ → Option ℕ
+fault_kind code = if nat_le 120 code && nat_le code 128 then Some (code - 120) else (if code == 130 then Some 9 else None)
+
+-- those of callers by one fault: from an address of a peer, or from others
 abbrev pub caller_group : Option ℕ → ℕ → ℕ
-caller_group None code = if nat_le 120 code && nat_le code 128 then code - 20 else others
-caller_group (Some peer) code = if nat_lt peer 7 && (nat_le 120 code && nat_le code 128) then 110 + 9 * peer + (code - 120) else others
+caller_group None code = elim (fault_kind code) [ Some kind ↦ 100 + kind | None ↦ others ]
+caller_group (Some peer) code = elim (fault_kind code) [ Some kind ↦ if nat_lt peer 7 then 111 + 10 * peer + kind else others | None ↦ others ]
+
+-- those of callers who were turned away at a seat
+abbrev pub seat_caller_group : ℕ → ℕ
+seat_caller_group seat = if nat_lt seat 10 then 181 + seat else others
 
 -- those of a peer that comes and goes
 abbrev pub peer_group : ℕ → ℕ
-peer_group peer = if nat_lt peer 7 then 173 + peer else others
+peer_group peer = if nat_lt peer 7 then 191 + peer else others
 
 -- the group of a notice
 abbrev pub group_of : ServerNotice → ℕ
@@ -34,6 +42,7 @@ group_of (told.Left seat) = seat_group seat 6
 group_of (told.OtherLine seat) = seat_group seat 7
 group_of (told.WrongToken seat count source) = seat_group seat 8
 group_of (told.Ordered seat) = seat_group seat 9
+group_of (told.TurnedAway seat count) = seat_caller_group seat
 group_of (told.Callers peer count fault) = caller_group peer (peer_fault_code fault)
 group_of (told.Joined peer life) = peer_group peer
 group_of (told.Gone peer) = peer_group peer
@@ -43,16 +52,17 @@ group_of other = others
 abbrev pub weight_of : ServerNotice → ℕ
 weight_of (told.Callers peer count fault) = count
 weight_of (told.WrongToken seat count source) = count
+weight_of (told.TurnedAway seat count) = count
 weight_of other = 1
 
 -- how many lines of a group may be told in a second: of faults 84 and 85, of orders, and of seats and peers that come and go ten, of other groups of seats and of callers one, of all without a group 50
 abbrev pub most_of : ℕ → ℕ
 most_of group =
-    if nat_lt group 100 then (if group % 10 == 4 || group % 10 == 5 || group % 10 == 6 || group % 10 == 9 then 10 else 1) else (if nat_lt group 173 then 1 else (if nat_lt group 180 then 10 else 50))
+    if nat_lt group 100 then (if group % 10 == 4 || group % 10 == 5 || group % 10 == 6 || group % 10 == 9 then 10 else 1) else (if nat_lt group 191 then 1 else (if nat_lt group 198 then 10 else 50))
 
 -- those of seats and of callers
 abbrev pub is_outside : ℕ → Bool
-is_outside group = nat_lt group 173
+is_outside group = nat_lt group 191
 
 -- a line of a group may be told where fewer than so many were told in the last second: ten of 50 are kept for what neither seats nor callers do
 abbrev pub room_of : ℕ → ℕ

@@ -12,11 +12,13 @@ use Rattle.operator_notes.specs.Notes.{IsNoted, AreNoted}
 use Rattle.node_links.specs.declared.own.Own.{Own}
 use Rattle.node_wires.specs.Passages.{Passage}
 use Rattle.node_service.specs.Company.{IsShown, AreShown}
-use Rattle.node_service.specs.Going.{GoesOn as WentOn}
+use Rattle.node_service.specs.Going.{GoesOn as WentOn, GoesOnWith, GoesOnToLife}
+use Rattle.node_service.specs.Turns.{IsTurnOf}
+use Rattle.node_service.specs.Bots.{AreServed}
 use Rattle.node_service.specs.Served.{Served}
 use Rattle.node_service.specs.Ending.{IsFault}
 use Rattle.node_service.specs.Meaning.{IsMeant, IsKnownEverywhere}
-use Rattle.node_service.specs.Serving.{served_of, told_in, outcome_in}
+use Rattle.node_service.specs.Serving.{served_of, told_in, outcome_in, ending_in}
 use Rattle.node_service.specs.declared.outcome.Outcome.{Outcome}
 use Rattle.node_service.specs.declared.outcome.Outcome.TheVariants as leaves
 use Rattle.node_service.specs.declared.server.NodeServer.{NodeServer}
@@ -88,6 +90,7 @@ abbrev pub end_of : Outcome → Option (Result (Unit {0}) NodeEnd)
 end_of leaves.GoesOn = None
 end_of leaves.Over = Some (Ok tt)
 end_of leaves.StoreReplaced = Some (Err end.StoreReplaced)
+end_of leaves.StoreOlder = Some (Err end.StoreOlder)
 end_of (leaves.Failed fault) = Some (Err (by_fault fault))
 end_of leaves.LogFailed = Some (Err end.LogFailed)
 
@@ -108,6 +111,13 @@ StopsAtLife own lines waiting told =
 -- ---- turns
 
 module _ {D : Type 0} (disk : Ghosts D) where
+  -- what one turn comes to: it takes what one may take, and nothing of peers behind a life that is to be kept; where a further one comes each bot was told all lines that it may be told
+  pub record IsOneTurn (before next : Served (Node D)) (outcome : Outcome) : Type 0 where
+    pub goes : WentOn disk [] before next
+    pub lives : GoesOnToLife disk before next
+    pub takes : GoesOnWith disk (IsTurnOf before.bots) before next
+    pub served : outcome ≡ leaves.GoesOn → AreServed disk next.look next.bots
+
   -- what goes on up to the one goes on up to the other
   abbrev pub GoesOnTo : Served (Node D) → Served (Node D) → Type 0
   GoesOnTo here there = (before : Served (Node D)) → WentOn disk [] before here → WentOn disk [] before there
@@ -117,6 +127,8 @@ module _ {D W : Type 0} {disk : Ghosts D} {wire : OfWire W} where
   pub record HasReason (next : NodeServer D W disk wire) (outcome : Outcome) : Type 0 where
     pub known : outcome ≡ leaves.Over → IsKnownEverywhere next next.left
     pub fault : IsFault outcome → IsMeant next outcome
+    -- it is over only where nothing else ends the process
+    pub behind : outcome ≡ leaves.Over → ending_in next ≡ leaves.GoesOn
 
   -- and what a start left to do: by it no match is over
   pub record HasFirstReason (started : NodeServer D W disk wire) (first : Outcome) : Type 0 where
@@ -127,7 +139,7 @@ module _ {D W : Type 0} {disk : Ghosts D} {wire : OfWire W} where
   pub data Turns (started : NodeServer D W disk wire) (first : Outcome) : ℕ → (moments : List ℕ) → List ServerNotice → Outcome → NodeServer D W disk wire → Type 0 where
     none : Turns started first 0 [] (told_in started) first started
     one : (count : ℕ) (moments : List ℕ) (waiting : List ServerNotice) (before next : NodeServer D W disk wire) (outcome : Outcome) → Turns started first count moments waiting leaves.GoesOn before
-        → WentOn disk [] (served_of before) (served_of next) → HasReason next outcome → Turns started first (count + 1) (moments ++ next.left ∷ []) (waiting ++ told_in next) outcome next
+        → IsOneTurn disk (served_of before) (served_of next) outcome → HasReason next outcome → Turns started first (count + 1) (moments ++ next.left ∷ []) (waiting ++ told_in next) outcome next
 
   -- turns were taken and told until it ended so; the keeper is as it was when the last thing was told, unless a life couldn't be kept then; each life is one that its node showed
   pub record Went {K : Type 0} (kept : K → ℕ → Life → K → Type 0) (port : ℕ) (started : NodeServer D W disk wire) (first : Outcome) (answer : Result (Unit {0}) NodeEnd)

@@ -27,6 +27,8 @@ pub enum NodeEnd {
     Node(NodeFault),
     /// 127: the node's store is another than the one that a peer knows, so it was lost and made anew.
     StoreReplaced,
+    /// 130: the node's store promises less than it had promised, so an older copy of it was put back.
+    StoreOlder,
     /// 129: its log would contradict one that an earlier start kept.
     LogDiffers,
 }
@@ -49,7 +51,8 @@ impl NodeEnd {
             | NodeEnd::Unreadable
             | NodeEnd::StoreInUse
             | NodeEnd::OtherMatch(_)
-            | NodeEnd::StoreReplaced => 2,
+            | NodeEnd::StoreReplaced
+            | NodeEnd::StoreOlder => 2,
         }
     }
 }
@@ -67,6 +70,7 @@ impl fmt::Display for NodeEnd {
             NodeEnd::LogFailed => f.write_str("106 LogFailed"),
             NodeEnd::Node(fault) => write!(f, "{fault}"),
             NodeEnd::StoreReplaced => f.write_str("127 StoreReplaced"),
+            NodeEnd::StoreOlder => f.write_str("130 StoreOlder"),
             NodeEnd::LogDiffers => f.write_str("129 LogDiffers"),
         }
     }

@@ -63,7 +63,7 @@ impl NoteLimits {
     ///
     /// It is told now where none of its group waits, and the last second has room for a line of it.
     pub fn note(&mut self, group: usize, count: u64, now: u64) -> bool
-        requires { group < 181 }
+        requires { group < 199 }
         ensures clock { self.new.clock ≡ max self.old.clock now }
         ensures account { (came told : List Counted) → IsAccount came told self.old → IsAccount (came ++ counted_at self.new.clock group count ∷ []) (told ++ cond result (counted_at self.new.clock group count ∷ []) []) self.new }
         ensures at_once { (came told : List Counted) → IsAccount came told self.old → result ≡ (waiting_at self.old group == 0 && has_room (filter (is_recent self.new.clock) told) group) }
@@ -84,7 +84,7 @@ impl NoteLimits {
         ensures clock { self.new.clock ≡ max self.old.clock now }
         ensures account { IfSome result (λ one. (came told : List Counted) → IsAccount came told self.old → IsAccount came (told ++ one ∷ []) self.new) }
         ensures time { IfSome result (λ one. one.time ≡ self.new.clock) }
-        ensures group { IfSome result (λ one. one.group < 181) }
+        ensures group { IfSome result (λ one. one.group < 199) }
         ensures count { IfSome result (λ one. 0 < one.count) }
         ensures same { IsNone result → (came told : List Counted) → IsAccount came told self.old → IsAccount came told self.new }
         ensures none { IsNone result → (group : ℕ) → has_due self.new group ≡ false }
@@ -137,7 +137,7 @@ impl NoteLimits {
 
     /// So many wait of a group from now on.
     fn set_waiting(&mut self, group: usize, count: u64)
-        requires { group < 181 }
+        requires { group < 199 }
         ensures waits { Waits group count self.old self.new }
         ensures clock { self.new.clock ≡ self.old.clock }
         ensures recent { self.new.recent.items ≡ self.old.recent.items }
@@ -221,7 +221,7 @@ impl NoteLimits {
     /// A group of which something is to be told now. The groups have their turns.
     fn next_due(&self) -> Option<usize>
         ensures due { IfSome result (λ group. has_due self.now group ≡ true) }
-        ensures within { IfSome result (λ group. group < 181) }
+        ensures within { IfSome result (λ group. group < 199) }
         ensures none { IsNone result → (group : ℕ) → has_due self.now group ≡ false }
     {
         match self.first_due(self.next, GROUPS) {

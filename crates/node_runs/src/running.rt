@@ -13,8 +13,10 @@ ghost use Rattle.operator_notes.specs.Notes.{IsNoted};
 ghost use Rattle.node_runs.specs.Running.{Ran, Went, GoesOnTo, begin_line, end_of};
 ghost use Rattle.node_runs.specs.WaitingNotes.{Holds};
 
+use crate::heard_promises::HeardPromises;
 use crate::life_keeper::LifeKeeper;
 use crate::node_end::NodeEnd;
+use crate::promise_keeper::PromiseKeeper;
 use crate::teller::Teller;
 use dealer_node::NodeFault;
 use node_service::laws::{lives_stay_shown, turns_are_one};
@@ -33,7 +35,8 @@ use std::io::Write;
 /// of notes, one line each, in the order in which the server tells it: first which node of which match begins. In any second
 /// 50 lines are told at most, and of each group of notes as many as it may have; what comes beyond that is counted, and a
 /// later line says how many. At the end all that waits is told. The life that was first seen of a peer's store is kept before
-/// it is told, and before the next turn. A note that can't be written is left out, and changes nothing of the match.
+/// it is told, and before the next turn. What peers are known to have promised is given to the keeper of promises, once a second
+/// at most, and once all that a turn had to tell was told. A note that can't be written is left out, and changes nothing of the match.
 ///
 /// What is promised of turns holds of all of them together: the node did its own deeds, and the log has what it showed to it,
 /// all of it where the run ends well; and then the match is over at the node. Over an honest disk that the node's earlier
@@ -42,10 +45,11 @@ use std::io::Write;
 /// the peers sent. A life that is kept is one that its node showed: the one of a Hello by which it opened a connection, with a
 /// key behind its proof.
 /// The `Err` is that of the last turn, or that a life couldn't be kept.
-pub fn node_run<D: Disk + Drop, W: Wire + Drop, L: LifeKeeper, N: Write>(
+pub fn node_run<D: Disk + Drop, W: Wire + Drop, L: LifeKeeper, P: PromiseKeeper, N: Write>(
     alloc: Global,
     server: &mut NodeServer<D, W>,
     lives: &mut L,
+    promises: &mut P,
     port: u16,
     notes: &mut N,
 ) -> Result<(), NodeEnd>
@@ -59,7 +63,7 @@ pub fn node_run<D: Disk + Drop, W: Wire + Drop, L: LifeKeeper, N: Write>(
     let first = server.start();
     tell_begin(alloc, server.station(), notes);
     let mut teller = Teller::new(alloc, port, server.left());
-    let answer = take_turns(alloc, server, first, lives, &mut teller, notes);
+    let answer = take_turns(alloc, server, first, lives, promises, &mut teller, notes);
     teller.tell_rest(server.station(), notes);
     server.limits();
     server.read_deals();
@@ -67,11 +71,12 @@ pub fn node_run<D: Disk + Drop, W: Wire + Drop, L: LifeKeeper, N: Write>(
 }
 
 /// Takes turns, where the start left this to do, and tells what it and they have to tell.
-fn take_turns<D: Disk + Drop, W: Wire + Drop, L: LifeKeeper, N: Write>(
+fn take_turns<D: Disk + Drop, W: Wire + Drop, L: LifeKeeper, P: PromiseKeeper, N: Write>(
     alloc: Global,
     server: &mut NodeServer<D, W>,
     first: Outcome,
     lives: &mut L,
+    promises: &mut P,
     teller: &mut Teller,
     notes: &mut N,
 ) -> Result<(), NodeEnd>
@@ -90,6 +95,7 @@ fn take_turns<D: Disk + Drop, W: Wire + Drop, L: LifeKeeper, N: Write>(
     lives_stay_shown();
     let mut outcome = first;
     let mut most = 0;
+    let mut heard = HeardPromises::new();
     for steps in 0..u64::MAX {
         if let Some(told) = server.notice() {
             if let Err(fault) = teller.tell(server.station(), &told, lives, notes) {
@@ -98,10 +104,11 @@ fn take_turns<D: Disk + Drop, W: Wire + Drop, L: LifeKeeper, N: Write>(
         } else if let Some(answer) = end_of(outcome) {
             return answer;
         } else {
+            heard.give(&*server, promises, server.left());
             (outcome, most) = server.turn(alloc, most);
             let left = server.left();
             teller.tell_due(server.station(), left, notes);
-            let away = server.wire().turned_away();
+            let away = server.wire().turned_away().saturating_add(server.unheard());
             teller.tell_turned_away(server.station(), away, notes);
         }
     }
@@ -117,6 +124,7 @@ fn end_of(outcome: Outcome) -> Option<Result<(), NodeEnd>>
         Outcome::GoesOn => None,
         Outcome::Over => Some(Ok(())),
         Outcome::StoreReplaced => Some(Err(NodeEnd::StoreReplaced)),
+        Outcome::StoreOlder => Some(Err(NodeEnd::StoreOlder)),
         Outcome::Failed(fault) => Some(Err(NodeEnd::from(fault))),
         Outcome::LogFailed => Some(Err(NodeEnd::LogFailed)),
     }

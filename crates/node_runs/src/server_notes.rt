@@ -101,10 +101,20 @@ fn note_of(config: &Config, node: u8, port: u16, told: &ServerNotice) -> Option<
             let source = *source;
             of_seat(config, *seat, About::WrongToken { node, source })
         }
+        ServerNotice::TurnedAway { seat, .. } => of_seat(config, *seat, About::NoPlace(node)),
         ServerNotice::OtherLine { seat } => of_seat(config, *seat, About::OtherLine(node)),
         ServerNotice::Ordered { seat } => of_seat(config, *seat, About::Ordered(node)),
         ServerNotice::Missing { seat } => of_seat(config, *seat, About::Missing),
         ServerNotice::Waits { seat } => awaited(config, node, port, *seat),
+        ServerNotice::Behind {
+            peer,
+            behind,
+            slowest,
+        } => Some(Noted::OfNode(NodeNote::Behind {
+            peer: *peer,
+            behind: *behind,
+            slowest: *slowest,
+        })),
         ServerNotice::Quorum => Some(Noted::OfNode(NodeNote::Quorum)),
         ServerNotice::QuorumLost => Some(Noted::OfNode(NodeNote::QuorumLost)),
         ServerNotice::Campaigns { ballot } => Some(Noted::OfNode(NodeNote::Campaigns(*ballot))),

@@ -53,7 +53,7 @@ impl WaitingNotes {
 
     /// So many of a group came that no notice tells. It says whether they are to be told now; else they wait.
     pub(crate) fn take_count(&mut self, group: usize, count: u64) -> bool
-        requires { group < 181 }
+        requires { group < 199 }
         ensures takes { TakesCount self.old.limits.clock group count result self.old self.new }
         ensures clock { self.new.limits.clock ≡ self.old.limits.clock }
     {
@@ -63,7 +63,7 @@ impl WaitingNotes {
 
     /// This is the newest of its group.
     fn keep(&mut self, group: usize, told: &ServerNotice)
-        requires { group < 181 }
+        requires { group < 199 }
         ensures newest { IsNewest group told.now self.old self.new }
         ensures limits { self.new.limits ≡ self.old.limits }
     {

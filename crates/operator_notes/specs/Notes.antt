@@ -8,7 +8,7 @@ use Rattle.seat_session.specs.Fault.{fault_text}
 use Rattle.seat_session.specs.declared.session_fault.SessionFault.{SessionFault}
 use Rattle.dealer_node.specs.FaultText.{fault_text as node_fault_text}
 use Rattle.operator_notes.specs.declared.note.About.{About}
-use Rattle.operator_notes.specs.declared.note.About.TheVariants.{Seated, Gone, Played, Ordered, Missing, WrongToken, OtherLine, Faulty, FaultyIn, Refused}
+use Rattle.operator_notes.specs.declared.note.About.TheVariants.{Seated, Gone, Played, Ordered, Missing, WrongToken, NoPlace, OtherLine, Faulty, FaultyIn, Refused}
 use Rattle.operator_notes.specs.declared.note.Note.{Note}
 use Rattle.operator_notes.specs.declared.note.Note.TheVariants as note
 use Rattle.operator_notes.specs.declared.seat_ports.SeatPorts.{SeatPorts}
@@ -94,6 +94,7 @@ about_text (Played node hand) = played_text node hand
 about_text (Ordered node) = there_text node (codes "timed out, default action ordered")
 about_text Missing = codes ": not connected yet, the match waits"
 about_text (WrongToken node source) = there_text node (codes "wrong token") ++ source_text source
+about_text (NoPlace node) = there_text node (codes "inbound connection refused: no place")
 about_text (OtherLine node) = there_text node (codes "86 OtherLine")
 about_text (Faulty node fault) = faulty_text node fault
 about_text (FaultyIn node hand fault) = faulty_in_text node hand fault

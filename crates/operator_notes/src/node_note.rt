@@ -7,13 +7,13 @@ ghost use Rattle.operator_notes.specs.Notes.{IsNoted, source_text};
 ghost use Rattle.operator_notes.specs.Shown.{shown};
 ghost use Rattle.std.specs.Net.Text.{socket_text};
 ghost use Rattle.operator_notes.specs.KeyFaults.{fault_line};
-ghost use Rattle.operator_notes.specs.NodeNotes.{at_text, away_text, difference_text, match_text, note_line, note_text, peer_text, started_text, time_text};
+ghost use Rattle.operator_notes.specs.NodeNotes.{at_text, away_text, behind_text, difference_text, machine_text, match_text, note_line, note_text, peer_text, seed_text, slowest_text, started_text, time_text};
 
 use crate::key_fault::KeyFault;
 use crate::note::put_source;
 use crate::sending::write_line;
 use crate::shown::{put_named, put_path, put_shown};
-use crate::time::Time;
+use crate::time::{Seconds, Time};
 use match_log::Name;
 use node_links::PeerFault;
 use paxos_wire::Ballot;
@@ -30,6 +30,15 @@ pub enum NodeNote<'a> {
         node: u8,
         front: u32,
     },
+    /// Nothing was found by which a start of the node would be refused, where no port was tried: of which match, and which of
+    /// its nodes it is.
+    CanStart {
+        name: Name,
+        node: u8,
+    },
+    /// The seed of this node is 0 in the match file, and that of another one isn't, as `new-match` writes it for the machine of
+    /// that one.
+    OtherMachine(u8),
     /// A key of the match file by which `node` doesn't go.
     PassedOver(&'a str),
     /// The file that the machine of node 0 has, and this one hasn't.
@@ -38,6 +47,8 @@ pub enum NodeNote<'a> {
     NotMade(&'a str),
     /// A file that a lost store of the node left, in whose place none is made.
     NotReplaced(&'a str),
+    /// The store of the node, which promises less than it had promised: an older copy of it was put back.
+    OlderCopy(&'a str),
     /// The hand whose line would have differed in a log from that of a kept one: the log, and the kept one.
     LogDiffers {
         log: &'a str,
@@ -85,12 +96,18 @@ pub enum NodeNote<'a> {
     },
     /// The tokens of seats differ in the match file of a peer.
     OtherTokens(u8),
-    /// A caller was closed at once, since there was no place for him.
+    /// A caller left or was closed before he had said a Hello, or at once since there was no place for him.
     NoPlace,
     /// Dials of a peer have come to nothing for a minute: its address refuses, or nobody answers there.
     Unreached {
         peer: u8,
         refuses: bool,
+    },
+    /// A peer is so many commands behind, and of its answers of late the slowest took so many microseconds.
+    Behind {
+        peer: u8,
+        behind: u32,
+        slowest: u64,
     },
     /// More than half of the nodes are here, this one among them.
     Quorum,
@@ -129,6 +146,8 @@ pub fn put_node_note(out: &mut Vec<u8>, note: &NodeNote<'_>) -> Result<(), Alloc
 {
     match note {
         NodeNote::Begins { name, node, front } => put_begin(out, name, *node, *front),
+        NodeNote::CanStart { name, node } => put_can_start(out, name, *node),
+        NodeNote::OtherMachine(node) => put_other_machine(out, *node),
         NodeNote::PassedOver(key) => put_passed_over(out, key),
         NodeNote::NotCopied(path) => {
             put_path(out, path, ": not found: copy it from the machine of node 0")
@@ -145,6 +164,13 @@ pub fn put_node_note(out: &mut Vec<u8>, note: &NodeNote<'_>) -> Result<(), Alloc
                 out,
                 path,
                 ": left by an earlier store: a lost store can't be replaced",
+            )
+        }
+        NodeNote::OlderCopy(path) => {
+            put_path(
+                out,
+                path,
+                ": an older copy: put the newest one back, or leave this node out",
             )
         }
         NodeNote::LogDiffers { log, hand, kept } => put_difference(out, log, *hand, kept),
@@ -181,7 +207,9 @@ pub fn put_node_note(out: &mut Vec<u8>, note: &NodeNote<'_>) -> Result<(), Alloc
             waits_here,
         } => put_other(out, *peer, "away", away(*waits_there), away(*waits_here)),
         NodeNote::OtherTokens(peer) => put_peer(out, *peer, "tokens differ"),
-        NodeNote::NoPlace => out.extend_from_slice(b"inbound connection refused: no place"),
+        NodeNote::NoPlace => out.extend_from_slice(
+            b"inbound connection refused: no Hello, or no place",
+        ),
         NodeNote::Unreached {
             peer,
             refuses: true,
@@ -190,6 +218,11 @@ pub fn put_node_note(out: &mut Vec<u8>, note: &NodeNote<'_>) -> Result<(), Alloc
             peer,
             refuses: false,
         } => put_peer(out, *peer, "answers no dial"),
+        NodeNote::Behind {
+            peer,
+            behind,
+            slowest,
+        } => put_behind(out, *peer, *behind, *slowest),
         NodeNote::Quorum => out.extend_from_slice(
             b"quorum: more than half of the nodes are connected",
         ),
@@ -208,6 +241,38 @@ fn put_begin(out: &mut Vec<u8>, name: &Name, node: u8, front: u32) -> Result<(),
 {
     put_match(out, name, node)?;
     let text = format!(in *out.allocator(); ": started, first unchosen slot {front}")?;
+    out.extend_from_slice(text.as_bytes())
+}
+
+/// Appends which node of which match can be started.
+fn put_can_start(out: &mut Vec<u8>, name: &Name, node: u8) -> Result<(), AllocError>
+    ensures { OnOk result (out.new.items ≡ out.old.items ++ (match_text name.now node ++ codes ": can be started (its ports were not tried)")) }
+{
+    put_match(out, name, node)?;
+    out.extend_from_slice(b": can be started (its ports were not tried)")
+}
+
+/// Appends that the seed of a node is 0, and the question whether this is its machine.
+fn put_other_machine(out: &mut Vec<u8>, node: u8) -> Result<(), AllocError>
+    ensures { OnOk result (out.new.items ≡ out.old.items ++ (seed_text node ++ machine_text node)) }
+{
+    put_seed(out, node)?;
+    put_machine(out, node)
+}
+
+/// Appends the question whether this is the machine of a node.
+fn put_machine(out: &mut Vec<u8>, node: u8) -> Result<(), AllocError>
+    ensures { OnOk result (out.new.items ≡ out.old.items ++ machine_text node) }
+{
+    let text = format!(in *out.allocator(); ": is this the machine of node {node}?")?;
+    out.extend_from_slice(text.as_bytes())
+}
+
+/// Appends that the seed of a node is 0.
+fn put_seed(out: &mut Vec<u8>, node: u8) -> Result<(), AllocError>
+    ensures { OnOk result (out.new.items ≡ out.old.items ++ seed_text node) }
+{
+    let text = format!(in *out.allocator(); "seed 0 of node {node}")?;
     out.extend_from_slice(text.as_bytes())
 }
 
@@ -359,6 +424,57 @@ fn away(waits: bool) -> &'static str
     ensures { result.now ≡ away_text waits }
 {
     if waits { "wait" } else { "play" }
+}
+
+/// Appends how many commands a peer is behind, and how many microseconds its slowest answer took.
+fn put_behind(out: &mut Vec<u8>, peer: u8, behind: u32, slowest: u64) -> Result<(), AllocError>
+    ensures { OnOk result (out.new.items ≡ out.old.items ++ (behind_text peer behind ++ slowest_text slowest)) }
+{
+    put_lag(out, peer, behind)?;
+    put_slowest(out, slowest)
+}
+
+/// Appends how many commands a peer is behind.
+fn put_lag(out: &mut Vec<u8>, peer: u8, behind: u32) -> Result<(), AllocError>
+    ensures { OnOk result (out.new.items ≡ out.old.items ++ behind_text peer behind) }
+{
+    put_peer_name(out, peer)?;
+    put_commands(out, behind)
+}
+
+/// Appends which peer something is told of.
+fn put_peer_name(out: &mut Vec<u8>, peer: u8) -> Result<(), AllocError>
+    ensures { OnOk result (out.new.items ≡ out.old.items ++ (codes "peer " ++ decimal peer ++ codes ": ")) }
+{
+    let text = format!(in *out.allocator(); "peer {peer}: ")?;
+    out.extend_from_slice(text.as_bytes())
+}
+
+/// Appends how many commands somebody is behind.
+fn put_commands(out: &mut Vec<u8>, behind: u32) -> Result<(), AllocError>
+    ensures { OnOk result (out.new.items ≡ out.old.items ++ (decimal behind ++ codes " commands behind")) }
+{
+    let text = format!(in *out.allocator(); "{behind} commands behind")?;
+    out.extend_from_slice(text.as_bytes())
+}
+
+/// Appends how many microseconds the slowest answer took.
+fn put_slowest(out: &mut Vec<u8>, slowest: u64) -> Result<(), AllocError>
+    ensures { OnOk result (out.new.items ≡ out.old.items ++ slowest_text slowest) }
+{
+    let slowest = Seconds {
+        microseconds: slowest,
+    };
+    let slowest = format!(in *out.allocator(); "{slowest}")?;
+    put_answer(out, slowest.as_str())
+}
+
+/// Appends how long the slowest answer took, in seconds.
+fn put_answer(out: &mut Vec<u8>, slowest: &str) -> Result<(), AllocError>
+    ensures { OnOk result (out.new.items ≡ out.old.items ++ (codes ", slowest answer in seconds: " ++ slowest.now)) }
+{
+    let text = format!(in *out.allocator(); ", slowest answer in seconds: {slowest}")?;
+    out.extend_from_slice(text.as_bytes())
 }
 
 /// Appends how many notes were left out.

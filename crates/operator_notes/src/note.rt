@@ -41,6 +41,8 @@ pub enum About<'a> {
         node: u8,
         source: Option<IpAddr>,
     },
+    /// Somebody who came to its port there was closed before he had shown a token, since there was no place for him.
+    NoPlace(u8),
     /// Its bot named a line there that is none of this seat in this match.
     OtherLine(u8),
     /// What it sent there was refused.
@@ -361,6 +363,7 @@ fn put_about(out: &mut Vec<u8>, about: &About<'_>) -> Result<(), AllocError>
             put_there(out, *node, "wrong token")?;
             put_source(out, source)
         }
+        About::NoPlace(node) => put_there(out, *node, "inbound connection refused: no place"),
         About::OtherLine(node) => put_there(out, *node, "86 OtherLine"),
         About::Played { node, hand } => put_played(out, *node, *hand),
         About::Faulty { node, fault } => put_faulty(out, *node, fault),

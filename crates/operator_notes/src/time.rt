@@ -1,5 +1,5 @@
 ghost use Rattle.std.specs.Prelude.{Some};
-ghost use Rattle.operator_notes.specs.NodeNotes.{time_text};
+ghost use Rattle.operator_notes.specs.NodeNotes.{seconds_text, time_text};
 
 use std::fmt;
 
@@ -23,6 +23,25 @@ impl fmt::Display for Time {
         if part == 0 {
             return write!(f, "{seconds}");
         }
+        let (first, second, third) = (part / 100, part / 10 % 10, part % 10);
+        write!(f, "{seconds}.{first}{second}{third}")
+    }
+}
+
+/// So long something took.
+///
+/// It prints in seconds, with three digits behind the point; what is below a thousandth is left out.
+#[derive(Clone, Copy, Debug)]
+pub(crate) struct Seconds {
+    pub(crate) microseconds: u64,
+}
+
+impl fmt::Display for Seconds {
+    ghost output = { λ time. Some (seconds_text time.microseconds) };
+
+    fn fmt<W: fmt::Write>(&self, f: &mut fmt::Formatter<W>) -> fmt::Result {
+        let seconds = self.microseconds / 1_000_000;
+        let part = self.microseconds / 1_000 % 1_000;
         let (first, second, third) = (part / 100, part / 10 % 10, part % 10);
         write!(f, "{seconds}.{first}{second}{third}")
     }

@@ -92,7 +92,7 @@ impl Verb {
                 Place::OneNode,
             ],
             Verb::Serve => &[Place::Times, Place::Match],
-            Verb::Node => &[Place::Times, Place::Match, Place::Node],
+            Verb::Node => &[Place::Look, Place::Times, Place::Match, Place::Node],
             Verb::Relay => &[
                 Place::Port,
                 Place::Listen,

@@ -17,6 +17,8 @@ pub(super) enum Place {
     Game,
     /// LOG.
     Log,
+    /// `--look`.
+    Look,
     /// `--times`.
     Times,
     /// MATCH.
@@ -78,6 +80,7 @@ fn argument_at<'a>(alloc: Global, place: Place) -> Result<Arg<'a>, AllocError> {
             "The game file, in the ACPC game definition format",
         ),
         Place::Log => word_at(alloc, "log", "LOG", "The log of a match of that game"),
+        Place::Look => look_option(alloc),
         Place::Times => times_option(alloc),
         Place::Match => word_at(alloc, "match", "MATCH", "The match file"),
         Place::Node => node_at(alloc, "The node's number, counted from 0").required(true),
@@ -276,6 +279,11 @@ fn nodes_at<'a>(alloc: Global) -> Arg<'a> {
         .required(true)
         .num_args(1..=7)
         .help("Where the seat is at each node")
+}
+
+/// `--look`.
+fn look_option<'a>(alloc: Global) -> Arg<'a> {
+    flag(alloc, "look", "Says how a start would end; changes nothing")
 }
 
 /// `--times`.

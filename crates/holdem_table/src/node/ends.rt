@@ -29,7 +29,7 @@ impl<'a> Place<'a> {
         Ok(())
     }
 
-    /// Tells the file that was at fault where the process ends, if one was.
+    /// Tells the file that was at fault where the process ends, if one was, and what is to be done about an older copy of a store.
     pub(super) fn tell_end(
         &self,
         server: &TcpNode<'_, '_>,
@@ -44,6 +44,10 @@ impl<'a> Place<'a> {
             NodeEnd::Node(NodeFault::Store(_)) => {
                 let path = store_path(self.rt.alloc(), self.stores, self.node)?;
                 notes.tell_file(path.as_str(), store_cause(server));
+            }
+            NodeEnd::StoreOlder => {
+                let path = store_path(self.rt.alloc(), self.stores, self.node)?;
+                notes.tell_node(&NodeNote::OlderCopy(path.as_str()));
             }
             NodeEnd::LogFailed => {
                 let path = log_path(self.rt.alloc(), self.logs, self.node)?;

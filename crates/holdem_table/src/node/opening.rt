@@ -6,17 +6,18 @@ use super::access::{Access, Times};
 use super::{Place, TcpNode};
 use crate::identity::{Identity, identify};
 use crate::life_files::LifeFiles;
-use crate::log_files::{begin_log, open_log};
+use crate::locking::Lock;
+use crate::log_files::{begin_log, look_at_log, open_log};
 use crate::notes::Notes;
 use crate::own_logs::OwnLogs;
-use crate::store_files::open_own_store;
+use crate::store_files::{open_own_store, refuse_store_in_use};
 use clockwork::limits::SHORTEST;
 use dealer_kind::Config;
 use dealer_node::NodeFault;
 use match_runs::Unserved;
 use node_links::{Own, Settings};
 use node_peers::{NodeAddress, Peers};
-use node_runs::{ComparedWire, KeptLog};
+use node_runs::{ComparedWire, KeptLog, KeptPeer};
 use node_seats::Seats;
 use node_service::{LocalNode, NodeServer, Terms};
 use node_status::Askers;
@@ -41,8 +42,8 @@ pub(super) struct Opened<'a> {
     nodes: u8,
     identity: Identity,
     disk: FileDisk,
-    /// The lives of its peers that it keeps, by number.
-    known: Vec<Option<Life>>,
+    /// What it keeps of its peers' stores, by number.
+    known: Vec<Option<KeptPeer>>,
     /// Its wires, with its log.
     wire: TcpWire<'a>,
     key: Option<Key>,
@@ -51,6 +52,17 @@ pub(super) struct Opened<'a> {
     addresses: Vec<NodeAddress>,
     times: Times,
     settings: Settings,
+}
+
+/// What lies beside the store of a node, and the store.
+#[derive(Drop)]
+struct Found {
+    identity: Identity,
+    disk: FileDisk,
+    /// What it keeps of its peers' stores, by number.
+    known: Vec<Option<KeptPeer>>,
+    /// The first number of its store's kept logs, where that is known.
+    first_log: Option<u32>,
 }
 
 /// The kept log that the node's log must not contradict.
@@ -63,6 +75,53 @@ pub(super) struct Kept {
 }
 
 impl<'a> Place<'a> {
+    /// Reads what lies beside the store, and looks at the store, whose lock is taken so.
+    fn find(
+        &self,
+        config: &Config,
+        lives: &LifeFiles<'_>,
+        lock: Lock,
+        notes: &mut Notes<'_>,
+    ) -> Result<Found, Unserved>
+        requires { self.now.node < length config.now.sources }
+    {
+        let nodes = config.nodes() as u8;
+        let identity = identify(self.rt, self.stores, self.node, config, notes)?;
+        let disk = open_own_store(self.rt, self.stores, (self.node, nodes), lock, notes)?;
+        let known = lives.read(nodes, notes)?;
+        let first_log = self.own_logs(identity.life).first(notes)?;
+        Ok(Found {
+            identity,
+            disk,
+            known,
+            first_log,
+        })
+    }
+
+    /// Looks at all of this, and at the logs, as a start does, and changes nothing. A store that has come into use by then is
+    /// refused (108), whatever was found.
+    pub(super) fn look(&self, config: &Config, notes: &mut Notes<'_>) -> Result<(), Unserved>
+        requires { self.now.node < length config.now.sources }
+    {
+        let looked = self.look_at_files(config, notes);
+        if let Err(Unserved::StoreInUse) = looked {
+            return looked;
+        }
+        refuse_store_in_use(self.rt, self.stores, self.node, notes)?;
+        looked
+    }
+
+    /// The same, where the store doesn't come into use.
+    fn look_at_files(&self, config: &Config, notes: &mut Notes<'_>) -> Result<(), Unserved>
+        requires { self.now.node < length config.now.sources }
+    {
+        let lives = LifeFiles::new(self.rt, self.stores, self.node);
+        let found = self.find(config, &lives, Lock::Tried, notes)?;
+        look_at_log(self.rt, self.logs, self.node, notes)?;
+        self.own_logs(found.identity.life)
+            .look(found.first_log, notes)
+    }
+
     /// Reads what lies beside the store, locks the store, and opens the ports and the log. Logs of earlier starts stay open, and
     /// so locked. What is kept of the log is read last, or first written.
     pub(super) fn open(
@@ -78,11 +137,12 @@ impl<'a> Place<'a> {
         let nodes = config.nodes() as u8;
         config.limits();
         let players = config.game().players() as u8;
-        let identity = identify(self.rt, self.stores, self.node, config, notes)?;
-        let disk = open_own_store(self.rt, self.stores, (self.node, nodes), notes)?;
-        let known = lives.read(nodes, notes)?;
-        let own_logs = self.own_logs(identity.life);
-        let first = own_logs.first(notes)?;
+        let Found {
+            identity,
+            disk,
+            known,
+            first_log,
+        } = self.find(config, lives, Lock::Held, notes)?;
         let Access {
             peers,
             from,
@@ -97,7 +157,7 @@ impl<'a> Place<'a> {
         let mut wire = self.bind(peers, seats, players, status, notes)?;
         add_sources(&mut wire, &from)?;
         wire.add_log(self.begin_log(old_logs, notes)?);
-        let kept = kept_log(&own_logs, first, notes)?;
+        let kept = kept_log(&self.own_logs(identity.life), first_log, notes)?;
         let seats = Seats::new(self.rt.alloc(), players, tokens)?;
         let opened = Opened {
             nodes,
@@ -139,20 +199,31 @@ impl<'a> Place<'a> {
         } = opened;
         let station = self.open_station(config, disk, notes)?;
         let alloc = self.rt.alloc();
-        let mut peers = Peers::new(alloc, self.own(nodes, identity, key), &known, SHORTEST)?;
+        let lives = self.lives(&known)?;
+        let mut peers = Peers::new(alloc, self.own(nodes, identity, key), &lives, SHORTEST)?;
+        set_heard(&mut peers, &known);
         peers.set_settings(settings);
         peers.set_addresses(addresses);
         let askers = Askers::new(alloc)?;
         let member = LocalNode::new(alloc, station);
         let wire = ComparedWire::new(wire, kept);
         let terms = Terms {
-            nodes,
             patience: times.patience.map(in_microseconds),
             start: in_microseconds(times.start.unwrap_or(LONGEST_START)),
             gives_up: !times.waits,
             settings: Some(settings),
         };
         Ok(NodeServer::new(alloc, member, wire, peers, seats, askers, terms))
+    }
+
+    /// The lives of these, by number.
+    fn lives(&self, known: &[Option<KeptPeer>]) -> Result<Vec<Option<Life>>, AllocError> {
+        let mut lives = Vec::with_capacity(self.rt.alloc(), known.len())?;
+        for kept in known {
+            lives.reserve(1)?;
+            lives.push_reserved(kept.map(|kept| kept.life));
+        }
+        Ok(lives)
     }
 
     /// The addresses of the nodes that dial this one, those of greater numbers.
@@ -246,6 +317,17 @@ impl<'a> Place<'a> {
                 }
                 Err(Unserved::Fault(ServeFault::Node(fault)))
             }
+        }
+    }
+}
+
+/// Tells what peers' stores have promised, as far as it was kept.
+fn set_heard(peers: &mut Peers, known: &[Option<KeptPeer>]) {
+    for peer in 0..NODES {
+        if let Some(Some(kept)) = known.get(peer)
+            && let Some(ballot) = kept.promised
+        {
+            peers.set_heard(peer as u8, ballot);
         }
     }
 }

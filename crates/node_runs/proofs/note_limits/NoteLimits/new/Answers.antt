@@ -11,4 +11,4 @@ nothing n group = elim (cases_lt group n) [
 ]
 
 pub returns-clause-account : goal.returns-clause-account
-returns-clause-account c = begun _ c.new.ensures (λ group. nothing 181 group)
+returns-clause-account c = begun _ c.new.ensures (λ group. nothing 199 group)

@@ -12,4 +12,4 @@ nothing n group = elim (cases_lt group n) [
 ]
 
 pub returns-clause-holds : goal.returns-clause-holds
-returns-clause-holds c = record { account = c.new.ensures.account; newest = λ group. nothing 181 group }
+returns-clause-holds c = record { account = c.new.ensures.account; newest = λ group. nothing 199 group }
