@@ -1,4 +1,4 @@
-//! A node of the match: its process, if it has one, what its disk keeps, and the lives that it keeps of others.
+//! A node of the match: its process, if it has one, what its disk keeps, and what it keeps of others: their lives, and what they promised.
 
 use crate::plan::Plan;
 use dealer_kind::Config;
@@ -8,18 +8,30 @@ use node_peers::{NodeAddress, Peers};
 use node_seats::Seats;
 use node_service::{LocalNode, NodeServer, Outcome, ServerNotice, Terms};
 use node_status::Askers;
+use paxos_wire::Ballot;
 use peer_codes::{Key, Life, MatchDigest};
 use stations::Station;
 use std::alloc::{AllocError, Global};
 use std::net::{IpAddr, Ipv4Addr};
 use test_kit::{Clock, MostRead, SimDisk, SimWire};
-use traffic::NODES;
+use traffic::{NODES, Order};
 
 /// A peer counts as absent at first after so long.
 const SILENCE: u64 = 1_000_000;
 
-/// A turn takes so long at least.
+/// A turn takes so long at least, where nothing else is said.
 const TURN: u64 = 10;
+
+/// What others promised is kept once in so long at most.
+const KEEPS: u64 = 1_000_000;
+
+/// A store's header has so many bytes.
+const HEADER: usize = 9;
+
+/// A new store of a node.
+fn new_store(alloc: Global, number: u8, nodes: u8) -> Result<Vec<u8>, AllocError> {
+    Vec::from_slice(alloc, &[b'H', b'D', b'J', b'2', number, nodes, 0, 0, 0])
+}
 
 pub(crate) type Server<'a> = NodeServer<SimDisk<'a>, SimWire<'a>>;
 
@@ -31,8 +43,13 @@ pub(crate) struct Place<'a> {
     pub(crate) server: Option<Server<'a>>,
     /// What the disk keeps while there is no process.
     pub(crate) image: Vec<u8>,
+    /// A copy of what the disk kept at a moment before, if one was made.
+    copy: Option<Vec<u8>>,
     /// The lives that it keeps of others.
     pub(crate) lives: Vec<Option<Life>>,
+    /// The greatest ballots that it knows others to have promised, as it keeps them, and when it kept them last.
+    heard: Vec<Option<Ballot>>,
+    kept: u64,
     /// When its process begins; never where there is one.
     pub(crate) begins: u64,
     /// When its next turn begins.
@@ -43,12 +60,18 @@ pub(crate) struct Place<'a> {
     left: u64,
     /// How long that turn may wait.
     rest: u64,
+    /// How long a turn takes at least.
+    least: u64,
     /// No turn begins before that.
     paused: u64,
     /// How many calls of its disk were told.
     pub(crate) told_calls: usize,
     /// How many processes it has begun.
     starts: u64,
+    /// How many times its store was replaced by a new one.
+    replaced: u8,
+    /// It is of another match.
+    is_other: bool,
     /// Its machine is gone: who comes to it isn't even refused.
     pub(crate) is_gone: bool,
     /// Its last process ended well.
@@ -70,27 +93,91 @@ impl<'a> Place<'a> {
         number: u8,
         nodes: u8,
     ) -> Result<Place<'a>, AllocError> {
-        let mut lives = Vec::new(alloc);
+        let (mut lives, mut heard) = (Vec::new(alloc), Vec::new(alloc));
         for _ in 0..NODES {
             lives.push(None)?;
+            heard.push(None)?;
         }
         Ok(Place {
             number,
             clock,
             server: None,
-            image: Vec::from_slice(alloc, &[b'H', b'D', b'J', b'2', number, nodes, 0, 0, 0])?,
+            image: new_store(alloc, number, nodes)?,
+            copy: None,
             lives,
+            heard,
+            kept: 0,
             begins: u64::MAX,
             next: u64::MAX,
             dies: u64::MAX,
             left: 0,
             rest: 0,
+            least: TURN,
             paused: 0,
             told_calls: 0,
             starts: 0,
+            replaced: 0,
+            is_other: false,
             is_gone: false,
             is_over: false,
         })
+    }
+
+    /// The byte of which the life of its store is made.
+    fn life(&self) -> u8 {
+        self.number
+            .saturating_add(1)
+            .saturating_add(self.replaced.saturating_mul(16))
+    }
+
+    /// What the disk keeps is another from now on, where there is no process: by WHAT 0 a new store of another life, by 1 nothing, by 2
+    /// this one, by 3 it has one bit that is another. By 4 what its process says is of another match. By 5 a copy is made of what the disk
+    /// keeps, and by 6 it is put back, if there is one.
+    pub(crate) fn change_store(
+        &mut self,
+        alloc: Global,
+        nodes: u8,
+        order: &Order,
+        other: Vec<u8>,
+    ) -> Result<(), AllocError> {
+        if self.server.is_some() {
+            return Ok(());
+        }
+        match order.number(1) {
+            0 => {
+                self.image = new_store(alloc, self.number, nodes)?;
+                self.replaced = self.replaced.saturating_add(1);
+            }
+            1 => self.image.clear(),
+            2 => self.image = other,
+            3 => self.flip(order.number(2)),
+            5 => self.copy = Some(Vec::from_slice(alloc, &self.image)?),
+            6 => self.put_back(alloc)?,
+            _ => self.is_other = true,
+        }
+        Ok(())
+    }
+
+    /// The disk keeps from now on what it kept when a copy was made, if one was.
+    fn put_back(&mut self, alloc: Global) -> Result<(), AllocError> {
+        if let Some(copy) = &self.copy {
+            self.image = Vec::from_slice(alloc, copy)?;
+        }
+        Ok(())
+    }
+
+    /// One bit behind the header of what the disk keeps is another from now on.
+    fn flip(&mut self, number: u64) {
+        let Some(records) = self.image.len().checked_sub(HEADER) else {
+            return;
+        };
+        if records == 0 {
+            return;
+        }
+        let place = (number % records as u64) as usize;
+        if let Some(byte) = self.image.get_mut(place.saturating_add(HEADER)) {
+            *byte ^= 1 << (number / 8 % 8) as u32;
+        }
     }
 
     /// What its process says of itself.
@@ -98,9 +185,11 @@ impl<'a> Place<'a> {
         Own {
             number: self.number,
             nodes,
-            digest: MatchDigest { bytes: [9; 32] },
+            digest: MatchDigest {
+                bytes: [if self.is_other { 8 } else { 9 }; 32],
+            },
             life: Life {
-                bytes: [self.number.saturating_add(1); 16],
+                bytes: [self.life(); 16],
             },
             key: if has_key {
                 Some(Key { bytes: [5; 32] })
@@ -114,6 +203,11 @@ impl<'a> Place<'a> {
     fn peers(&self, alloc: Global, plan: &Plan, settings: Settings) -> Result<Peers, AllocError> {
         let own = self.own(plan.nodes, plan.has_key);
         let mut peers = Peers::new(alloc, own, &self.lives, SILENCE)?;
+        for (peer, heard) in self.heard.iter().enumerate() {
+            if let Some(ballot) = heard {
+                peers.set_heard(peer.min(NODES) as u8, *ballot);
+            }
+        }
         let mut addresses = Vec::new(alloc);
         for node in self.number.saturating_add(1)..plan.nodes {
             let at = IpAddr::V4(Ipv4Addr::new(10, 0, 0, node));
@@ -169,7 +263,6 @@ impl<'a> Place<'a> {
         let seats = Seats::new(alloc, players, plan.tokens(alloc, players)?)?;
         let askers = Askers::new(alloc)?;
         let terms = Terms {
-            nodes: plan.nodes,
             patience: plan.patience,
             start: plan.start,
             gives_up: !plan.waits,
@@ -190,6 +283,12 @@ impl<'a> Place<'a> {
         }
     }
 
+    /// Each call of its wires takes so long from now on, and each of its turns at least so long.
+    pub(crate) fn set_cost(&mut self, call: u64, turn: u64) {
+        self.clock.set_call(call);
+        self.least = turn.max(TURN);
+    }
+
     /// No turn of its process begins before this moment.
     pub(crate) fn pause(&mut self, until: u64) {
         self.paused = self.paused.max(until);
@@ -203,7 +302,11 @@ impl<'a> Place<'a> {
         if self.server.is_none() || self.left == u64::MAX {
             return;
         }
-        let soonest = self.left.saturating_add(TURN).max(now).max(self.paused);
+        let soonest = self
+            .left
+            .saturating_add(self.least)
+            .max(now)
+            .max(self.paused);
         self.next = self.next.min(soonest);
     }
 
@@ -266,12 +369,34 @@ impl<'a> Place<'a> {
         server.wire_mut().ends.begin_turn(next);
         let (outcome, rest) = server.turn(alloc, most);
         self.leave(rest);
+        self.keep_heard();
         outcome
+    }
+
+    /// Keeps what its process knows others to have promised, of those whose life it keeps, unless it did so a moment before.
+    fn keep_heard(&mut self) {
+        let now = self.clock.now();
+        if self.clock.is_dead() || now < self.kept.saturating_add(KEEPS) {
+            return;
+        }
+        let Some(server) = &self.server else {
+            return;
+        };
+        self.kept = now;
+        for peer in 0..NODES {
+            let told = server.heard(peer as u8);
+            let has_life = matches!(self.lives.get(peer), Some(Some(_)));
+            if let Some(heard) = self.heard.get_mut(peer) {
+                if has_life && told.is_some() {
+                    *heard = told;
+                }
+            }
+        }
     }
 
     /// Its process has left a turn, or begun, and may wait so long; one that died in it has no next one.
     fn leave(&mut self, rest: u64) {
-        self.rest = rest.max(TURN);
+        self.rest = rest.max(self.least);
         if self.clock.is_dead() {
             self.left = u64::MAX;
             self.next = u64::MAX;

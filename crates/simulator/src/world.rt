@@ -6,6 +6,7 @@ mod orders;
 mod processes;
 mod strangers;
 
+use crate::flood::Flood;
 use crate::place::Place;
 use crate::plan::Plan;
 use crate::telling::put_line;
@@ -21,6 +22,7 @@ enum Next {
     Begin(usize),
     Turn(usize),
     Bot(usize),
+    Stranger(usize),
     Nothing,
 }
 
@@ -35,6 +37,7 @@ pub(crate) struct World<'p, 'c> {
     now: u64,
     places: Vec<Place<'c>>,
     bots: Vec<Bot>,
+    floods: Vec<Flood>,
     ways: Ways,
     is_done: bool,
     /// The trace that isn't printed yet.
@@ -66,6 +69,7 @@ impl<'p, 'c> World<'p, 'c> {
             now: 0,
             places,
             bots: Vec::new(alloc),
+            floods: Vec::new(alloc),
             ways: Ways::new(alloc),
             is_done: false,
             text: Vec::new(alloc),
@@ -93,7 +97,8 @@ impl<'p, 'c> World<'p, 'c> {
             _ => (moment, next),
         };
         let (moment, next) = self.next_of_places(moment, next);
-        self.next_of_bots(moment, next)
+        let (moment, next) = self.next_of_bots(moment, next);
+        self.next_of_floods(moment, next)
     }
 
     /// The first of these and of what processes do.
@@ -121,6 +126,17 @@ impl<'p, 'c> World<'p, 'c> {
         first
     }
 
+    /// The first of these and of the strangers who flood ports.
+    fn next_of_floods(&self, moment: u64, next: Next) -> (u64, Next) {
+        let mut first = (moment, next);
+        for (number, flood) in self.floods.iter().enumerate() {
+            if flood.next() < first.0 {
+                first = (flood.next(), Next::Stranger(number));
+            }
+        }
+        first
+    }
+
     /// One event. False where there is none any more.
     pub(crate) fn step(&mut self) -> Result<bool, AllocError> {
         let (moment, next) = self.next();
@@ -136,6 +152,7 @@ impl<'p, 'c> World<'p, 'c> {
             Next::Begin(node) => self.begin(node)?,
             Next::Turn(node) => self.turn(node)?,
             Next::Bot(bot) => self.wake_bot(bot)?,
+            Next::Stranger(flood) => self.flood(flood)?,
         }
         Ok(true)
     }

@@ -11,6 +11,8 @@ pub struct Clock {
     end: Cell<u64>,
     /// How long a sync takes.
     sync: Cell<u64>,
+    /// How long a call of wires takes.
+    call: Cell<u64>,
     /// How many calls of the disk pass before one fails; the greatest number where none does.
     left: Cell<u64>,
 }
@@ -22,6 +24,7 @@ impl Clock {
             now: Cell::new(0),
             end: Cell::new(u64::MAX),
             sync: Cell::new(100),
+            call: Cell::new(1),
             left: Cell::new(u64::MAX),
         }
     }
@@ -47,6 +50,11 @@ impl Clock {
         self.sync.get()
     }
 
+    /// A call of wires takes so long from now on.
+    pub fn set_call(&self, call: u64) {
+        self.call.set(call);
+    }
+
     /// So many calls of the disk pass before one fails.
     pub fn set_left(&self, left: u64) {
         self.left.set(left);
@@ -65,6 +73,11 @@ impl Clock {
     /// Whether the process has died.
     pub fn is_dead(&self) -> bool {
         self.now.get() >= self.end.get()
+    }
+
+    /// The time of a call of wires goes by. It says whether the process lives on.
+    pub fn spend_call(&self) -> bool {
+        self.spend(self.call.get())
     }
 
     /// So much time goes by. It says whether the process lives on.

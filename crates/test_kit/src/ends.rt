@@ -7,13 +7,17 @@ use crate::clock::Clock;
 use crate::most_read::MostRead;
 use crate::pipe::Pipe;
 use node_wires::limits::{
-    ASKERS, CALLERS, GUESTS, KEPT, LINES, NODES, OTHERS, SEATS, STANDS, STRANGERS,
+    ASKERS, CALLERS, DIALLED, DOORS, GUESTS, KEPT, LINES, NODES, ORDINARY, OTHERS, SEATS, STANDS,
+    STRANGERS,
 };
 use node_wires::{Halt, Line};
 use std::alloc::{AllocError, Global};
 
 /// A connection has room for so many bytes that weren't read yet.
 pub const ROOM: usize = 65_536;
+
+/// So many may wait at one port to be taken in; who dials then isn't answered.
+pub const BACKLOG: usize = 4_096;
 
 /// The port to which somebody comes.
 #[derive(Clone, Copy, Debug, PartialEq, Eq)]
@@ -23,13 +27,6 @@ pub enum Port {
     Status,
 }
 
-/// One who came and isn't taken in yet.
-#[derive(Drop)]
-struct Comer {
-    port: Port,
-    pipe: Pipe,
-}
-
 /// The ends of all connections of a process.
 #[derive(Drop)]
 pub struct Ends<'a> {
@@ -37,7 +34,8 @@ pub struct Ends<'a> {
     clock: &'a Clock,
     /// Of each line, by its place.
     pipes: Vec<Pipe>,
-    comers: Vec<Comer>,
+    /// Those who came to each port and aren't taken in yet, by `queue_of`.
+    comers: Vec<Vec<Pipe>>,
     acts: Vec<Act>,
     /// The number of the next connection that the process begins.
     next: u32,
@@ -56,11 +54,11 @@ pub struct Ends<'a> {
 /// The place of a line among all; none of a number that there isn't.
 pub fn place_of(line: Line) -> Option<usize> {
     let (number, count, first) = match line {
-        Line::Peer(number) => (number, NODES, 0),
-        Line::Caller(number) => (number, CALLERS, NODES),
-        Line::Seat(number) => (number, SEATS, NODES + CALLERS),
-        Line::Guest(number) => (number, GUESTS, NODES + CALLERS + SEATS),
-        Line::Asker(number) => (number, ASKERS, NODES + CALLERS + SEATS + GUESTS),
+        Line::Peer(number) => (number, DIALLED, 0),
+        Line::Caller(number) => (number, CALLERS, DIALLED),
+        Line::Seat(number) => (number, SEATS, DIALLED + CALLERS),
+        Line::Guest(number) => (number, GUESTS, DIALLED + CALLERS + SEATS),
+        Line::Asker(number) => (number, ASKERS, DIALLED + CALLERS + SEATS + GUESTS),
     };
     let number = number as usize;
     if number < count {
@@ -70,13 +68,91 @@ pub fn place_of(line: Line) -> Option<usize> {
     }
 }
 
-/// The first of the places at which one from this address may stand, and how many there are, where he dialled.
-fn callers_of(address: u16) -> (usize, usize) {
+/// The queue of a port among those of all.
+fn queue_of(port: Port) -> usize {
+    match port {
+        Port::Peers => 0,
+        Port::Status => 1,
+        Port::Seat(seat) => (seat as usize).saturating_add(2),
+    }
+}
+
+/// So many queues, in which nobody waits.
+fn empty_queues(alloc: Global, count: usize) -> Result<Vec<Vec<Pipe>>, AllocError> {
+    let mut queues = Vec::with_capacity(alloc, count)?;
+    for _ in 0..count {
+        queues.push(Vec::new(alloc))?;
+    }
+    Ok(queues)
+}
+
+/// In which of these queues who has a connection waits, and where in it. It is sought among the last ones first.
+fn waits_at(queues: &[Vec<Pipe>], connection: u32) -> Option<(usize, usize)> {
+    for (number, queue) in queues.iter().enumerate() {
+        for place in (0..queue.len()).rev() {
+            if let Some(pipe) = queue.get(place) {
+                if pipe.connection == Some(connection) {
+                    return Some((number, place));
+                }
+            }
+        }
+    }
+    None
+}
+
+/// Places at which who comes may stand.
+#[derive(Clone, Copy)]
+struct Places {
+    /// The first of them, and how many there are.
+    first: usize,
+    count: usize,
+    /// From this one on there are those that are of one seat alone, so many of each, and which of them he may take.
+    doors: usize,
+    seat: usize,
+    /// Who stands at one makes room for nobody before he has stood for so long.
+    stay: u64,
+}
+
+/// So many places from this one on, which are open to all who come; who stands there makes room behind so long.
+fn open_places(first: usize, count: usize, stay: u64) -> Places {
+    Places {
+        first,
+        count,
+        doors: usize::MAX,
+        seat: 0,
+        stay,
+    }
+}
+
+/// The places of one from this address who dialled.
+fn places_of_caller(address: u16) -> Places {
     let node = address as usize;
     if node < NODES {
-        (NODES + OTHERS + KEPT * node, KEPT)
+        open_places(DIALLED + OTHERS + KEPT * node, KEPT, 0)
     } else {
-        (NODES, OTHERS)
+        open_places(DIALLED, OTHERS, STANDS)
+    }
+}
+
+/// The places of one who came to a seat's port.
+fn places_of_guest(seat: u8) -> Places {
+    Places {
+        first: DIALLED + CALLERS + SEATS,
+        count: GUESTS,
+        doors: DIALLED + CALLERS + SEATS + ORDINARY,
+        seat: seat as usize,
+        stay: STANDS,
+    }
+}
+
+impl Places {
+    /// Whether a place is of one seat alone; none where it is another seat's.
+    fn is_door(self, place: usize) -> Option<bool> {
+        match place.checked_sub(self.doors) {
+            None => Some(false),
+            Some(door) if door / DOORS == self.seat => Some(true),
+            Some(_) => None,
+        }
     }
 }
 
@@ -91,7 +167,7 @@ impl<'a> Ends<'a> {
             alloc,
             clock,
             pipes,
-            comers: Vec::new(alloc),
+            comers: empty_queues(alloc, SEATS.saturating_add(2))?,
             acts: Vec::new(alloc),
             next: 0,
             turns: 0,
@@ -162,27 +238,30 @@ impl<'a> Ends<'a> {
                 return Some(pipe);
             }
         }
-        for comer in self.comers.iter_mut() {
-            if comer.pipe.connection == Some(connection) {
-                return Some(&mut comer.pipe);
-            }
-        }
-        None
+        let (queue, place) = waits_at(&self.comers, connection)?;
+        self.comers.get_mut(queue)?.get_mut(place)
     }
 
-    /// Somebody from this address came to a port. So many bytes may be written to him before he has read some.
+    /// Somebody from this address came to a port. So many bytes may be written to him before he has read some. False where too many
+    /// wait there: he isn't answered.
     pub fn come(
         &mut self,
         port: Port,
         connection: u32,
         address: u16,
         room: usize,
-    ) -> Result<(), AllocError> {
+    ) -> Result<bool, AllocError> {
         let mut pipe = Pipe::new(self.alloc, connection, address, room);
         self.turn = self.turn.saturating_add(1);
         pipe.turn = Some(self.turn);
-        self.comers.push(Comer { port, pipe })?;
-        Ok(())
+        let Some(queue) = self.comers.get_mut(queue_of(port)) else {
+            return Ok(false);
+        };
+        if queue.len() >= BACKLOG {
+            return Ok(false);
+        }
+        queue.push(pipe)?;
+        Ok(true)
     }
 
     /// These bytes came over a connection. False where the process has no end of it.
@@ -279,38 +358,35 @@ impl<'a> Ends<'a> {
         }
     }
 
-    /// Dials a peer.
+    /// Dials a peer, over the line of this number: each has two.
     pub fn dial(&mut self, peer: u8) -> bool {
         let Some(place) = place_of(Line::Peer(peer)) else {
             return false;
         };
-        if !self.clock.spend(1) {
+        if !self.clock.spend_call() {
             return false;
         }
         let connection = self.next;
         self.next = self.next.wrapping_add(1);
-        let pipe = Pipe::new(self.alloc, connection, peer as u16, 0);
+        let node = peer % NODES as u8;
+        let pipe = Pipe::new(self.alloc, connection, node as u16, 0);
         if !self.put(place, pipe) {
             return false;
         }
-        self.note(What::Dialled { connection, peer });
+        self.note(What::Dialled {
+            connection,
+            peer: node,
+        });
         true
     }
 
     /// The end of the connection of who came first to a port and isn't taken in.
     fn take_comer(&mut self, port: Port) -> Option<Pipe> {
-        let mut found = None;
-        for (place, comer) in self.comers.iter().enumerate() {
-            if comer.port == port && found.is_none() {
-                found = Some(place);
-            }
-        }
-        let place = found?;
-        if place >= self.comers.len() {
+        let queue = self.comers.get_mut(queue_of(port))?;
+        if queue.is_empty() {
             return None;
         }
-        let Comer { port: _, pipe } = self.comers.remove(place);
-        Some(pipe)
+        Some(queue.remove(0))
     }
 
     /// How many of an address stand at these places of whom it isn't known who they are.
@@ -324,21 +400,31 @@ impl<'a> Ends<'a> {
         strangers
     }
 
-    /// Which of these places one from an address takes: a free one, or that of who came first and has stood long enough.
-    fn place_for(&self, first: usize, count: usize, address: u16, stay: u64) -> Option<usize> {
-        let now = self.clock.now();
+    /// How soon one from an address takes a place, at which this end stands: one that is free and open to all first, then that of who
+    /// came first and has stood long enough, then one of his seat alone. Where many of his address stand none is free but that one,
+    /// and none but they make room.
+    fn rank(&self, places: Places, place: usize, address: u16, is_crowded: bool) -> Option<u64> {
+        let pipe = self.pipes.get(place)?;
+        let is_door = places.is_door(place)?;
+        match (pipe.connection, pipe.turn) {
+            (None, _) if is_door => Some(u64::MAX),
+            (None, _) => { if is_crowded { None } else { Some(0) } }
+            (Some(_), Some(turn)) => {
+                let may_go = self.clock.now().saturating_sub(pipe.since) >= places.stay
+                    && (!is_crowded || pipe.address == address);
+                if may_go { Some(turn) } else { None }
+            }
+            (Some(_), None) => None,
+        }
+    }
+
+    /// Which of these places one from an address takes.
+    fn place_for(&self, places: Places, address: u16) -> Option<usize> {
+        let Places { first, count, .. } = places;
         let is_crowded = self.strangers(first, count, address) >= STRANGERS;
         let mut best: Option<(usize, u64)> = None;
-        for (place, pipe) in self.pipes.iter().enumerate().skip(first).take(count) {
-            let rank = match (pipe.connection, pipe.turn) {
-                (None, _) => { if is_crowded { None } else { Some(0) } }
-                (Some(_), Some(turn)) => {
-                    let may_go = now.saturating_sub(pipe.since) >= stay
-                        && (!is_crowded || pipe.address == address);
-                    if may_go { Some(turn) } else { None }
-                }
-                (Some(_), None) => None,
-            };
+        for place in first..first.saturating_add(count) {
+            let rank = self.rank(places, place, address, is_crowded);
             if let Some(rank) = rank {
                 let is_better = match best {
                     Some((_, before)) => rank < before,
@@ -382,14 +468,12 @@ impl<'a> Ends<'a> {
                 return None;
             }
             let pipe = self.take_comer(Port::Peers)?;
-            let (first, count) = callers_of(pipe.address);
-            let stay = if count == OTHERS { STANDS } else { 0 };
-            match self.place_for(first, count, pipe.address, stay) {
+            match self.place_for(places_of_caller(pipe.address), pipe.address) {
                 Some(place) => {
-                    if !self.clock.spend(1) || !self.take_in(place, pipe) {
+                    if !self.clock.spend_call() || !self.take_in(place, pipe) {
                         return None;
                     }
-                    return Some(place.saturating_sub(NODES).min(255) as u8);
+                    return Some(place.saturating_sub(DIALLED).min(255) as u8);
                 }
                 None => self.turn_away(&pipe),
             }
@@ -409,33 +493,36 @@ impl<'a> Ends<'a> {
             return false;
         };
         pipe.turn = None;
-        self.clock.spend(1) && self.take_in(place, pipe)
+        self.clock.spend_call() && self.take_in(place, pipe)
     }
 
     /// Takes in the next one who came to a port, at one of these places, and answers which.
-    fn accept_at(&mut self, port: Port, first: usize, count: usize) -> Option<u8> {
+    fn accept_at(&mut self, port: Port, places: Places) -> Option<u8> {
         if self.clock.is_dead() {
             return None;
         }
         let pipe = self.take_comer(port)?;
-        let Some(place) = self.place_for(first, count, pipe.address, 0) else {
+        let Some(place) = self.place_for(places, pipe.address) else {
             self.turn_away(&pipe);
             return None;
         };
-        if !self.clock.spend(1) || !self.take_in(place, pipe) {
+        if !self.clock.spend_call() || !self.take_in(place, pipe) {
             return None;
         }
-        Some(place.saturating_sub(first).min(255) as u8)
+        Some(place.saturating_sub(places.first).min(255) as u8)
     }
 
     /// Takes in the next one who came to a seat's port as a guest.
     pub fn accept_guest(&mut self, seat: u8) -> Option<u8> {
-        self.accept_at(Port::Seat(seat), NODES + CALLERS + SEATS, GUESTS)
+        self.accept_at(Port::Seat(seat), places_of_guest(seat))
     }
 
     /// Takes in the next one who came to the status port.
     pub fn accept_asker(&mut self) -> Option<u8> {
-        self.accept_at(Port::Status, NODES + CALLERS + SEATS + GUESTS, ASKERS)
+        self.accept_at(
+            Port::Status,
+            open_places(DIALLED + CALLERS + SEATS + GUESTS, ASKERS, 0),
+        )
     }
 
     /// Gives the connection of a guest to a seat's line. What was read of him before isn't read of the seat.
@@ -444,7 +531,7 @@ impl<'a> Ends<'a> {
         else {
             return false;
         };
-        if from >= self.pipes.len() || to >= self.pipes.len() || !self.clock.spend(1) {
+        if from >= self.pipes.len() || to >= self.pipes.len() || !self.clock.spend_call() {
             return false;
         }
         let Some(connection) = self.pipes[from].connection else {
@@ -491,7 +578,7 @@ impl<'a> Ends<'a> {
         let count = pipe.read(piece)?;
         let read = pipe.count_read(turn, count);
         self.most_read.note(line, read);
-        let _ = self.clock.spend(1);
+        let _ = self.clock.spend_call();
         if let (Some(connection), Some(bytes)) = (connection, self.copy(&piece[..count])) {
             self.note(What::Read { connection, bytes });
         }
@@ -513,7 +600,7 @@ impl<'a> Ends<'a> {
         };
         let connection = pipe.connection;
         let count = pipe.take_room(bytes.len())?;
-        if !self.clock.spend(1) {
+        if !self.clock.spend_call() {
             return Err(Halt::Ended);
         }
         if let (Some(connection), Some(bytes)) = (connection, self.copy(&bytes[..count])) {

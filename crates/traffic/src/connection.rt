@@ -117,6 +117,11 @@ impl Connection {
         }
     }
 
+    /// Whether the listener has closed it.
+    pub(crate) fn is_closed_there(&self) -> bool {
+        self.is_closed_there
+    }
+
     /// An end has closed it; false where it had before.
     pub(crate) fn close(&mut self, is_dialler: bool) -> bool {
         if is_dialler {

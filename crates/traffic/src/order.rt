@@ -46,6 +46,12 @@ pub enum Word {
     Hush,
     /// Somebody comes to a port of a node and sends something: NODE PORT COUNT SEED STAYS.
     Stranger,
+    /// Strangers come to a port of a node one after another, so many a second, for so long: NODE PORT RATE KIND MICROSECONDS.
+    Flood,
+    /// Each call of a node's wires takes so long, and each turn of its process at least so long: NODE CALL TURN.
+    Cost,
+    /// What the disk of a node without a process keeps is another from now on: NODE WHAT NUMBER.
+    Store,
     /// The run ends.
     End,
 }
@@ -104,6 +110,9 @@ impl Word {
             Word::Leave,
             Word::Hush,
             Word::Stranger,
+            Word::Flood,
+            Word::Cost,
+            Word::Store,
             Word::End,
         ] {
             if word.name() == name {
@@ -132,6 +141,9 @@ impl Word {
             Word::Leave => "leave",
             Word::Hush => "hush",
             Word::Stranger => "stranger",
+            Word::Flood => "flood",
+            Word::Cost => "cost",
+            Word::Store => "store",
             Word::End => "end",
         }
     }

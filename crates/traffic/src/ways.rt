@@ -162,6 +162,14 @@ impl Ways {
         }
     }
 
+    /// Whether the listener of a connection has closed it.
+    pub fn is_closed_there(&self, number: u32) -> bool {
+        match self.connection(number) {
+            Some(connection) => connection.is_closed_there(),
+            None => true,
+        }
+    }
+
     /// One end is closed; false where it was before.
     fn close(&mut self, number: u32, is_dialler: bool) -> bool {
         match self.connections.get_mut(number as usize) {

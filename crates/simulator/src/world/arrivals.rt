@@ -52,7 +52,9 @@ impl<'p, 'c> World<'p, 'c> {
         let ends = &mut server.wire_mut().ends;
         match load {
             Load::Dial { seat } => {
-                ends.come(port_of(seat), number, address, room_of(sender))?;
+                if !ends.come(port_of(seat), number, address, room_of(sender))? {
+                    return Ok(());
+                }
                 place.wake(now);
                 self.ways.send(number, !is_back, now, Load::Answer)
             }

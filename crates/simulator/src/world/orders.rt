@@ -1,6 +1,7 @@
 //! The orders of the script, as they come due.
 
 use super::World;
+use crate::flood::Flood;
 use std::alloc::AllocError;
 use traffic::{Order, Word};
 
@@ -39,6 +40,11 @@ impl<'p, 'c> World<'p, 'c> {
             Word::Leave => self.leave(bot, order.number(1)),
             Word::Hush => self.hush(bot),
             Word::Stranger => self.come(order),
+            Word::Flood => {
+                self.floods.push(Flood::new(self.alloc, order))?;
+                Ok(())
+            }
+            Word::Store => self.change_store(order),
             Word::Close => self
                 .ways
                 .end_between(order.byte(0), order.byte(1), self.now),
@@ -53,10 +59,25 @@ impl<'p, 'c> World<'p, 'c> {
                 self.change_way(order);
                 Ok(())
             }
-            Word::Start | Word::Sync | Word::Fail | Word::Pause => {
+            Word::Start | Word::Sync | Word::Fail | Word::Pause | Word::Cost => {
                 self.change_place(order);
                 Ok(())
             }
+        }
+    }
+
+    /// What the disk of a node keeps is replaced.
+    fn change_store(&mut self, order: &Order) -> Result<(), AllocError> {
+        let (alloc, nodes) = (self.alloc, self.plan.nodes);
+        let next = order.byte(0).saturating_add(1);
+        let next = if next < nodes { next } else { 0 };
+        let other = match self.places.get(next as usize) {
+            Some(place) => Vec::from_slice(alloc, &place.image)?,
+            None => Vec::new(alloc),
+        };
+        match self.places.get_mut(order.byte(0) as usize) {
+            Some(place) => place.change_store(alloc, nodes, order, other),
+            None => Ok(()),
         }
     }
 
@@ -86,6 +107,7 @@ impl<'p, 'c> World<'p, 'c> {
             Word::Sync => place.clock.set_sync(number),
             Word::Fail => place.clock.set_left(number),
             Word::Pause => place.pause(now.saturating_add(number)),
+            Word::Cost => place.set_cost(number, order.number(2)),
             _ => {}
         }
     }

@@ -255,7 +255,7 @@ impl<'p, 'c> World<'p, 'c> {
         place.is_over = outcome == Outcome::Over;
         place.die(alloc, None)?;
         place.clock.set_left(u64::MAX);
-        if outcome != Outcome::StoreReplaced {
+        if !matches!(outcome, Outcome::StoreReplaced | Outcome::StoreOlder) {
             place.begin_at(moment.saturating_add(BEGINS_AGAIN));
         }
         self.ways.close_all(party, moment)?;

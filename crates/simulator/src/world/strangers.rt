@@ -1,6 +1,7 @@
 //! Who comes to a port and is nobody.
 
 use super::World;
+use crate::flood::Kind;
 use std::alloc::{AllocError, Global};
 use traffic::{Load, Order, Party, drawn};
 
@@ -30,6 +31,31 @@ const WRONG_TOKEN: &[u8] =
     b"#TOKEN ffffffffffffffffffffffffffffffffffffffffffffffffffffffffffffffff\n";
 
 impl<'p, 'c> World<'p, 'c> {
+    /// The next stranger of a flood comes, or it has ended, and it is told how many came.
+    pub(super) fn flood(&mut self, at: usize) -> Result<(), AllocError> {
+        let (alloc, now) = (self.alloc, self.now);
+        let Some(flood) = self.floods.get_mut(at) else {
+            return Ok(());
+        };
+        let (node, port, kind, seat) = (flood.node, flood.port, flood.kind, flood.seat());
+        if let Some(count) = flood.end() {
+            let line = format!(in alloc; "flooded {node} {port} {kind:?} {count}")?;
+            return self.tell(now, Party::Stranger(0), line.as_str());
+        }
+        let number = self.ways.connect(flood.comer(), Party::Node(node))?;
+        let goes = flood.come(number)?;
+        self.ways.send(number, false, now, Load::Dial { seat })?;
+        if let Some(load) = said_of(alloc, kind, seat)? {
+            self.ways.send(number, false, now, load)?;
+        }
+        match goes {
+            Some(number) if kind.stays() && !self.ways.is_closed_there(number) => {
+                self.ways.send(number, false, now, Load::End)
+            }
+            _ => Ok(()),
+        }
+    }
+
     /// Somebody comes to a port of a node and sends something: NODE PORT COUNT SEED STAYS. The port is a seat's number, 254 for
     /// that of peers, 255 for the status. He sends so many bytes that look drawn, or with a COUNT of 9999 a token that no seat
     /// has, with 9998 an empty record of a kind, with 9997 a line that is too long, with 9996 he asks for the lines behind
@@ -55,6 +81,19 @@ impl<'p, 'c> World<'p, 'c> {
         self.ways
             .send(number, false, now.saturating_add(stays), Load::End)
     }
+}
+
+/// What a stranger of a flood sends first, to a seat's port or to that of peers.
+fn said_of(alloc: Global, kind: Kind, seat: Option<u8>) -> Result<Option<Load>, AllocError> {
+    let bytes: &[u8] = match (kind, seat) {
+        (Kind::Closes, _) => return Ok(Some(Load::End)),
+        (Kind::Resets, _) => return Ok(Some(Load::Break)),
+        (Kind::Silent, _) => return Ok(None),
+        (Kind::Wrong, Some(_)) => WRONG_TOKEN,
+        (Kind::Wrong, None) => &[0, 0, 0, 1, 9],
+    };
+    let bytes = Vec::from_slice(alloc, bytes)?;
+    Ok(Some(Load::Bytes { bytes }))
 }
 
 /// What a stranger sends, by his order's COUNT and SEED.
