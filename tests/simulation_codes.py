@@ -2,7 +2,6 @@
 
 tests/peer_codes and tests/nodes have it once more, one block after another; `tests/simulation --wrong` compares them."""
 import hashlib
-import hmac
 import struct
 
 CONSTANTS = (0x61707865, 0x3320646E, 0x79622D32, 0x6B206574)
@@ -30,9 +29,13 @@ class Lanes:
         bits = places * self.bits
         return row >> bits | row << 4 * self.bits - bits & self.all
 
-    def blocks(self, states):
-        """The blocks of so many states of 16 words, as bytes."""
-        first = [int.from_bytes(b"".join(struct.pack("<Q", state[word]) for word in range(4 * row, 4 * row + 4) for state in states), "little") for row in range(4)]
+    def row(self, *columns):
+        """A row of the states: of each column the word of each block, or the one that is the same in all."""
+        words = (word for column in columns for word in (column if isinstance(column, range) else [column] * self.count))
+        return int.from_bytes(struct.pack(f"<{4 * self.count}Q", *words), "little")
+
+    def blocks(self, first):
+        """The blocks of so many states, by their four rows, as bytes."""
         a, b, c, d = first
         rotated, turned, low = self.rotated, self.turned, self.low
         for _ in range(10):
@@ -46,9 +49,10 @@ class Lanes:
                 c = c + d & low
                 b = rotated(b ^ c, 7)
                 b, c, d = turned(b, places), turned(c, 2), turned(d, 4 - places)
-        size, count = 32 * self.count, self.count
-        words = [struct.unpack(f"<{4 * count}Q", (last + row & low).to_bytes(size, "little")) for last, row in zip((a, b, c, d), first)]
-        return [struct.pack("<16I", *(words[word // 4][word % 4 * count + place] for word in range(16))) for place in range(count)]
+        size, count, words = 32 * self.count, self.count, []
+        for last, row in zip((a, b, c, d), first):
+            words += struct.unpack(f"<{4 * count}Q", (last + row & low).to_bytes(size, "little"))
+        return [struct.pack("<16I", *words[place::count]) for place in range(count)]
 
 
 MANY = Lanes(BLOCKS)
@@ -58,19 +62,34 @@ class Keystream:
     """The keystream of a direction: what is asked for begins with a whole word."""
 
     def __init__(self, key):
-        self.words, self.counter, self.ready = struct.unpack("<8I", key), 0, b""
+        words = struct.unpack("<8I", key)
+        self.rows, self.counter, self.ready = [MANY.row(*CONSTANTS), MANY.row(*words[:4]), MANY.row(*words[4:])], 0, b""
 
     def take(self, count):
         while len(self.ready) < count:
-            places = range(self.counter, self.counter + BLOCKS)
-            self.ready += b"".join(MANY.blocks([(*CONSTANTS, *self.words, place & 0xFFFFFFFF, place >> 32, 0, 0) for place in places]))
+            counters = MANY.row(range(self.counter, self.counter + BLOCKS), 0, 0, 0)
+            self.ready += b"".join(MANY.blocks([*self.rows, counters]))
             self.counter += BLOCKS
         taken, self.ready = self.ready[:count], self.ready[count + -count % 4 :]
         return taken
 
 
+class Tagger:
+    """Tags of texts by a key, HMAC-SHA-256: what each begins with is worked out once."""
+
+    def __init__(self, key):
+        block = key.ljust(64, bytes(1))
+        self.inner, self.outer = (hashlib.sha256(bytes(byte ^ pad for byte in block)) for pad in (0x36, 0x5C))
+
+    def tag(self, text):
+        inner, outer = self.inner.copy(), self.outer.copy()
+        inner.update(text)
+        outer.update(inner.digest())
+        return outer.digest()
+
+
 def tag(key, text):
-    return hmac.digest(key, text, hashlib.sha256)
+    return Tagger(key).tag(text)
 
 
 def proof(key, role, hellos):
@@ -82,13 +101,13 @@ class Direction:
     """One direction of a connection with a key: what is said there, opened record by record."""
 
     def __init__(self, key, role, hellos):
-        self.key, self.number = tag(key, b"HDN1 way" + bytes([role]) + hellos), 0
-        self.stream = Keystream(tag(self.key, b"HDN1 seal"))
+        self.tagger, self.number = Tagger(tag(key, b"HDN1 way" + bytes([role]) + hellos)), 0
+        self.stream = Keystream(self.tagger.tag(b"HDN1 seal"))
 
     def opened(self, kind, content):
         """The body of a record; none where its tag is wrong."""
         body = content[:-TAG_BYTES]
-        if content[-TAG_BYTES:] != tag(self.key, struct.pack(">QB", self.number, kind) + body):
+        if content[-TAG_BYTES:] != self.tagger.tag(struct.pack(">QB", self.number, kind) + body):
             return None
         self.number += 1
         size = len(body)
@@ -98,5 +117,5 @@ class Direction:
 def words_of(seed, hands):
     """Of each hand of a seed's decks the first 16 words."""
     lanes = Lanes(len(hands))
-    states = [(*CONSTANTS, seed & 0xFFFFFFFF, seed >> 32, 0, 0, 0, 0, 0, 0, 0, 0, hand, 0) for hand in hands]
-    return [struct.unpack("<16I", block) for block in lanes.blocks(states)]
+    rows = [lanes.row(*CONSTANTS), lanes.row(seed & 0xFFFFFFFF, seed >> 32, 0, 0), 0, lanes.row(0, 0, hands, 0)]
+    return [struct.unpack("<16I", block) for block in lanes.blocks(rows)]

@@ -6,7 +6,6 @@ import re
 
 from simulation_trace import KINDS, TOP
 
-RECORDS = ("Hello", "Proof", "Frame", "Beat", "Lives", "Settings")
 ROW = re.compile(r"^\| (\d+) \| `(\w+)[^`]*`")
 
 
@@ -28,9 +27,13 @@ def faults():
     return sorted({(int(row[1]), row[2]) for row in rows if row})
 
 
+# Whether a store of which an older copy was put back is refused (130).
+REFUSES_OLDER = "StoreOlder" in arms("node_service/src/outcome.rt", "Outcome")
+RECORDS = ("Hello", "Proof", "Frame", "Beat", "Lives", "Settings", "Promised")
+
 FAULTS = faults()
 # Which number a name has where it is told: of a seat, of another node, or of a store and its node.
-PLACES = {"seat": [(20, 26), (40, 44), (80, 86)], "node": [(120, 129)], "store": [(60, 64), (90, 96)]}
+PLACES = {"seat": [(20, 26), (40, 44), (80, 86)], "node": [(120, 130)], "store": [(60, 64), (90, 96)]}
 NUMBERS = {(where, name): number for where, ranges in PLACES.items() for number, name in FAULTS if any(low <= number <= high for low, high in ranges)}
 
 WANTED = [
@@ -39,39 +42,37 @@ WANTED = [
     *(f"note {word}" for word in arms("node_service/src/server_notice.rt", "ServerNotice")),
     *(f"setting {word}" for word in arms("node_service/src/server_notice.rt", "Setting")),
     *(f"fault {number}" for number, _ in FAULTS),
-    *(f"record {word}" for word in RECORDS),
+    *(f"record {word}" for word in RECORDS if word != "Promised" or REFUSES_OLDER),
     *(f"frame {kind}" for kind in KINDS[1:]),
     *(f"due {word}" for word in ("campaign", "campaign again", "ask", "order")),
     *(f"stored {word}" for word in ("promise", "votes")),
     *(f"died with {count} unsynced" for count in range(2)),
     *("deal", "act", "away", "command of no account", "begin", "begin again", "disk failed"),
     *(f"bot asks for {word}" for word in ("FIRST", "NEWEST", "a line")),
-    *("told #OVER", "told a status"),
+    *("told #OVER", "told #WAIT", "told a status"),
     *(f"all that {words}" for words in ("waits for a bot", "is read of a seat", "is read of a guest", "is read of a node")),
 ]
 
 NO_MEMORY = "no memory is refused but by --refused"
 NO_FILE = "no command line, no file and no port is read here: only the servers' turns are run"
 ALONE = "only a library alone tells it"
-NO_STORE = "stores aren't replaced or damaged here"
+NO_KEPT = "the logs of earlier starts aren't kept here"
 ACCIDENT = "it would be an accident"
 # What doesn't come, and why.
 NEVER = {
     **{f"fault {number}": NO_FILE for number, _ in FAULTS if 10 <= number <= 19 or 45 <= number <= 49 or 100 <= number <= 110},
     **{f"fault {number}": ALONE for number, _ in FAULTS if number in (1, 2, 30, 31, 64, 70, 71, 90)},
     **{f"fault {number}": "the server drops a frame that is none, and tells nothing" for number, _ in FAULTS if 50 <= number <= 54 or number == 94},
-    **{f"fault {number}": NO_STORE for number in (60, 61, 62, 127)},
     "fault 20": "a seat is told 84 in its place",
     "fault 26": "no bot raises sixty times in a round",
     "fault 92": NO_MEMORY,
     "fault 93": "no match has so many ballots or slots",
     "fault 95": ACCIDENT,
     "fault 96": "a server orders a default action only where a hand runs",
-    "fault 123": "all nodes are of one match",
     "fault 124": "all nodes have one key, and strangers say no proof",
     "fault 125": "nothing changes what is on its way",
-    "fault 129": "the logs of earlier starts aren't kept here",
-    "ended StoreReplaced": NO_STORE,
+    "fault 129": NO_KEPT,
+    "order cost": "tests/floods has what calls of wires cost; here each takes a microsecond",
     "ended LogFailed": "the log of a process that lives is always written",
 }
 # What comes so seldom that a long run may go without it, and why.

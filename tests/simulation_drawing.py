@@ -5,7 +5,7 @@ from simulation_trace import KINDS, Records, bytes_of, number
 
 COLOURS = ["", "#0072b2", "#0072b2", "#d55e00", "#007a5a", "#007a5a", "#a0508c", "#5f5f5f", "#9a6700"]
 THIN = {"Promise", "Accepted"}
-RECORDS = {0: "Hello", 1: "Proof", 3: "Beat", 4: "Lives", 5: "Settings"}
+RECORDS = {0: "Hello", 1: "Proof", 3: "Beat", 4: "Lives", 5: "Settings", 6: "Promised"}
 
 
 def ballot(part):

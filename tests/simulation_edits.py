@@ -38,6 +38,27 @@ SCRIPTS = {
     ],
 }
 
+BOTS_OF_ALL = [f"1000 bot 0 0 {{}} {DOES_ALL} 5 {ALL}", f"2000 bot 1 1 {{}} {DOES_ALL} 9 {ALL}"]
+SCRIPTS |= {
+    # A node that hears nobody for a while loses its quorum: its bot is told to wait.
+    "apart": [
+        f"match 3 3 7 - - {GAME} alice|bob", *STARTS, *(bot.format(9_000) for bot in BOTS_OF_ALL), *(f"100000 cut {one} {two}" for one, two in ((0, 1), (1, 0), (0, 2), (2, 0))),
+        *(f"6000000 heal {one} {two}" for one, two in ((0, 1), (1, 0), (0, 2), (2, 0))), "60000000 end",
+    ],
+    # Seats with tokens, of which one doesn't come: it is played for behind the start.
+    "tokens": [f"match 3 2 7 2000000 - {LIMIT} alice|bob tokens 3000000", *STARTS, f"1000 bot 0 0 900 {CALLS} 5 0", "60000000 end"],
+    # A node's store is lost, and a new one is in its place.
+    "lost": [
+        f"match 3 4 7 - - {GAME} alice|bob", *STARTS, *(bot.format(300_000) for bot in BOTS_OF_ALL), "2500000 halt 2 0", "2600000 store 2 0", "2700000 start 2", "8000000 think 0 900",
+        "8000000 think 1 900", "30000000 end",
+    ],
+    # The length of the first record of a node's store is wrong for a while.
+    "damaged": [
+        f"match 3 4 7 - - {GAME} alice|bob", *STARTS, *(bot.format(300_000) for bot in BOTS_OF_ALL), "2500000 kill 2 0", "2600000 store 2 3 0", "2700000 start 2", "3500000 store 2 3 0",
+        "4000000 think 0 900", "4000000 think 1 900", "60000000 end",
+    ],
+}
+
 # The wrong traces: the rule that is to refuse each, the script whose trace it is made of, and the edit.
 WRONG = []
 
@@ -152,6 +173,23 @@ class Edited:
         data[at : at + len(new)] = new
         self.rows[place][-1] = data.hex()
 
+    def connection_between(self, one, other, before):
+        """The last connection between two nodes over which the one says a beat before a place."""
+        ends = self.between()
+        for row in reversed(self.rows[:before]):
+            if row[1] == one and row[2] == "say" and row[4].startswith("0000001003") and other in ends.get(row[3], ()):
+                return row[3]
+        raise NoPlace
+
+    def add(self, moment, *words):
+        """Puts a row behind all those of before a moment and of it."""
+        place = next((place for place, row in enumerate(self.rows) if int(row[0]) > moment), len(self.rows))
+        self.rows.insert(place, [str(moment), *map(str, words)])
+
+    def new_connection(self):
+        """The number of a connection that nobody has."""
+        return 1 + max(int(row[3]) for row in self.rows if row[2] == "dial")
+
     # Stores.
 
     def journal(self, node, before):
@@ -177,6 +215,18 @@ class Edited:
         moment = self.rows[place][0]
         for words in reversed((("write", at + 1, record.hex()), ("sync", moment), ("write", at, "01"), ("sync", moment))):
             self.insert(place, node, *words)
+
+
+def promise(ballot):
+    """The payload of a record of a promise."""
+    return bytes([1]) + ballot[0].to_bytes(4, "big") + bytes([ballot[1]])
+
+
+def prepare(ballot, front):
+    """A record between nodes that has the frame by which a node begins a ballot."""
+    body = bytes([2, 1]) + ballot[0].to_bytes(4, "big") + bytes([ballot[1]]) + front.to_bytes(4, "big")
+    frame = bytes([FRAME]) + len(body).to_bytes(4, "big") + body
+    return len(frame).to_bytes(4, "big") + frame
 
 
 def vote(ballot, slot, *commands):

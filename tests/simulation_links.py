@@ -3,6 +3,7 @@ from simulation_codes import Direction, proof
 from simulation_covered import RECORDS
 from simulation_list import AWAY
 from simulation_trace import KINDS, SLOTS, STILL, Records, Wrong, ballot_of, number, split
+from simulation_windows import WELL
 
 # What a beat begins with where there is no key, in hexadecimal, and how long it is; the places of the front, the flags and the seats in it,
 # and which flag says that the match is over.
@@ -11,10 +12,19 @@ BEAT, BEAT_SIZE, FRONT, FLAGS, SEATS, OVER = "0000001003", 40, slice(26, 34), sl
 # The version of frames.
 FRAMES = 2
 
-HELLO, PROOF, FRAME, BEATS, LIVES = 0, 1, 2, 3, 4
+HELLO, PROOF, FRAME, BEATS, LIVES, PROMISED = 0, 1, 2, 3, 4, 6
+RECORD_WORDS, FRAME_WORDS = [f"record {word}" for word in RECORDS], [f"frame {word}" for word in KINDS]
+# What judges a frame of each kind.
+SAYS = [f"say_{word.lower()}" for word in KINDS]
+# The kinds of frames that a process may say again whatever happened since, with what is counted of each.
+LASTING = {KINDS.index(word): (RECORD_WORDS[FRAME], f"frame {word}") for word in ("Accept", "Accepted", "Chosen")}
 
 # The key that nodes of simulated matches share (crates/simulator/src/place.rt).
 KEY = bytes([5]) * 32
+
+# A process is taught as long as the front that it is told has risen within its wait for answers, a second at least; between two that are well
+# a beat says a front within so long.
+TAUGHT, TOLD = 950_000, 350_000
 
 # Campaigns of one process in vain: behind so many the next waits so long at least (docs/NODES.md), whatever it is for: the
 # shortest wait, a fifth of a second, is doubled up to two seconds.
@@ -37,8 +47,10 @@ class Connection:
         # From which line on its bot asked to be told, if it did, and when; and the place of the last line that it was told. How many
         # commands its node had when it took the bot in.
         self.asked, self.asked_at, self.place, self.known = None, 0, None, 0
-        # The token that its bot showed.
-        self.token = None
+        # The token that its bot showed, when it was taken in, and whether its node has read that it asks, or a line of another kind.
+        self.token, self.taken_at, self.resumed, self.named = None, 0, False, False
+        # The word by which its node parts with its bot.
+        self.word = None
 
     def other(self, who):
         return self.listener if str(self.dialler) == who else int(self.dialler)
@@ -88,18 +100,50 @@ class Links:
     def open_to(self, row, connection, process):
         """A process speaks over one connection to a peer, behind the greeting: not over an earlier one once it has over a later one."""
         peer, number = connection.other(row[1]), int(row[3])
-        if process.open.setdefault(peer, number) > number:
-            raise Wrong("old", row[0], f"node {row[1]} speaks over connection {number} to node {peer}, behind {process.open[peer]}")
+        last = process.open.get(peer, number)
+        if last > number:
+            raise Wrong("old", row[0], f"node {row[1]} speaks over connection {number} to node {peer}, behind {last}")
+        if last < number:
+            process.beats.clear()
         process.open[peer] = number
 
+    def is_said_again(self, row):
+        """Whether what is written without a key was right before, over this connection or another one of its process, and is so now: a beat
+        that says what the one before it did, or frames that stay right. It is counted then."""
+        words, process = row[4], self.speaking.get(row[1])
+        if process is None:
+            return False
+        if len(words) == BEAT_SIZE and words.startswith(BEAT):
+            if process.beats.get(row[3]) == words[FRONT.start :]:
+                self.beats += 1
+                return True
+            return self.is_beat(row)
+        counted = process.lasting.get(words)
+        if counted is None:
+            return False
+        connection = self.connection(row)
+        if connection is None or connection.seat is not None or connection.records_of(row[1]).data:
+            return False
+        self.open_to(row, connection, self.own(row, connection))
+        process.spoken.setdefault(connection.other(row[1]), row[0])
+        for word in counted:
+            self.counts[word] += 1
+        return True
+
     def say_to_node(self, row, connection, data):
-        process = self.own(row, connection)
-        for kind, body in connection.records_of(row[1]).read(data):
+        process, reader = self.own(row, connection), connection.records_of(row[1])
+        is_whole, said = not reader.data, []
+        for kind, body in reader.read(data):
             self.record(row, connection, process, kind, body)
+            said.append(LASTING.get(body[5]) if kind == FRAME else None)
+        if reader.data:
+            process.beats.pop(row[3], None)
+        elif is_whole and not self.has_key and None not in said:
+            process.lasting[row[4]] = [word for words in said for word in words]
 
     def record(self, row, connection, process, kind, body):
         moment, node = row[0], int(row[1])
-        self.count_one(f"record {RECORDS[kind]}")
+        self.counts[RECORD_WORDS[kind]] += 1
         if kind == HELLO:
             connection.greet(row[1], body)
             self.hello(moment, node, body)
@@ -112,11 +156,14 @@ class Links:
             body = self.opened(row, connection, kind, body)
         if kind == FRAME:
             self.frame(moment, node, process, body)
+            self.show(moment, node, connection.other(row[1]), body[5], body[6:])
         elif kind == BEATS:
             self.beats += 1
             self.beat(moment, node, process, number(body[8:12]), body[12], number(body[13:15]))
         elif kind == LIVES:
             self.lives(moment, node, body)
+        elif kind == PROMISED:
+            self.told_promise(moment, node, connection.other(row[1]), body)
 
     def opened(self, row, connection, kind, content):
         """What a record says where the nodes have a key."""
@@ -147,7 +194,10 @@ class Links:
         said = words[FRONT.start :]
         if said != process.beat or process.doubted is not None:
             self.beat(row[0], int(who), process, int(words[FRONT], 16), int(words[FLAGS], 16), int(words[SEATS], 16))
+            process.forget_beat()
             process.beat = said
+        if process.doubted is None:
+            process.beats[row[3]] = said
         return True
 
     def beat(self, moment, node, process, front, flags, seats):
@@ -157,6 +207,8 @@ class Links:
             return
         if front > self.front or front < process.beat_front or flags & OVER and not self.dealt.is_over():
             raise Wrong("beat", moment, f"node {node} tells front {front} and flags {flags} behind {process.beat_front}, of {self.front} commands")
+        if front > process.beat_front:
+            self.rises[node].append((moment, front))
         process.beat_front = front
         self.fronts[node].add(front)
         if self.sat[node][-1][1] != seats:
@@ -165,8 +217,8 @@ class Links:
         self.doubt(moment, node, process, seats)
 
     def doubt(self, moment, node, process, seats):
-        """Beats say who sits at a node, as notes do a moment before or later."""
-        if seats == sum(1 << seat for seat in process.sits):
+        """Beats say who sits at a node, as notes do a moment before or later. A node without a quorum tells of no seats."""
+        if not process.is_quorate or seats == sum(1 << seat for seat in process.sits):
             process.doubted = None
         elif process.doubted is None:
             process.doubted = moment
@@ -174,14 +226,20 @@ class Links:
             raise Wrong("beat", moment, f"node {node} tells the seats {seats:b}, and by its notes {sorted(process.sits)} sit there")
 
     def lives(self, moment, node, body):
-        """A life that is told is that of the store: no store is replaced here."""
+        """A life that is told is that of the store, or of one that it had before that."""
         told = [body[at : at + 16] for at in range(0, len(body), 16)]
-        if len(told) != self.count or any(life not in (bytes(16), bytes([place + 1]) * 16) for place, life in enumerate(told)):
+        if len(told) != self.count or any(life not in self.lives_of(place) for place, life in enumerate(told)):
             raise Wrong("lives", moment, f"node {node} tells lives that no store has: {body.hex()}")
+
+    def lives_of(self, node):
+        """The lives that the stores of a node had so far, and that of none."""
+        return [bytes(16), *(bytes([node + 1 + 16 * count]) * 16 for count in range(self.replacements[node] + 1))]
 
     def hello(self, moment, node, body):
         """What a Hello says that was promised is so in each image."""
         ballot = ballot_of(body[72:77])
+        if self.processes[node].spoilt is not None:
+            raise Wrong("store", moment, f"node {node} goes on with no store")
         if not self.processes[node].disk.backs(lambda store: store.promised >= ballot):
             raise Wrong("backed", moment, f"node {node} says that it promised {ballot}, which its disk may not keep")
 
@@ -190,9 +248,8 @@ class Links:
     def frame(self, moment, node, process, body):
         if number(body[:4]) != len(body) - 4 or body[4] != FRAMES or not body[5]:
             raise ValueError(f"a frame of node {node}: {body.hex()}")
-        kind = KINDS[body[5]]
-        self.count_one("frame " + kind)
-        getattr(self, "say_" + kind.lower())(moment, node, process, body[6:])
+        self.counts[FRAME_WORDS[body[5]]] += 1
+        getattr(self, SAYS[body[5]])(moment, node, process, body[6:])
 
     def promised(self, moment, node, process, ballot):
         if not process.disk.backs(lambda store: store.promised >= ballot):
@@ -252,9 +309,9 @@ class Links:
         if 2 * len(self.promises.get(ballot, ())) <= self.count:
             raise Wrong("quorum", moment, f"node {node} proposes in {ballot}, which {sorted(self.promises.get(ballot, ()))} promised")
         process.proposed = ballot
-        slot, commands = number(part[5:9]), part[10:]
+        slot, commands = number(part[5:9]), split(part[10:])
         self.accepted(moment, node, ballot, slot, commands, part[9])
-        for place, command in enumerate(split(commands)):
+        for place, command in enumerate(commands):
             if not self.may_propose(node, ballot, slot + place, command):
                 raise Wrong("value", moment, f"node {node} proposes in {ballot} at slot {slot + place} another command than it was told of")
 
@@ -267,12 +324,12 @@ class Links:
         return node in agree and 2 * len(agree) > self.count
 
     def say_accepted(self, moment, node, process, part):
-        self.accepted(moment, node, ballot_of(part), number(part[5:9]), part[10:], part[9])
+        self.accepted(moment, node, ballot_of(part), number(part[5:9]), split(part[10:]), part[9])
 
     def accepted(self, moment, node, ballot, slot, commands, count):
-        if len(split(commands)) != count:
+        if len(commands) != count:
             raise ValueError(f"a frame of node {node} with another count than {count} of commands")
-        for place, command in enumerate(split(commands)):
+        for place, command in enumerate(commands):
             vote = self.votes.get((slot + place, ballot), {}).get(node)
             if vote is None:
                 raise Wrong("backed", moment, f"node {node} says that it accepted slot {slot + place} in {ballot}, which isn't synced")
@@ -289,10 +346,22 @@ class Links:
         if part[0] == AWAY:
             self.show_default(moment, node, part)
 
+    def look_at_lesson(self, begun, node, before, front):
+        """A process begins no ballot while the node whose ballot it has promised teaches it: it is told that one's front, which is above its
+        own, and rises. Both have been well for that time, and the way between them."""
+        leader = before[1]
+        if before == (0, 0) or leader == node or self.dealt.is_over():
+            return
+        since = max(self.well[node], self.well[leader], self.pairs[min(node, leader), max(node, leader)]) + WELL
+        told = [to for moment, to in self.rises[leader] if begun - TAUGHT < moment < begun - TOLD]
+        if since < begun - TAUGHT and told and told[-1] > front:
+            raise Wrong("taught", begun, f"node {node} begins a ballot at {front} while node {leader}, whose ballot it promised, tells {told[-1]}")
+
     def campaign(self, moment, node, process, ballot, front):
         """A process campaigns, and says from which slot on: its front. While that stands, it votes in none of its ballots and promised
         itself to nobody else, the waits between its campaigns are doubled. It begins no ballot before it has said the one before."""
-        begun = process.begun.pop(ballot)
+        begun, before = process.begun.pop(ballot)
+        self.look_at_lesson(begun, node, before, front)
         if any(later > ballot for later in process.begun):
             raise Wrong("twice", moment, f"node {node} says that it began {ballot} behind the next one: {sorted(process.begun)}")
         if begun < process.last:

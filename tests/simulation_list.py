@@ -1,6 +1,5 @@
 """The list of commands of a simulated match, and what the sequential dealer of tests/nodes makes of each beginning of it."""
 import bisect
-import copy
 import re
 
 import simulation_codes
@@ -69,7 +68,8 @@ class Dealt:
         found, game, hand = ACTION.fullmatch(action), self.table.game, self.table.hand
         if found is None or found[1] is None and game.limit != (found[2] is None):
             return None
-        after = copy.copy(hand)
+        after = object.__new__(type(hand))
+        after.__dict__.update(hand.__dict__)
         after.spent, after.folded, after.owing = list(hand.spent), list(hand.folded), set(hand.owing)
         try:
             after.act(action[0], int(found[2]) if found[2] else 0)

@@ -18,8 +18,9 @@ from simulation_trace import TOP, Wrong
 # Where wrong servers are tried and there are no programs of them; and by so many seeds.
 TRIED, PLANTED_SEEDS = "by rt try", 200
 
-# Hands of a match by which a wrong server is tried: `rt try` gives no answer of more than 1 MiB.
-HANDS = 5
+# Hands of a match by which a wrong server is tried: `rt try` gives no answer of more than 1 MiB. Where a store is lost bots think so long at
+# least, in microseconds: the match isn't over before that.
+HANDS, SLOW = 5, 300_000
 PLANTED = [
     ("a vote is said before its second sync", "promise_store/src/appending.rt", "    write_through(disk, gate, &[1])\n", "    disk.write_at(gate, &[1])\n", "backed"),
     ("a record is written at once with its gate", "promise_store/src/appending.rt", "    write_through(disk, behind, text)?;\n", "    disk.write_at(behind, text)?;\n", "store"),
@@ -44,12 +45,15 @@ PLANTED = [
     ("a default action is ordered where the bot's answer waits", "node_service/src/ticking.rt", "        matches!(self.desk.member.node().pending(), Some(Command::Act { .. }))\n", "        matches!(self.desk.member.node().pending(), Some(Command::Act { hand, .. }) if hand > 9_999)\n", "answered"),
     ("a seat is given up though the match file says that all wait", "node_service/src/ticking.rt", "            gives_up: terms.gives_up,\n", "            gives_up: true,\n", "late"),
     ("a deal isn't of the node's own seed", "dealer_kind/src/source.rt", "            Source::Seed(seed) => Some(draw(*seed, hand, players)),\n", "            Source::Seed(seed) => Some(draw(*seed ^ 64, hand, players)),\n", "deal"),
-    ("a node reads nothing of a seat behind the thirtieth command", "node_service/src/taking.rt", "        if !self.takes_in(at) {\n", "        if !self.takes_in(at) || (at == 0 && self.watch.seen.front > 30) {\n", "heard"),
+    ("a node reads nothing of a seat behind the thirtieth command", "node_service/src/taking.rt", "        if has_bit(*taken, at) {\n            return false;\n        }\n", "        if has_bit(*taken, at) {\n            return false;\n        }\n        if at == 0 && self.watch.seen.front > 30 {\n            return true;\n        }\n", "heard"),
     ("a seat is told no line behind the second hand", "node_seats/src/seats.rt", "                if !seat.bot.sits {\n                    return true;\n                }\n                seat.tell(", "                if !seat.bot.sits || (number == 1 && table.dealt() > 2) {\n                    return true;\n                }\n                seat.tell(", "shown"),
     ("a promise leaves out the vote at the first slot", "acceptor/src/telling.rt", "        let found = vote_at(store, slot)?;\n        push_entry(", "        let found = vote_at(store, slot)?;\n        if place == 0 {\n            continue;\n        }\n        push_entry(", "told"),
     ("a leader takes what the node 0 alone told it", "proposer/src/batch.rt", "        if let Some(entry) = self.told(nodes, slot) {\n", "        if let Some(entry) = self.told(nodes.min(1), slot) {\n", "value"),
     ("any token is taken for the seat's", "node_seats/src/guest.rt", "            Some(digest) => shows_token(self.line.as_slice(), digest),\n", "            Some(digest) => shows_token(self.line.as_slice(), digest) || self.line.len() > 64,\n", "token"),
     ("the node 2 takes in no votes of others", "node_service/src/taking.rt", "            Notice::Frame { from, frame } => {\n                self.take_frame(", "            Notice::Frame { from, frame } => {\n                if self.desk.member.number() == 2 && frame.as_slice().len() > 5 && frame.as_slice()[5] > 4 {\n                    return Taken::One;\n                }\n                self.take_frame(", "behind"),
+    ("a node whose store was replaced is taken in", "node_links/src/judging.rt", "    if is_other(hello.kept, own.life) {\n        return Err(PeerFault::StoreReplaced(Whose::Own));\n    }\n    if is_replaced(known.lives, hello.life) {\n        return Err(PeerFault::StoreReplaced(Whose::Other));\n    }\n", "    let _ = (is_other(hello.kept, own.life), is_replaced(known.lives, hello.life));\n", "replaced"),
+    ("a bot that asked is let go of without a word where there is no quorum", "node_service/src/seat_lines.rt", "        return seats.part(seat, Parting::Wait);\n", "        return false;\n", "waits"),
+    ("who showed his token waits behind the thirtieth command", "node_service/src/taking.rt", "        if takes_in { 0 } else { u16::MAX }\n", "        if takes_in && self.watch.seen.front < 30 { 0 } else { u16::MAX }\n", "taken"),
 ]
 # Those that small scripts don't show, or whose memory isn't seen, by `rt try`: they are tried by programs alone.
 BY_PROGRAMS = {16, 17}
@@ -71,7 +75,16 @@ def small(seed, is_calm):
     first, *lines = drawn(seed, is_calm)
     words = first.split(" ")
     words[2] = str(min(int(words[2]), HANDS))
-    return [" ".join(words), *lines]
+    is_lost = any(words[1] == "store" and words[3] != "3" for words in (line.split(" ") for line in lines))
+    return [" ".join(words), *(map(slowed, lines) if is_lost else lines)]
+
+
+def slowed(line):
+    """The line of a script, where it is a bot's with one that thinks for long."""
+    moment, word, *numbers = line.split(" ")
+    if word == "bot":
+        numbers[2] = str(max(int(numbers[2]), SLOW))
+    return " ".join([moment, word, *numbers])
 
 
 def tried(number, seeds, is_calm):

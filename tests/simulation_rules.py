@@ -1,12 +1,13 @@
 """The rules by which tests/simulation judges a trace, each with its name."""
 import bisect
+import collections
 
 from simulation_covered import names_of
-from simulation_links import BEAT, BEAT_SIZE
 from simulation_list import AWAY, Dealt, Decks
+from simulation_older import OLDER, Older, Unknowable
 from simulation_seats import Seats
 from simulation_served import Served
-from simulation_trace import NO_STORE, TOP, Backwards, Disk, Wrong, bytes_of, dealer, field, rows_of
+from simulation_trace import NO_STORE, TOP, Backwards, Disk, Wrong, bytes_of, dealer, field, flipped, new_store, rows_of
 from simulation_windows import NEVER, Windows
 
 # What each rule says of a trace.
@@ -32,6 +33,7 @@ RULES = {
     "lives": "who tells of a store's life is right",
     "memory": "a run takes no more memory than its processes and commands need",
     "no-gap": "a connection is told all lines of its seat from the one on that was asked for",
+    "older": "where an older copy of a store is put back, who knows better refuses its node, which ends, and nobody else is refused by that",
     "old": "a process speaks over connections that it dialled or took itself, one to each peer",
     "one-list": "each line is the second dealer's, of a beginning of the list",
     "one-log": "each log is the second dealer's, of a beginning of the list",
@@ -43,12 +45,14 @@ RULES = {
     "progress": "the match ends at all nodes",
     "queue": "what waits for a bot, and what is read of whoever came, is bounded",
     "quorum": "who proposes has the promises of more than half of all nodes",
+    "replaced": "no node takes one in whose store it knew before that was lost",
     "said": "an act was said by the seat to act, with its amount",
     "seated": "who sits at a seat was taken in there",
     "shown": "a node that is well tells a seat at once each line that it has",
     "status": "a status line says what the store, the list and the peers make it say",
     "store": "what a disk keeps is a store",
     "tag": "each record is said with the tag that the key gives it",
+    "taught": "a node begins no ballot while the one whose ballot it promised teaches it",
     "taken": "a node that is well with more than half takes a bot in at once that dials it",
     "token": "who shows no token, where seats have them, and who comes to no seat is told nothing but a status",
     "told": "a promise tells each vote of its node at the slots that were asked for",
@@ -56,6 +60,7 @@ RULES = {
     "twice": "a ballot is said before the next one begins",
     "value": "who proposes takes the vote of the greatest ballot that it was told of at that slot",
     "whole-log": "a process that ends well has written the whole log",
+    "waits": "a node without a quorum, and no other, tells a bot to wait that asked for its lines, and closes it then",
     "wire": "of a bot is read what it said",
     "word": "a bot that asked for its lines is told of the end, or that its line is none, where that is so",
 }
@@ -71,6 +76,11 @@ UNTOLD = 1_000_000
 # by how long the match takes, what is lost, or who comes. What a process alone takes is said in docs/OPERATING-NODES.md (What to watch).
 PROGRAM_TAKES, PROCESS_TAKES, COMMAND_TAKES = 4 << 20, 6 << 20, 3 << 9
 
+# By which faults the nodes that know a match refuse one whose store was lost, and which refuses them.
+LOST = ("StoreReplaced", "OtherMatch")
+# By which a store is refused.
+NO_STORES = ("NoStore", "BadHeader", "BadRecord")
+
 # What reading a row comes to that no process does.
 NO_TRACE = (ValueError, IndexError, KeyError, AttributeError)
 
@@ -83,6 +93,8 @@ class Process:
 
     def __init__(self, image, moment):
         self.disk, self.log, self.is_failed, self.began = Disk(image), "", False, moment
+        # What its disk keeps where that is no store.
+        self.spoilt = None
         # The moment of the first frame that was said to each peer, and the peers that were told to be there.
         self.spoken, self.joined = {}, set()
         # The last connection to each peer over which something was said behind the greeting.
@@ -98,10 +110,16 @@ class Process:
         self.known, self.knew, self.learned = 0, [0], [moment]
         # What its last beat said, its front, and since when its beats have told of other seats than notes did.
         self.beat, self.beat_front, self.doubted = None, 0, None
+        # What may be said again, and is right then: by connections what each last beat said, and of what was said without a key and has
+        # nothing but frames that stay right, what is counted of it.
+        self.beats, self.lasting = {}, {}
         # The seats that sit here, when each was taken in, and the line of each to which an answer came that waits, with the moment.
         self.sits, self.took, self.answered, self.answers_at = set(), {}, {}, {}
-        # The number of the connection that is taken in at each seat, when each seat last sat down, and when its place was last left.
-        self.seated, self.seated_at, self.freed = {}, {}, {}
+        # The number of the connection that is taken in at each seat, when each seat last sat down, and when its place was last left. When a
+        # bot of a seat was last turned away.
+        self.seated, self.seated_at, self.freed, self.crowded = {}, {}, {}, {}
+        # It has a quorum, by its notes; and when it closed connections of seats without a word since it told so.
+        self.is_quorate, self.hung = False, []
 
     def learn(self, moment, count):
         """It says that it has so many commands."""
@@ -110,12 +128,21 @@ class Process:
             self.knew.append(count)
             self.learned.append(moment)
 
+    def image(self, kept):
+        """What its disk keeps once it is gone, where that is a store."""
+        return kept if self.spoilt is None else self.spoilt
+
+    def forget_beat(self):
+        """The next beat of each connection is judged again."""
+        self.beat = None
+        self.beats.clear()
+
     def knew_at(self, moment):
         """How many commands it had at least at a moment."""
         return self.knew[max(bisect.bisect_right(self.learned, moment) - 1, 0)]
 
 
-class Checker(Seats, Windows, Served):
+class Checker(Seats, Windows, Served, Older):
     """Goes through a trace, event by event: a row has its moment, who it is of, its word, and what is behind that."""
 
     def __init__(self, script, text, peak=None, may_refuse=False):
@@ -129,18 +156,27 @@ class Checker(Seats, Windows, Served):
         self.dealt = Dealt(game, self.names, self.hands, f"# name/game/hands m1 {words[6]} {self.hands}")
         self.decks = [Decks((int(words[3]) + node) % (1 << 64), game.players) for node in range(self.count)]
         self.rows = rows_of(text)
-        self.counts, self.told, self.beats, self.longest = {}, 0, 0, 0
+        self.counts, self.told, self.beats, self.longest = collections.defaultdict(int), 0, 0, 0
         self.begin_nodes()
         self.begin_list()
         self.begin_windows()
         self.begin_served()
+        self.begin_older()
 
     def begin_nodes(self):
         """What is known of nodes, connections and bots."""
         self.processes, self.images, self.logs, self.connections = {}, {}, {}, []
+        # The same processes by what rows say of whom they are.
+        self.speaking = {}
         self.died, self.over = {}, set()
+        # Who has been told which peers are there, while their stores were what they had been.
+        self.met = set()
+        # The nodes whose store has a bit that is another one, and how many times each one's was replaced by a new one.
         # The nodes whose disk is to fail, the fronts that each has told by beats, and the seats, with the moment since when.
+        self.damaged, self.replacements = set(), [0] * self.count
         self.failing, self.fronts, self.sat = set(), [{0} for _ in range(self.count)], [[(0, 0)] for _ in range(self.count)]
+        # When the front rose that each node has told, and to what.
+        self.rises = [[] for _ in range(self.count)]
         # What status lines said of seats that no note has said yet.
         self.doubts = []
         # What was read of who came, by the numbers of connections.
@@ -161,7 +197,7 @@ class Checker(Seats, Windows, Served):
         self.came, self.all_came, self.quorum = set(), NEVER, None
 
     def count_one(self, word):
-        self.counts[word] = self.counts.get(word, 0) + 1
+        self.counts[word] += 1
 
     def run(self):
         does = {name[3:].replace("_", "-"): getattr(self, name) for name in dir(self) if name.startswith("on_")}
@@ -173,6 +209,9 @@ class Checker(Seats, Windows, Served):
                     self.order(row)
                 elif word in does:
                     does[word](row)
+            except Unknowable:
+                self.count_one("an older copy of which nobody is sure to know")
+                return self
             except NO_TRACE as why:
                 raise Wrong("trace", row[0], f"{why!r} in {' '.join(map(str, row))[:200]}") from why
         if self.beats:
@@ -193,19 +232,53 @@ class Checker(Seats, Windows, Served):
         elif word == "fail":
             (self.failing.discard if int(row[4]) == NO_FAILURE else self.failing.add)(int(row[3]))
         elif word in ("leave", "hush"):
-            self.parted.add(f"b{row[3]}")
+            self.leave(row[0], f"b{row[3]}")
+        elif word == "store":
+            self.change_store(row[0], *map(int, row[3:6]))
         else:
             self.order_window(row)
+
+    def change_store(self, moment, node, what, place):
+        """What the disk of a node keeps is another from now on, where it has no process: by WHAT 3 a bit of it, which may be what it was
+        before. By 5 a copy of it is made, and by 6 put back. Else its store is lost: a new one is in its place, of another life, or nothing,
+        or another node's; or the node is of another match. A process that begins by no store ends at once, though it is told later."""
+        process = self.processes.get(node)
+        if process is not None and process.spoilt is None:
+            return
+        image = self.images.get(node, new_store(node, self.count)) if process is None else process.spoilt
+        if what == 5:
+            self.copies[node] = image
+            return
+        if what == 6:
+            self.put_back(moment, node, image)
+            return
+        self.images[node] = {0: new_store(node, self.count), 1: b"", 3: flipped(image, place)}.get(what, image)
+        if process is not None:
+            process.spoilt = self.images[node]
+        if what == 2:
+            del self.images[node]
+        if what == 3:
+            self.damaged ^= {node} if self.images[node] != image else set()
+            return
+        self.replacements[node] += what == 0
+        self.lost.setdefault(node, moment)
+        self.see_node(moment, node)
 
     def on_begin(self, row):
         moment, node, image = row[0], int(row[1]), bytes_of(row[3])
         if node in self.images and image != self.images[node]:
             raise Wrong("image", moment, f"node {node} begins on another image than its disk kept")
+        new = new_store(node, self.count)
         try:
+            if image[:6] != new[:6]:
+                raise ValueError("a store of another node, or none")
             process = Process(image, moment)
         except NO_STORE as why:
-            raise Wrong("store", moment, f"node {node} begins on no store: {why}")
-        self.processes[node] = process
+            if node not in self.damaged and node not in self.lost:
+                raise Wrong("store", moment, f"node {node} begins on no store: {why}")
+            process = Process(new, moment)
+            process.spoilt = image
+        self.processes[node] = self.speaking[row[1]] = process
         self.up.add(node)
         self.see_node(moment, node)
         for ballot, slot, command in process.disk.found:
@@ -216,16 +289,17 @@ class Checker(Seats, Windows, Served):
         """The process of a node is gone; which it was, if there was one."""
         self.up.discard(node)
         self.see_node(moment, node)
+        self.stopped[node] = moment
+        self.speaking.pop(str(node), None)
         return self.processes.pop(node, None)
 
     def on_refused(self, row):
         node, words = int(row[1]), " ".join(row[3:])
-        self.images.pop(node, None)
-        process = self.stop_at(row[0], node)
-        self.images[node] = bytes(process.disk.synced)
         for number in filter(str.isdigit, row[3:]):
             self.count_one(f"fault {number}")
-        if node not in self.failing and not self.may_refuse:
+        process = self.stop_at(row[0], node)
+        self.images[node] = process.image(bytes(process.disk.synced))
+        if node not in self.failing and process.spoilt is None and not self.may_refuse:
             raise Wrong("opens", row[0], f"node {node} can't begin: {words}")
         self.failing.discard(node)
 
@@ -233,14 +307,16 @@ class Checker(Seats, Windows, Served):
         node = int(row[1])
         process = self.stop_at(row[0], node)
         if process is not None:
-            self.images[node] = process.disk.image(self.died[node])
+            self.images[node] = process.image(process.disk.image(self.died[node]))
             self.count_one(f"died with {min(len(process.disk.unsynced), 3)} unsynced")
 
     def on_ended(self, row):
         moment, node = row[0], int(row[1])
         process = self.stop_at(moment, node)
-        self.images[node] = process.disk.all_written()
+        self.images[node] = process.image(process.disk.all_written())
         words = " ".join(row[3:])
+        if any(other is process for _, other in self.unsure):
+            raise Wrong("waits", moment, f"node {node}, which had a quorum, told a bot to wait")
         self.count_one("ended " + names_of(words)[0])
         self.count_faults("store", names_of(words))
         self.failing.discard(node)
@@ -251,15 +327,24 @@ class Checker(Seats, Windows, Served):
                 raise Wrong("joined", moment, f"node {node} sent frames to {untold}, and never told that they are there")
             if not self.dealt.is_over() or process.log != self.dealt.log:
                 raise Wrong("whole-log", moment, f"node {node} ends well without the whole log")
-        elif not process.is_failed and not self.may_refuse:
-            raise Wrong("ends", moment, f"node {node} ended: {words}")
+        elif not process.is_failed and not self.may_refuse and not self.may_end(node, process, names_of(words)):
+            raise Wrong("older" if words == OLDER else "ends", moment, f"node {node} ended: {words}")
+
+    def may_end(self, node, process, names):
+        """Whether a process may end by a fault since its store was lost, isn't one, or is an older copy."""
+        if names[0] == OLDER:
+            return node in self.aged
+        return process.spoilt is not None and names[-1] in NO_STORES or names == ["StoreReplaced"] and self.replacements[node]
 
     def on_disk_failed(self, row):
         self.processes[int(row[1])].is_failed = True
         self.count_one("disk failed")
 
     def on_write(self, row):
-        self.processes[int(row[1])].disk.write(row[0], int(row[3]), bytes_of(row[4]))
+        process = self.processes[int(row[1])]
+        if process.spoilt is not None:
+            raise Wrong("store", row[0], f"node {row[1]} goes on with no store")
+        process.disk.write(row[0], int(row[3]), bytes_of(row[4]))
 
     def on_sync(self, row):
         moment, node, begun = row[0], int(row[1]), int(row[3])
@@ -273,7 +358,7 @@ class Checker(Seats, Windows, Served):
         except NO_STORE as why:
             raise Wrong("store", moment, f"node {node} synced no store: {why}")
         promised = process.disk.store.promised
-        self.highest = max(self.highest, promised)
+        self.highest, self.most_promised[node] = max(self.highest, promised), max(self.most_promised[node], promised)
         if found:
             process.voted = moment
             self.count_one("stored votes")
@@ -283,7 +368,7 @@ class Checker(Seats, Windows, Served):
         elif promised > before:
             self.count_one("stored promise")
             if promised[1] == node:
-                process.begun[promised] = begun
+                process.begun[promised] = begun, before
                 self.count_one("due campaign")
             else:
                 process.ballots = 0
@@ -323,8 +408,7 @@ class Checker(Seats, Windows, Served):
     # What is said and told.
 
     def on_say(self, row):
-        words = row[4]
-        if not self.has_key and len(words) == BEAT_SIZE and words.startswith(BEAT) and self.is_beat(row):
+        if not self.has_key and self.is_said_again(row):
             return
         who, connection, data = row[1], self.connection(row), bytes_of(row[4])
         if who.startswith("b"):
@@ -355,8 +439,10 @@ class Checker(Seats, Windows, Served):
     def note_refused(self, row, node, process):
         fault = names_of(field(row, "fault"))
         self.count_faults("node", fault)
-        if fault[0] != "AlreadyHere" and not self.may_refuse:
-            raise Wrong("peers", row[0], f"node {node} refuses a node: {' '.join(row[3:])}")
+        peer = int(field(row, "peer"))
+        is_right = fault[0] == "AlreadyHere" or fault[0] in LOST and (node in self.lost or peer in self.lost) or self.is_older(node, peer, fault)
+        if not is_right and not self.may_refuse:
+            raise Wrong("older" if fault[0] == OLDER else "peers", row[0], f"node {node} refuses a node: {' '.join(row[3:])}")
 
     def note_callers(self, row, node, process):
         self.count_faults("node", names_of(field(row, "fault")))
@@ -373,27 +459,30 @@ class Checker(Seats, Windows, Served):
     def note_ordered(self, row, node, process):
         self.order_default(row[0], node, int(field(row, "seat")))
 
-    def note_quorum(self, row, node, process):
-        self.quorum = row[0] if self.quorum is None else self.quorum
-
     def note_seated(self, row, node, process):
         seat = int(field(row, "seat"))
         if seat not in process.took:
             raise Wrong("seated", row[0], f"node {node} tells that seat {seat} sits there, where nobody was taken in")
         self.came.add(seat)
         process.sits.add(seat)
-        process.seated_at[seat], process.beat = row[0], None
+        process.seated_at[seat] = row[0]
+        process.forget_beat()
         if len(self.came) == len(self.names):
             self.all_came = min(self.all_came, row[0])
         self.settle_doubts(row[0], process, seat)
 
     def note_left(self, row, node, process):
         process.sits.discard(int(field(row, "seat")))
-        process.beat = None
+        process.forget_beat()
         self.settle_doubts(row[0], process, int(field(row, "seat")))
 
     def note_joined(self, row, node, process):
-        process.joined.add(int(field(row, "peer")))
+        peer = int(field(row, "peer"))
+        process.joined.add(peer)
+        if peer in self.lost and (node, peer) in self.met and self.calm_since(node) < self.lost[peer]:
+            raise Wrong("replaced", row[0], f"node {node}, which knew the store of node {peer} before it was lost, takes it in")
+        if peer not in self.lost:
+            self.met.add((node, peer))
 
     # What is so at the end.
 
@@ -405,8 +494,11 @@ class Checker(Seats, Windows, Served):
         end = self.end
         if self.peak is not None and self.peak > self.most_memory():
             raise Wrong("memory", end, f"the run took {self.peak >> 10} KiB, of {self.most_memory() >> 10} at most: {self.count} processes, {self.front} commands")
-        if len(self.over) < self.count:
-            raise Wrong("progress", end, f"the match isn't over at {sorted(set(range(self.count)) - self.over)}: {self.front} commands, hand {self.dealt.table.finished} of {self.hands}")
+        left = set(range(self.count)) - self.over - set(self.lost) - set(self.aged)
+        if left:
+            raise Wrong("progress", end, f"the match isn't over at {sorted(left)}: {self.front} commands, hand {self.dealt.table.finished} of {self.hands}")
         self.pass_busy(end)
         self.look(end)
+        self.look_at_older(end)
         self.settle_doubts(end)
+        self.settle_waits(end)

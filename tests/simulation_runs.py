@@ -13,6 +13,9 @@ from simulation_trace import TOP, Wrong
 # A second match behind a script, with no hands: once its line is printed, the script's run is over, and the program waits for more.
 AGAIN = "match 0 0 0 - - {} end"
 
+# So many bytes of a trace are read at once.
+PIECE = 1 << 20
+
 # Of the gate's seeds so many are of the sources; they begin above so many.
 OF_SOURCES, ABOVE = 100, 1_000_000
 
@@ -34,6 +37,18 @@ def peak_of(process):
         return next(int(line.split()[1]) for line in status if line.startswith("VmHWM:")) * 1024
 
 
+def read_up_to(stream, end):
+    """What a process writes before these bytes, by which it waits for more, with the first of them; none where it ends before."""
+    pieces, last = [], b""
+    while not last.endswith(end):
+        piece = stream.read1(PIECE)
+        if not piece:
+            return None
+        pieces.append(piece)
+        last = last[-len(end) :] + piece
+    return b"".join(pieces)[: 1 - len(end)]
+
+
 def watched(program, script):
     """The trace of a script, and the most memory that its run took."""
     last = AGAIN.format(script[0].split(" ")[6])
@@ -42,15 +57,11 @@ def watched(program, script):
         guard = threading.Timer(600, process.kill)
         guard.start()
         try:
-            line, lines = None, []
             with contextlib.suppress(BrokenPipeError):
                 process.stdin.write(("\n".join([*script, last]) + "\n").encode())
                 process.stdin.flush()
-            for line in process.stdout:
-                if line == end:
-                    break
-                lines.append(line)
-            peak = peak_of(process) if line == end else None
+            text = read_up_to(process.stdout, b"\n" + end)
+            peak = peak_of(process) if text is not None else None
             with contextlib.suppress(BrokenPipeError):
                 process.stdin.close()
             status = process.wait()
@@ -58,7 +69,7 @@ def watched(program, script):
             guard.cancel()
         if status != 0 or peak is None:
             raise Wrong("program", 0, f"status {status}: {process.stderr.read()[-300:]}")
-    return b"".join(lines[1:]).decode("latin-1"), peak
+    return text.partition(b"\n")[2].decode("latin-1"), peak
 
 
 class Judged:

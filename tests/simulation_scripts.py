@@ -2,6 +2,8 @@
 import itertools
 import random
 
+from simulation_covered import REFUSES_OLDER
+
 GAMES = {
     2: ["examples/l2.game", "examples/n2.game", "examples/holdem.limit.2p.reverse_blinds.game", "examples/holdem.nolimit.2p.reverse_blinds.game"],
     3: ["examples/l3.game", "examples/n3.game", "examples/holdem.limit.3p.game", "examples/holdem.nolimit.3p.game"],
@@ -11,6 +13,9 @@ NAMES = ["alice", "bob", "carol", "dave"]
 # How often the status of a node is asked for in a script at most, and until when.
 ASKS, ASKED = 4, 60
 SECOND = 1_000_000
+# How many strangers all floods of a script have at most; how many of a hundred scripts with faults lose a node's store, and in how many of
+# the others an older copy of one is put back.
+FLOODED, LOST, AGED = 1_200, 5, 5
 # How a bot is: it asks for all lines, or for the newest.
 ALL, NEWEST = 4, 8
 # What a stranger sends in place of so many bytes: that he asks for all lines, or for what is behind a line that there isn't, a line that
@@ -63,7 +68,7 @@ def drawn(seed, is_calm=False):
     storm = 0 if is_calm else pick.choice([0, 1, 3, 10, 30])
     calm = 0
     if storm:
-        calm = trouble(it, count, players, storm, patience != "-")
+        calm = trouble(it, (count, players, storm), lose(it, seed, count) or put_back(it, seed, count), patience != "-", tokens == "tokens")
     last = max(moment for moment, words in it.lines if words.startswith("bot "))
     ask(it, seed, count)
     it.at(max(calm, last) + 300 * SECOND + hands * SECOND, "end")
@@ -78,14 +83,48 @@ def ask(it, seed, count):
         it.at(SECOND / 100 * (100 * ASKED) ** pick.random(), "stranger", pick.randrange(count), 255, 0, pick.randrange(256))
 
 
-def trouble(it, count, players, storm, may_be_gone=False):
-    """So many faults, one after another, and then calm, from the moment that is answered on."""
-    pick = it.random
-    kinds = pick.sample(["kill", "halt", "cut", "way", "close", "sync", "pause", "fail", "leave", "delay", "stranger", "silent", "all", "torn", "busy", "deaf", "mute", "wrong", "gone", "half", "hush", "slow", "lonely", "starved"], pick.randrange(1, 6))
+def lose(it, seed, count):
+    """The store of a node is lost in some scripts, once all nodes have met: a new one is in its place, nothing, or another node's, or the
+    node is of another match. The other faults begin later; it answers when."""
+    pick = random.Random(f"store of {seed}")
+    if pick.randrange(100) >= LOST:
+        return 0
+    node, moment = pick.randrange(count), int(pick.uniform(2, 4) * SECOND)
+    it.at(moment, pick.choice(["kill", "halt"]), node, 0)
+    it.at(moment + 1, "store", node, pick.choice([0, 0, 0, 1, 1, 2, 4]))
+    it.at(moment + 2 + SECOND * pick.random(), "start", node)
+    return moment + 2 * SECOND
+
+
+def put_back(it, seed, count, is_drawn=REFUSES_OLDER):
+    """In some scripts a node gets an older copy of its store, where that is refused: of the store as `init` made it, or of what it was
+    before another node hung for so long that a new ballot began. The other faults begin later; it answers when."""
+    pick = random.Random(f"older copy of {seed}")
+    if pick.randrange(100) >= AGED or not is_drawn:
+        return 0
+    node, moment = pick.randrange(count), int(pick.uniform(2, 4) * SECOND)
+    if pick.random() < 0.5:
+        it.at(0, "store", node, 5)
+    else:
+        it.at(moment, pick.choice(["kill", "halt"]), node, 0)
+        it.at(moment + 1, "store", node, 5)
+        it.at(moment + 2, "start", node)
+        it.at(moment + 1.5 * SECOND, "pause", pick.choice([other for other in range(count) if other != node]), 2.5 * SECOND)
+        moment += 6 * SECOND
+    it.at(moment, pick.choice(["kill", "halt"]), node, 0)
+    it.at(moment + 1, "store", node, 6)
+    it.at(moment + 2 + SECOND * pick.random(), "start", node)
+    return moment + 6 * SECOND
+
+
+def trouble(it, size, begun, may_be_gone=False, has_tokens=False):
+    """So many faults, one after another from a moment on, and then calm, from the moment that is answered on."""
+    (count, players, storm), pick = size, it.random
+    kinds = pick.sample(["kill", "halt", "cut", "way", "close", "sync", "pause", "fail", "leave", "delay", "stranger", "silent", "all", "torn", "busy", "deaf", "mute", "wrong", "gone", "half", "hush", "slow", "lonely", "starved", "flood", "damaged"], pick.randrange(1, 6))
     if pick.random() < 0.02:
         kinds.append("far")
     gap = it.log_range(3_000, 2 * SECOND)
-    now, down, until = 1 + pick.random() * gap, {}, 0
+    now, down, until, strangers = begun + 1 + pick.random() * gap, {}, 0, FLOODED
     for _ in range(storm):
         now += gap * 2 * pick.random()
         for node in [node for node, back in down.items() if back < now]:
@@ -198,6 +237,22 @@ def trouble(it, count, players, storm, may_be_gone=False):
                 while begun < now + lasts:
                     it.at(begun, "pause", one, period * 19 / 20)
                     begun += period
+        elif kind == "flood":
+            # Strangers come to a port, one after another: to one of a seat where it has a token, else he who comes first sits there.
+            rate = int(it.log_range(100, 4_000))
+            port = pick.choice([*range(players), *range(players), 254, 255] if has_tokens else [254, 254, 255])
+            lasts = min(lasts, strangers * SECOND // rate)
+            it.at(now, "flood", node, port, rate, pick.randrange(4), lasts)
+            strangers -= rate * lasts // SECOND
+        elif kind == "damaged":
+            # A bit of a store is another one for a while, by which it is no store: the length or the kind of its first record is wrong.
+            if node not in down:
+                place = pick.choice([0, 2])
+                it.at(now, "kill", node, 0)
+                it.at(now + 1, "store", node, 3, place)
+                it.at(now + 2, "start", node)
+                it.at(now + lasts, "store", node, 3, place)
+                down[node] = now + lasts
         elif kind == "silent":
             lasts *= pick.choice([1, 1, 3])
             seat = pick.randrange(players)

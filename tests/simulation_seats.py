@@ -2,11 +2,15 @@
 from simulation_covered import NUMBERS
 from simulation_links import Links
 from simulation_list import ACT, DEAL
+from simulation_served import token_of
 from simulation_status import LINE, StatusLines
-from simulation_trace import Wrong, bytes_of
+from simulation_trace import Wrong, bytes_of, limits_of_wires
 
 # How long a seat that is given up is waited for, for so many turns.
 GIVEN_UP, SLOW_TURNS = 500_000, 20
+
+# By which words a node parts with a bot that asked for its lines.
+WORDS = ("#OVER", "#OTHER", "#WAIT")
 
 # A line to which a node hasn't come is awaited so long at least, and until its process has run for so long.
 SETTLED, REPLAYED = 2_000_000, 30_000_000
@@ -15,13 +19,14 @@ SETTLED, REPLAYED = 2_000_000, 30_000_000
 # many as can wait there. Of one who hasn't shown the token it reads the line for that, 73 with its end (docs/FORMATS.md), and of one who asks
 # for the status nothing. Behind a line above 4,096 it reads nothing more of a bot (docs/FAULTS.md, 81 LineTooLong).
 PIECE, TOKEN_LINE = 512, 73
-# The token of a seat is its number, so many times (crates/simulator/src/plan.rt).
-TOKEN_DIGITS = 64
 MOST_READ = {"node": 65_536, "seat": PIECE, "guest": TOKEN_LINE, "status client": 0}
 
-# Who is at the other end of a connection, by its place among the lines of a process (crates/node_wires/src/limits.rt): 7 that it dials and
-# 30 that dialled it, 10 seats, 16 guests, 8 status clients.
-KINDS_OF_PLACES = 37 * ["node"] + 10 * ["seat"] + 16 * ["guest"] + 8 * ["status client"]
+# Who is at the other end of a connection, by its place among the lines of a process: those that it dials and that dialled it, then seats,
+# guests and status clients.
+PLACES = limits_of_wires()
+BEHIND_NODES = [kind for name, kind in (("SEATS", "seat"), ("GUESTS", "guest"), ("ASKERS", "status client")) for _ in range(PLACES[name])]
+KINDS_OF_PLACES = ["node"] * (PLACES["LINES"] - len(BEHIND_NODES)) + BEHIND_NODES
+FIRST_SEAT = KINDS_OF_PLACES.index("seat")
 
 
 class Reading:
@@ -50,10 +55,10 @@ class Reading:
 
 class Order:
     """That a seat is played for, as a node told it: when, whether the seat sits there, and when it first sat down there behind the last
-    command, if it did."""
+    command, if it did; and when its bot was turned away there last, if it sits nowhere and was."""
 
-    def __init__(self, moment, sits, sat_down):
-        self.moment, self.sits, self.sat_down = moment, sits, sat_down
+    def __init__(self, moment, sits, sat_down, crowded):
+        self.moment, self.sits, self.sat_down, self.crowded = moment, sits, sat_down, crowded
 
 
 class Seats(Links, StatusLines):
@@ -68,19 +73,22 @@ class Seats(Links, StatusLines):
 
     def on_take(self, row):
         place, process, connection = int(row[4]), self.processes[int(row[1])], self.connection(row)
-        self.taken(row[0], int(row[3]))
+        # Where seats have tokens, who shows one is no guest for long.
+        if KINDS_OF_PLACES[place] != "guest":
+            self.taken(row[0], int(row[3]))
         kind, reading = KINDS_OF_PLACES[place], self.readings.setdefault(int(row[3]), Reading())
         reading.kind = kind
         if kind == "seat":
-            reading.seat = seat = place - KINDS_OF_PLACES.index("seat")
+            reading.seat = seat = place - FIRST_SEAT
             process.took.setdefault(seat, []).append(row[0])
             process.seated[seat] = int(row[3])
         if connection is not None:
-            connection.processes[row[1]], connection.known = process, process.known
+            connection.processes[row[1]], connection.known, connection.taken_at = process, process.known, row[0]
 
     def on_shut(self, row):
         process, connection = self.processes[int(row[1])], self.connection(row)
         if connection is not None and connection.seat is not None:
+            self.turn_away(row[0], int(row[1]), process, int(row[3]), connection)
             self.part(row[0], int(row[1]), process, int(row[3]), connection)
         for seat in [seat for seat, number in process.seated.items() if number == int(row[3])]:
             del process.seated[seat]
@@ -101,8 +109,10 @@ class Seats(Links, StatusLines):
         del connection.unread[: len(data)]
         connection.unread_since = row[0]
         *lines, connection.partial = (connection.partial + data).split(b"\n")
-        if reading.kind == "seat":
-            for line in lines:
+        for line in lines:
+            connection.resumed = connection.resumed or line.startswith(b"#RESUME ")
+            connection.named = connection.named or not line.startswith(b"#")
+            if reading.kind == "seat":
                 self.take_answer(row[0], node, connection.seat, line.rstrip(b"\r").decode("latin-1"))
 
     def take_answer(self, moment, node, seat, line):
@@ -142,11 +152,13 @@ class Seats(Links, StatusLines):
     def say_to_seat(self, row, connection, data):
         process = self.own(row, connection)
         self.look_at_seat(row[0], int(row[1]), process, connection.seat, int(row[3]))
-        if self.has_tokens and connection.token != str(connection.seat) * TOKEN_DIGITS:
+        if self.has_tokens and connection.token != token_of(connection.seat):
             raise Wrong("token", row[0], f"node {row[1]} tells seat {connection.seat}, whose token wasn't shown, {data!r}")
         *lines, connection.told = (connection.told + data).split(b"\r\n")
         for line in lines:
             line = line.decode("latin-1")
+            if connection.word is not None:
+                raise Wrong("word", row[0], f"node {row[1]} tells seat {connection.seat} {line!r} behind {connection.word}")
             if line.startswith("#"):
                 self.word(row, connection, process, line)
             else:
@@ -162,7 +174,7 @@ class Seats(Links, StatusLines):
             raise Wrong("token", row[0], f"node {row[1]} tells somebody who is no bot {data!r}")
         *lines, reading.told = (reading.told + data.decode("latin-1")).split("\r\n")
         for line in lines:
-            if line not in ("#OVER", "#OTHER") and line not in self.dealt.order[reading.seat]:
+            if line not in WORDS and line not in self.dealt.order[reading.seat]:
                 raise Wrong("one-list", row[0], f"node {row[1]} tells somebody at seat {reading.seat} {line!r}, which is no line of the list")
 
     def line(self, row, connection, process, line):
@@ -200,8 +212,11 @@ class Seats(Links, StatusLines):
     def word(self, row, connection, process, word):
         """A word of a node to a bot that said from which line on it asks. The match is over once all lines were told."""
         self.count_one("told " + word)
-        if connection.asked is None or word not in ("#OVER", "#OTHER"):
-            raise Wrong("word", row[0], f"node {row[1]} tells seat {connection.seat} {word!r}, which didn't ask for it")
+        if not connection.resumed or word not in WORDS:
+            raise Wrong("word", row[0], f"node {row[1]} tells seat {connection.seat} {word!r}, of which it read no #RESUME")
+        connection.word = word
+        if word == "#WAIT":
+            self.look_at_wait(row[0], int(row[1]), process, connection)
         if word == "#OVER" and not (self.dealt.is_over() and connection.place == len(self.dealt.order[connection.seat]) - 1):
             raise Wrong("word", row[0], f"node {row[1]} tells seat {connection.seat} that the match is over behind line {connection.place}")
         if word == "#OTHER":
@@ -262,11 +277,13 @@ class Seats(Links, StatusLines):
 
     def is_fair(self, order, turns):
         """Whether a seat of which so many turns in a row were played for was waited for until it was ordered. Where it sat down at the node
-        behind the last command the time begins anew, but for so many patiences as there are nodes and one more."""
+        behind the last command, or was turned away there, the time begins anew, but for so many patiences as there are nodes and one more."""
         wait, waited = self.least_wait(turns, order.sits), order.moment - self.acted
-        if order.sat_down is None:
+        # A seat that acted last by itself isn't given up.
+        anew = order.crowded if order.crowded is not None and not turns else order.sat_down
+        if anew is None:
             return waited >= wait
-        return order.moment - order.sat_down >= wait or waited >= (self.count + 1) * self.patience
+        return order.moment - anew >= wait or waited >= (self.count + 1) * self.patience
 
     def least_wait(self, turns, sits):
         """How long a seat is waited for at least of which so many turns in a row were played for. One that acted last by itself, or sits at
@@ -289,7 +306,8 @@ class Seats(Links, StatusLines):
         if self.dealt.to_act() == seat and process.answered.get(seat) == self.dealt.last[seat]:
             raise Wrong("answered", moment, f"node {node} plays for seat {seat}, whose answer to {self.dealt.last[seat]} it has")
         sat_down = [taken for taken in process.took.get(seat, ()) if taken > self.acted] if seat in process.sits else []
-        self.orders.setdefault(seat, []).append(Order(moment, seat in process.sits, min(sat_down, default=None)))
+        crowded = None if any(seat in other.sits for other in self.processes.values()) else process.crowded.get(seat)
+        self.orders.setdefault(seat, []).append(Order(moment, seat in process.sits, min(sat_down, default=None), crowded))
 
 
 def index_of_deal(command):

@@ -102,9 +102,11 @@ class StatusLines:
             return
         heard = [int(words[0]) for words in (word.split(":") for word in found[9].split(",")) if words[1] != "gone"]
         for seat, (_, word) in enumerate(seats):
-            if (word == "seated") != (seat in process.sits):
+            # At a node that has been without a quorum for a while nobody sits, whoever is there to be told to wait.
+            is_known = process.is_quorate
+            if is_known and (word == "seated") != (seat in process.sits):
                 self.doubts.append((moment, process, seat))
-            elif word != "seated" and backlog[seat] != "0":
+            elif is_known and word != "seated" and backlog[seat] != "0":
                 yield f"backlog of seat {seat}"
             told = [self.sat_at(moment, node, other, seat) for other in heard]
             if word == "elsewhere" and not any(True in sat for sat in told) or word == "away" and {True} in told:

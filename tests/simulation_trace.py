@@ -1,8 +1,12 @@
 """A trace of simulated processes, read: what tests/simulation checks. It has readers of its own for stores and connections, and
 the dealer of tests/nodes and tests/dealer, which were written from the pages."""
+import functools
 import importlib.machinery
 import importlib.util
+import math
 import operator
+import re
+import struct
 import sys
 from pathlib import Path
 
@@ -19,8 +23,35 @@ def loaded(name):
 
 nodes = loaded("nodes")
 dealer = nodes.dealer
+
+
+def kept(best):
+    """The value of a hand, which the dealer asks for once for each pot and once more for who wins it, is worked out once."""
+    values = functools.lru_cache(maxsize=64)(lambda cards: best(list(cards)))
+    return lambda cards: values(tuple(cards))
+
+
+dealer.best = kept(dealer.best)
 KINDS = ["", "Prepare", "Promise", "Refuse", "Accept", "Accepted", "Chosen", "Ask", "Forward"]
 HEADER = 9
+
+
+def limits_of_wires():
+    """How many places there are of each kind, by the names of their limits (crates/node_wires/src/limits.rt)."""
+    text, found = (TOP / "crates/node_wires/src/limits.rt").read_text(), {}
+    for name, words in re.findall(r"^pub const (\w+): usize = ([\w +*]+);", text, re.M):
+        terms = ([found[word] if word in found else int(word) for word in term.split(" * ")] for term in words.split(" + "))
+        found[name] = sum(map(math.prod, terms))
+    return found
+
+
+def new_store(node, count):
+    """What the disk of a node of so many has of a new store."""
+    return b"HDJ2" + bytes([node, count, 0, 0, 0])
+
+
+# A record of a promise has so many bytes, its kind and the ballot.
+PROMISE = 6
 # The most bytes of a record behind its length (docs/FORMATS.md).
 LONGEST_RECORD = 4_133
 # How many slots a ballot has.
@@ -74,12 +105,23 @@ def bytes_of(word):
     return b"" if word == "-" else bytes.fromhex(word)
 
 
+def flipped(image, place):
+    """A store with one bit behind its header that is another, if there is anything (the order `store`, WHAT 3)."""
+    file, count = bytearray(image), len(image) - HEADER
+    if count > 0:
+        file[HEADER + place % count] ^= 1 << place // 8 % 8
+    return bytes(file)
+
+
 def number(part):
     return int.from_bytes(part, "big")
 
 
+BALLOT = struct.Struct(">IB")
+
+
 def ballot_of(part):
-    return (number(part[:4]), part[4])
+    return BALLOT.unpack_from(part)
 
 
 def split(part):
@@ -132,8 +174,8 @@ class Store:
                     if slot + place not in self.entries or self.entries[slot + place][0] <= ballot:
                         self.entries[slot + place] = (ballot, command)
                     found.append((ballot, slot + place, command))
-            elif payload[0] != 1:
-                raise ValueError(f"a record of kind {payload[0]}")
+            elif payload[0] != 1 or size != PROMISE:
+                raise ValueError(f"a record of kind {payload[0]}, of {size} bytes")
         return found
 
 

@@ -9,6 +9,8 @@ PROGRESS, MINUTE = 5_000_000, 60_000_000
 # A window begins once the nodes have been well for so long: they run, each sync takes less than a millisecond, and ways between them take
 # less than a tenth of a second.
 WELL, QUICK_SYNC, QUICK_WAY = 1_000_000, 1_000, 100_000
+# A node is well while a call of its wires takes so long at most, and a turn at least no longer than that.
+QUICK_CALL, QUICK_TURN = 5, 5_000
 # As long as simulated syncs and ways take before an order.
 FIRST_SYNC, FIRST_WAY = 100, 100
 NEVER = 1 << 62
@@ -26,6 +28,8 @@ class Windows:
         self.under_way = dict(self.pairs)
         # Which run, and until when each was paused, or was in a sync that took long.
         self.up, self.paused = set(), [0] * count
+        # Those whose store was lost, with the moment, and whose calls or turns take long: they aren't well any more.
+        self.lost, self.costly = {}, set()
         # Since when those of each least majority are.
         self.groups = {group: NEVER for group in itertools.combinations(range(count), count // 2 + 1)}
         # Calls, pauses and ways that took long: when they ended, and how long they were.
@@ -69,7 +73,7 @@ class Windows:
         """A node begins, ends, or its syncs take another time."""
         self.pass_busy(moment)
         self.look(moment)
-        is_well = node in self.up and self.syncs[node] < QUICK_SYNC
+        is_well = node in self.up and self.syncs[node] < QUICK_SYNC and node not in self.lost and node not in self.aged and node not in self.costly
         self.well[node] = max(moment, self.paused[node]) if is_well else NEVER
         self.group()
 
@@ -90,6 +94,9 @@ class Windows:
         if word == "sync":
             self.syncs[numbers[0]] = numbers[1]
             self.see_node(moment, numbers[0])
+        elif word == "cost":
+            (self.costly.add if numbers[1] > QUICK_CALL or numbers[2] > QUICK_TURN else self.costly.discard)(numbers[0])
+            self.see_node(moment, numbers[0])
         elif word == "pause":
             self.paused[numbers[0]] = max(self.paused[numbers[0]], moment + numbers[1])
             self.see_node(moment, numbers[0])
@@ -108,11 +115,12 @@ class Windows:
     # What is waited for in a window.
 
     def look(self, moment):
-        """Looks in each window whether the next command is late by now."""
-        if self.dealt.is_over():
+        """Looks in each window whether the next command is late by now, or later than in any window before."""
+        soonest = moment - int(PROGRESS * self.gap)
+        if self.last >= soonest or self.dealt.is_over():
             return
         for group, since in self.groups.items():
-            if since + WELL < moment:
+            if since + WELL < soonest:
                 self.look_at(moment, group, since + WELL)
 
     def look_at(self, moment, group, since):
