@@ -44,8 +44,11 @@ def seconds(words):
     return min(took)
 
 
-def main():
-    hands = int(sys.argv[1]) if len(sys.argv) > 1 else 1000
+def main(words):
+    if len(words) > 1 or not all(word.isdigit() for word in words):
+        print(__doc__.strip())
+        return 0 if words in (["-h"], ["--help"]) else 2
+    hands = int(words[0]) if words else 1000
     for players in (2, 3, 6, 10):
         for style, name in ((calls, "without a bet"), (wild, "with bets and folds")):
             with tempfile.TemporaryDirectory() as folder:
@@ -54,10 +57,9 @@ def main():
                 log.write_bytes(log_of(Game(game.read_text()), hands, [style] * players, f"bench {players}"))
                 flops = sum("/" in line.split(":")[2] for line in log.read_text().splitlines() if line.startswith("STATE"))
                 took = seconds([PROGRAM, "luck", game, log])
-            print(f"{players} players {name}: {hands / took:.0f} hands a second, {flops / took:.0f} with a flop")
+            print(f"{players} players {name}: {hands / took:.0f} hands a second, {flops / took:.0f} with a flop", flush=True)
+    return 0
 
 
 if __name__ == "__main__":
-    if {"-h", "--help"} & {*sys.argv[1:]}:
-        sys.exit(print(__doc__.strip()))
-    main()
+    sys.exit(main(sys.argv[1:]))

@@ -26,7 +26,7 @@ enum { LEAST = 256, ROWS = 1 << 14, TRIES = 64, NAMES = 4096 - 4 * sizeof(uint64
 
 #define SYSTEM_CALLS(IT) \
     IT(accept) IT(accept4) IT(bind) IT(close) IT(connect) IT(epoll_create1) IT(epoll_ctl) IT(epoll_wait) IT(fchmod) IT(fcntl) IT(fdatasync) \
-    IT(flock) IT(fsync) IT(ftruncate) IT(getdents64) IT(getentropy) IT(geteuid) IT(getpeername) IT(getsockname) IT(ioctl) IT(listen) IT(lseek) IT(open) \
+    IT(flock) IT(fsync) IT(ftruncate) IT(futimens) IT(getdents64) IT(getentropy) IT(geteuid) IT(getpeername) IT(getsockname) IT(ioctl) IT(listen) IT(lseek) IT(open) \
     IT(openat) IT(poll) IT(pread) IT(pwrite) IT(read) IT(readv) IT(recv) IT(recvfrom) IT(recvmsg) IT(rename) IT(send) IT(sendmsg) IT(sendto) \
     IT(setsockopt) IT(shutdown) IT(socket) IT(statx) IT(write) IT(writev)
 #define KIND(name) OF_##name,
@@ -112,6 +112,7 @@ ANSWERS(fdatasync, (int file), (file))
 ANSWERS(flock, (int file, int what), (file, what))
 ANSWERS(fsync, (int file), (file))
 ANSWERS(ftruncate, (int file, off_t size), (file, size))
+ANSWERS(futimens, (int file, const struct timespec times[2]), (file, times))
 ANSWERS(getentropy, (void *bytes, size_t count), (bytes, count))
 CALLS(uid_t, geteuid, (void), (), 0)
 ANSWERS(getpeername, (int link, struct sockaddr *of, socklen_t *size), (link, of, size))

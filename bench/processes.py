@@ -1,5 +1,5 @@
 #!/usr/bin/env python3
-"""Times nodes in processes of their own, and prints figures beside a floor: bench/processes.py [RUNS] [FOLDER] [PROGRAM].
+"""Times nodes in processes of their own, and prints figures beside a floor: bench/processes.py [--least] [RUNS] [FOLDER] [PROGRAM].
 
 Build the program first (./check, or `rt run` in crates/holdem_table), and let nothing else run: all takes a few minutes.
 Two players in C call through matches of limit hold'em over TCP, each node of which is a `holdem_table node` of its own, with
@@ -11,6 +11,8 @@ ratio, and how much longer a command takes with codes and seals; then how long a
 process that came back: of those that were killed while all others had caught up, and of those that were killed while another
 was still being told what it had missed, which are two losses at once; then how long a process that was begun again on its
 store took until its log was whole; and what a process takes of memory.
+
+With --least all is done once, in matches of a few hands: it takes some seconds, shows that the bench works, and measures nothing.
 """
 import os
 import random
@@ -22,6 +24,7 @@ import sys
 import tempfile
 import time
 from pathlib import Path
+from typing import NamedTuple, Tuple
 
 sys.dont_write_bytecode = True
 TOP = Path(__file__).resolve().parent.parent
@@ -30,19 +33,30 @@ sys.path.insert(0, str(TOP / "tests"))
 from serve import OF_A_HAND, PLAYERS, built, spread, sync_of
 from serving import FAST, free_ports, waited
 
-# About how long a run beside its floor is to take, in seconds, and the fewest and the most hands of it.
-RUN_TAKES, FEWEST, MOST = 2.0, 60, 1000
-COUNTS = (3, 5)
-# Of the runs with losses: how many processes are killed while no other lacks anything, in how many matches at most, how long
-# after the one before, and how long each is away.
-LOSSES, MATCHES, BETWEEN, AWAY = 200, 60, 0.25, 0.1
-# How many hands such a match has, in memory five times as many: a process that comes back is told all of it, in some tenths
-# of a second.
-OF_LOSSES = 2000
+# Of the runs with losses: how long after the one before a process is killed, and how long each is away, in seconds.
+BETWEEN, AWAY = 0.25, 0.1
 # By how many bytes of its log a process may be behind the others and count as one that lacks nothing: a few hands.
 LEVEL = 1000
-# How many commands a process has missed that is begun again.
-MISSED = 10_000
+
+
+class Amounts(NamedTuple):
+    """How much is run: of the runs beside the floor how many, with how many nodes, about how long each takes, in seconds, and the fewest and
+    the most hands of it; of those with losses how many processes are killed while no other lacks anything, in how many matches at most, of
+    how many hands (in memory of five times as many: a process that comes back is told all of it, in some tenths of a second); and how many
+    commands a process has missed that is begun again."""
+
+    runs: int = 10
+    counts: Tuple[int, ...] = (3, 5)
+    run_takes: float = 2.0
+    fewest: int = 60
+    most: int = 1000
+    losses: int = 200
+    matches: int = 60
+    of_losses: int = 2000
+    missed: int = 10_000
+
+
+LEAST = Amounts(runs=1, counts=(3,), run_takes=0.0, fewest=3, losses=1, matches=1, of_losses=300, missed=90)
 
 FLOOR = r"""
 /* The least that a match with each node in a process of its own does for a command: words are the count of nodes, a folder
@@ -244,18 +258,18 @@ def floor(program, nodes, commands, place):
         return int(ran.stdout) / 1e9
 
 
-def compare(programs, nodes, place, runs):
+def compare(programs, nodes, place, amounts):
     """Matches without a key, with one, and the floor in turn."""
     sync, ours, keyed, floors, waits = sync_of(place), [], [], [], []
-    hands = max(FEWEST, min(MOST, int(RUN_TAKES / (OF_A_HAND * (4 * sync + 150e-6)))))
-    for _ in range(runs):
+    hands = max(amounts.fewest, min(amounts.most, int(amounts.run_takes / (OF_A_HAND * (4 * sync + 150e-6)))))
+    for _ in range(amounts.runs):
         commands, seconds, longest = played(programs["players"], nodes, hands, place)
         ours.append(commands / seconds)
         waits.append(longest)
         keyed.append(commands / played(programs["players"], nodes, hands, place, has_key=True)[1])
         floors.append(commands / floor(programs["floor"], nodes, commands, place))
     ratio, cost = statistics.median(ours) / statistics.median(floors), statistics.median(ours) / statistics.median(keyed) - 1
-    print(f"{nodes} processes, {hands * OF_A_HAND:,} commands, stores in {place} ({sync * 1e3:.3f} ms a sync), {runs} runs each:")
+    print(f"{nodes} processes, {hands * OF_A_HAND:,} commands, stores in {place} ({sync * 1e3:.3f} ms a sync), {amounts.runs} runs each:")
     print(f"  {spread(ours)} commands a second, the floor {spread(floors)}: {ratio:.2f} of it")
     print(f"  with a key {spread(keyed)}: a command takes {100 * cost:+.0f} %")
     print(f"  the longest time from an act to a line that came of it: {spread(waits, 1)} ms", flush=True)
@@ -278,10 +292,10 @@ def is_alone(match, node):
     return all(max(sizes) - size <= LEVEL for other, size in enumerate(sizes) if other != node)
 
 
-def losses(programs, nodes, place, most, chance):
+def losses(programs, nodes, place, most, of_losses, chance):
     """One process after another of a match is killed, and begun again, until so many were alone in it at most. How long the next
     line of a log then waited, in milliseconds: of the losses that were alone, and of those that met others still behind."""
-    hands = 5 * OF_LOSSES if str(place) == FAST else OF_LOSSES
+    hands = 5 * of_losses if str(place) == FAST else of_losses
     match, alone, together = Processes(nodes, hands, place), [], []
 
     def is_near_its_end():
@@ -316,33 +330,33 @@ def told_waits(waits):
     return f"median {waits[len(waits) // 2]:.1f} ms, 9 of 10 {waits[9 * len(waits) // 10]:.1f} ms, worst {waits[-1]:.1f} ms" if waits else "none"
 
 
-def lose_processes(programs, nodes, place):
+def lose_processes(programs, nodes, place, amounts):
     """Matches one after another, until so many processes were lost."""
     alone, together, matches, chance = [], [], 0, random.Random(1)
-    while len(alone) < LOSSES and matches < MATCHES:
-        found = losses(programs, nodes, place, LOSSES - len(alone), chance)
+    while len(alone) < amounts.losses and matches < amounts.matches:
+        found = losses(programs, nodes, place, amounts.losses - len(alone), amounts.of_losses, chance)
         alone, together, matches = alone + found[0], together + found[1], matches + 1
     print(f"losses by signal 9 of one of {nodes} processes in {matches} matches, stores in {place}: to the next line of a log (one a hand)")
     print(f"  {len(alone)} while all others had caught up: {told_waits(alone)}")
     print(f"  {len(together)} while another was still behind: {told_waits(together)}", flush=True)
 
 
-def begin_again(programs, place):
+def begin_again(programs, place, missed):
     """A process that was away from the beginning on is begun once all is played; what it takes until its log is whole."""
-    match = Processes(3, MISSED // OF_A_HAND + 1, place)
+    match = Processes(3, missed // OF_A_HAND + 1, place)
     try:
         match.begin(0)
         match.begin(1)
         players = Players(programs["players"], match)
-        waited(lambda: match.log(0).count(b"\n") >= MISSED // OF_A_HAND, "the hands before it")
+        waited(lambda: match.log(0).count(b"\n") >= missed // OF_A_HAND, "the hands before it")
         peak = match.memory(0)
         begun = time.monotonic()
         match.begin(2)
-        waited(lambda: match.log(2).count(b"\n") >= MISSED // OF_A_HAND, "the log of the process that was begun again")
+        waited(lambda: match.log(2).count(b"\n") >= missed // OF_A_HAND, "the log of the process that was begun again")
         took = time.monotonic() - begun
         players.found()
         match.ended()
-        print(f"a process on a new store after {MISSED:,} commands, stores in {place}: its log was whole after {took:.2f} s;", end=" ")
+        print(f"a process on a new store after {missed:,} commands, stores in {place}: its log was whole after {took:.2f} s;", end=" ")
         print(f"the one that led had taken {peak / 2**20:.1f} MiB", flush=True)
     finally:
         match.remove()
@@ -352,7 +366,12 @@ def main(words):
     if words[:1] in (["-h"], ["--help"]):
         print(__doc__.strip())
         return 0
-    runs = int(words[0]) if words else 10
+    is_least = words[:1] == ["--least"]
+    words = words[is_least:]
+    if len(words) > 3 or not all(word.isdigit() and int(word) for word in words[:1]) or not all(map(os.path.isdir, words[1:2])):
+        print(__doc__.strip(), file=sys.stderr)
+        return 2
+    amounts = (LEAST if is_least else Amounts())._replace(**{"runs": int(word) for word in words[:1]})
     place = Path(words[1] if len(words) > 1 else ".").resolve()
     if len(words) > 2:
         Processes.program = Path(words[2]).resolve()
@@ -361,11 +380,11 @@ def main(words):
     with tempfile.TemporaryDirectory() as folder:
         programs = {name: built(name, source, folder) for name, source in (("players", PLAYERS), ("floor", FLOOR))}
         for where in [place] + [Path(FAST)] * (FAST is not None):
-            for nodes in COUNTS:
-                compare(programs, nodes, where, runs)
-            for nodes in COUNTS:
-                lose_processes(programs, nodes, where)
-            begin_again(programs, where)
+            for nodes in amounts.counts:
+                compare(programs, nodes, where, amounts)
+            for nodes in amounts.counts:
+                lose_processes(programs, nodes, where, amounts)
+            begin_again(programs, where, amounts.missed)
     return 0
 
 

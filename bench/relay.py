@@ -8,6 +8,7 @@ prints the medians in microseconds, and what the relay adds: below 50 is wanted 
 import argparse
 import socket
 import statistics
+import struct
 import subprocess
 import sys
 import time
@@ -15,16 +16,42 @@ from pathlib import Path
 
 TOP = Path(__file__).resolve().parent.parent
 VERSION = b"VERSION:2.0.0\r\n"
+# What nobody sends within so long doesn't come, in seconds.
+LONGEST = 30
+
+
+def ready(connection):
+    """A connection that sends at once, and over which nothing is waited for too long. (A timeout of Python's own would cost a call more.)"""
+    connection.settimeout(None)
+    connection.setsockopt(socket.IPPROTO_TCP, socket.TCP_NODELAY, 1)
+    connection.setsockopt(socket.SOL_SOCKET, socket.SO_RCVTIMEO, struct.pack("ll", LONGEST, 0))
+    return connection
+
+
+def piece_of(connection):
+    """What comes next over a connection."""
+    try:
+        piece = connection.recv(65536)
+    except BlockingIOError:
+        sys.exit(f"bench/relay.py: nothing came within {LONGEST} seconds")
+    if not piece:
+        sys.exit("bench/relay.py: a connection ended")
+    return piece
 
 
 def received(connection, count):
     """So many bytes of a connection."""
     got = b""
     while len(got) < count:
-        piece = connection.recv(65536)
-        if not piece:
-            sys.exit("bench/relay.py: a connection ended")
-        got += piece
+        got += piece_of(connection)
+    return got
+
+
+def received_to(connection, end):
+    """What comes over a connection up to these bytes, behind which nothing follows by itself."""
+    got = b""
+    while not got.endswith(end):
+        got += piece_of(connection)
     return got
 
 
@@ -49,15 +76,15 @@ def ways(node, bot, count):
 def relayed(program, count):
     """The times over a relay."""
     with socket.create_server(("127.0.0.1", 0)) as listener:
-        words = [program, "relay", f"127.0.0.1:{listener.getsockname()[1]}"]
+        listener.settimeout(LONGEST)
+        # (the lines of the bench begin anywhere, so the relay isn't to wait for the match's first)
+        words = [program, "relay", "--newest", f"127.0.0.1:{listener.getsockname()[1]}"]
         process = subprocess.Popen(words, stdout=subprocess.PIPE, stderr=subprocess.DEVNULL)
         try:
-            bot = socket.create_connection(("127.0.0.1", int(process.stdout.readline())))
-            bot.setsockopt(socket.IPPROTO_TCP, socket.TCP_NODELAY, 1)
+            bot = ready(socket.create_connection(("127.0.0.1", int(process.stdout.readline()))))
             bot.sendall(VERSION)
-            node, _ = listener.accept()
-            node.setsockopt(socket.IPPROTO_TCP, socket.TCP_NODELAY, 1)
-            received(node, len(VERSION))
+            node = ready(listener.accept()[0])
+            received_to(node, VERSION)
             return ways(node, bot, count)
         finally:
             process.kill()
@@ -67,18 +94,17 @@ def relayed(program, count):
 def direct(count):
     """The times over one connection."""
     with socket.create_server(("127.0.0.1", 0)) as listener:
-        bot = socket.create_connection(listener.getsockname())
-        node, _ = listener.accept()
-        for end in (bot, node):
-            end.setsockopt(socket.IPPROTO_TCP, socket.TCP_NODELAY, 1)
-        return ways(node, bot, count)
+        bot = ready(socket.create_connection(listener.getsockname()))
+        return ways(ready(listener.accept()[0]), bot, count)
 
 
 def main():
-    words = argparse.ArgumentParser(description=__doc__, formatter_class=argparse.RawDescriptionHelpFormatter)
-    words.add_argument("--lines", type=int, default=20000, help="how many lines go each way (20000)")
-    words.add_argument("--program", default=TOP / "crates/holdem_table/out/holdem_table")
-    words = words.parse_args()
+    parser = argparse.ArgumentParser(description=__doc__, formatter_class=argparse.RawDescriptionHelpFormatter)
+    parser.add_argument("--lines", type=int, default=20000, help="how many lines go each way (20000)")
+    parser.add_argument("--program", default=TOP / "crates/holdem_table/out/holdem_table")
+    words = parser.parse_args()
+    if words.lines < 1:
+        parser.error("a bench has one line at least")
     if not Path(words.program).is_file():
         sys.exit("bench/relay.py: the program isn't built; ./check or ./demo builds it")
     over, beside = relayed(words.program, words.lines), direct(words.lines)

@@ -1,5 +1,5 @@
 #!/usr/bin/env python3
-"""Times `holdem_table serve` and prints figures beside their limits: bench/serve.py [RUNS] [FOLDER] [PROGRAM].
+"""Times `holdem_table serve` and prints figures beside their limits: bench/serve.py [--least] [RUNS] [FOLDER] [PROGRAM].
 
 Build the program first (./check, or `rt run` in crates/holdem_table), and let nothing else run: all takes five to ten
 minutes. Two players in C call through matches of limit hold'em over TCP. With the stores in FOLDER (the working folder by
@@ -10,6 +10,9 @@ programs made as long as that, by a library that is loaded before them. Then, ho
 for its line when a node was lost, the worst of a hundred losses; and with stores in memory what the process takes at
 1,000 and at 10,000 hands. The last lines are a table of the aims, of which none is for seven nodes: each is met or not,
 and the status is 1 where one isn't. Where /dev/shm isn't there, what goes by memory is left out.
+
+With --least all is done once, in matches of a few hands: it takes some seconds and shows that the bench works. It measures nothing, so
+the status is 0 whatever the aims.
 """
 import os
 import statistics
@@ -18,6 +21,7 @@ import sys
 import tempfile
 import time
 from pathlib import Path
+from typing import NamedTuple, Tuple
 
 sys.dont_write_bytecode = True
 TOP = Path(__file__).resolve().parent.parent
@@ -28,18 +32,66 @@ from serving import FAST, Match
 
 # What a sync takes at least in the runs by which `serve` is compared with the floor, in seconds.
 SYNC = 300e-6
-# About how long a run beside its floor is to take, in seconds, and the fewest and the most hands of it.
-RUN_TAKES, FEWEST, MOST = 2.0, 80, 1000
 # How many commands a hand has, where nobody raises or folds: a deal and eight calls.
 OF_A_HAND = 9
-LOSSES = 100
-# How many nodes the matches have beside which the floor runs.
-COUNTS = (3, 5, 7)
 # The limits of the aims; of so many microseconds by the count of nodes, for which alone there are aims beside the floor.
 OF_THE_FLOOR = 0.85
 BEYOND = {3: 250, 5: 500}
 FIRST_ACT, ANY_LINE = 10.0, 40.0
 A_COMMAND, SLOWER = 2048, 1.1
+
+
+class Amounts(NamedTuple):
+    """How much is run: of the runs beside the floor how many, with how many nodes, about how long each takes, in seconds, and the fewest and
+    the most hands of it; how many losses of a node; how many hands by which it is seen what the process takes, and how many times."""
+
+    runs: int = 10
+    counts: Tuple[int, ...] = (3, 5, 7)
+    run_takes: float = 2.0
+    fewest: int = 80
+    most: int = 1000
+    losses: int = 100
+    growth: Tuple[int, int] = (1000, 10000)
+    growths: int = 3
+
+    def hands(self, nodes, sync):
+        """How many hands take about as long as a run is to, where each command makes two syncs at each node and some work."""
+        return self.at_least(self.run_takes / (OF_A_HAND * (2 * nodes * sync + 50e-6 * nodes)))
+
+    def at_least(self, hands):
+        """So many hands, but not too few nor too many."""
+        return max(self.fewest, min(self.most, int(hands)))
+
+
+LEAST = Amounts(runs=1, counts=(3,), run_takes=0.0, fewest=3, losses=2, growth=(5, 10), growths=1)
+
+
+# What who calls reads of a line, where nobody folds or raises.
+CALLING = r"""
+static long long now(void) {
+    struct timespec time;
+    clock_gettime(CLOCK_MONOTONIC, &time);
+    return time.tv_sec * 1000000000LL + time.tv_nsec;
+}
+/* The number of the command after which a line shows the table, counted from 1. */
+static long long command_of(const char *line) {
+    char *at;
+    long long hand = strtoll(line + 13, &at, 10), calls = 0;
+    for (at++; *at != ':'; at++) calls += *at == 'c';
+    return OF_A_HAND * hand + 1 + calls;
+}
+/* Whether the player who got the line is to act, where nobody folds or raises: two calls a round, the first of the first
+   round by position 1, of the others by position 0. */
+static int is_to_act(const char *line) {
+    int position = line[11] - '0', round = 0, calls = 0;
+    const char *at = strchr(line + 13, ':') + 1;
+    for (; *at != ':'; at++) {
+        round += *at == '/';
+        calls = *at == '/' ? 0 : calls + 1;
+    }
+    return calls < 2 && position == ((round == 0) + calls) % 2;
+}
+"""
 
 PLAYERS = r"""
 /* Two players of limit hold'em who call: words are the count of nodes, and for each seat its ports, by node. Printed are
@@ -63,11 +115,8 @@ static struct shared {
     _Atomic long long acted[COMMANDS];
     struct found { long long last_command, first, last, longest, moves, longest_move; } found[SEATS];
 } *shared;
-static long long now(void) {
-    struct timespec time;
-    clock_gettime(CLOCK_MONOTONIC, &time);
-    return time.tv_sec * 1000000000LL + time.tv_nsec;
-}
+"""
+PLAYERS += CALLING + r"""
 static int dial(int port) {
     struct sockaddr_in to = {.sin_family = AF_INET, .sin_port = htons(port), .sin_addr.s_addr = htonl(INADDR_LOOPBACK)};
     int yes = 1, link = socket(AF_INET, SOCK_STREAM, 0);
@@ -77,24 +126,6 @@ static int dial(int port) {
     }
     setsockopt(link, IPPROTO_TCP, TCP_NODELAY, &yes, sizeof yes);
     return link;
-}
-/* The number of the command after which a line shows the table, counted from 1. */
-static long long command_of(const char *line) {
-    char *at;
-    long long hand = strtoll(line + 13, &at, 10), calls = 0;
-    for (at++; *at != ':'; at++) calls += *at == 'c';
-    return OF_A_HAND * hand + 1 + calls;
-}
-/* Whether the player who got the line is to act, where nobody folds or raises: two calls a round, the first of the first
-   round by position 1, of the others by position 0. */
-static int is_to_act(const char *line) {
-    int position = line[11] - '0', round = 0, calls = 0;
-    const char *at = strchr(line + 13, ':') + 1;
-    for (; *at != ':'; at++) {
-        round += *at == '/';
-        calls = *at == '/' ? 0 : calls + 1;
-    }
-    return calls < 2 && position == ((round == 0) + calls) % 2;
 }
 /* Takes note of a line that came, where it is of a command that the seat hasn't had a line of. */
 static void take_note(struct found *found, long long command, long long time) {
@@ -367,11 +398,6 @@ def spread(values, digits=0):
     return f"{statistics.median(values):,.{digits}f} ({min(values):,.{digits}f} to {max(values):,.{digits}f})"
 
 
-def hands_for(nodes, sync):
-    """How many hands take about RUN_TAKES, where each command makes two syncs at each node and some work."""
-    return max(FEWEST, min(MOST, int(RUN_TAKES / (OF_A_HAND * (2 * nodes * sync + 50e-6 * nodes)))))
-
-
 def sync_of(place):
     """How long a write of some bytes and its sync take in a folder, the median of a hundred, in seconds."""
     taken = []
@@ -387,17 +413,17 @@ def sync_of(place):
 class Compared:
     """`serve` and the same disk calls alone, in turn."""
 
-    def __init__(self, tools, nodes, place, runs, sync=None):
-        hands = hands_for(nodes, max(sync_of(place), sync or 0))
+    def __init__(self, tools, nodes, place, amounts, sync=None):
+        hands = amounts.hands(nodes, max(sync_of(place), sync or 0))
         ours, floors, syncs, beyond, longest = [], [], [], [], []
-        for _ in range(runs):
+        for _ in range(amounts.runs):
             run = Run(tools, nodes, hands, place, sync=sync)
             seconds, each = run.floor(tools, sync)
             run.done()
             ours.append(run.commands / run.seconds)
-            if run.seconds > 2 * RUN_TAKES:
+            if run.seconds > 2 * amounts.run_takes:
                 # The disk has become slower than it was: the runs that follow are shorter.
-                hands = max(FEWEST, int(hands * RUN_TAKES / run.seconds))
+                hands = amounts.at_least(hands * amounts.run_takes / run.seconds)
             floors.append(run.commands / seconds)
             syncs.append(each)
             beyond.append((run.seconds - seconds) / run.commands * 1e6)
@@ -406,21 +432,21 @@ class Compared:
         self.ratio = statistics.median(ours) / statistics.median(floors)
         self.beyond = statistics.median(beyond)
         slowed = "" if sync is None else f", each sync made to take {sync * 1e3:.1f} ms or more"
-        print(f"{nodes} nodes, {run.commands:,} commands at last, stores in {place}{slowed}, {runs} runs each:")
+        print(f"{nodes} nodes, {run.commands:,} commands at last, stores in {place}{slowed}, {amounts.runs} runs each:")
         print(f"  serve {spread(ours)} commands a second, the floor {spread(floors)}: {self.ratio:.2f} of it")
         print(f"  a write and its sync take {self.sync * 1e3:.3f} ms; beyond the floor a command takes {spread(beyond)} microseconds")
         print(f"  the longest time from an act to a line that came of it: {spread(longest, 1)} ms", flush=True)
 
 
-def compare_on_disk(tools, place, runs, aims):
+def compare_on_disk(tools, place, amounts, aims):
     """How near `serve` comes to the floor where a sync takes what it takes, and where it takes SYNC or more."""
     longest = []
-    for nodes in COUNTS:
-        found = Compared(tools, nodes, place, runs)
+    for nodes in amounts.counts:
+        found = Compared(tools, nodes, place, amounts)
         longest.append(found.longest)
         name = f"commands a second over the floor's, {nodes} nodes"
         if found.sync < SYNC:
-            slow = Compared(tools, nodes, place, runs, SYNC)
+            slow = Compared(tools, nodes, place, amounts, SYNC)
             print(f"  (as the disk is, at {found.sync * 1e3:.3f} ms a sync: {found.ratio:.2f}; no aim holds there)")
             longest.append(slow.longest)
             name, found = name + f", syncs slowed to {slow.sync * 1e3:.2f} ms", slow
@@ -431,10 +457,10 @@ def compare_on_disk(tools, place, runs, aims):
     return max(longest)
 
 
-def compare_in_memory(tools, runs, aims):
+def compare_in_memory(tools, amounts, aims):
     longest = []
-    for nodes in COUNTS:
-        found = Compared(tools, nodes, FAST, runs)
+    for nodes in amounts.counts:
+        found = Compared(tools, nodes, FAST, amounts)
         longest.append(found.longest)
         name = f"microseconds a command beyond the floor, stores in memory, {nodes} nodes"
         if nodes in BEYOND:
@@ -442,22 +468,22 @@ def compare_in_memory(tools, runs, aims):
     return max(longest)
 
 
-def lose_nodes(tools, place, aims, sync=None):
+def lose_nodes(tools, place, losses, aims, sync=None):
     """Each node in turn is lost and comes back, and with it both seats go to the next one."""
-    outages = [f"node = {turn % 3}\nat = {20 + 12 * turn}\nback = {26 + 12 * turn}" for turn in range(LOSSES)]
-    run = Run(tools, 3, (20 + 12 * LOSSES) // OF_A_HAND + 3, place, outages, sync).done()
+    outages = [f"node = {turn % 3}\nat = {20 + 12 * turn}\nback = {26 + 12 * turn}" for turn in range(losses)]
+    run = Run(tools, 3, (20 + 12 * losses) // OF_A_HAND + 3, place, outages, sync).done()
     where = f"stores in {place}" + ("" if sync is None else f", syncs of {sync * 1e3:.1f} ms or more")
-    print(f"{LOSSES} losses of a node, {where}: {run.moves} first acts at a new node,", end=" ")
+    print(f"{losses} losses of a node, {where}: {run.moves} first acts at a new node,", end=" ")
     print(f"the longest time of one to its line {run.longest_move:.2f} ms", flush=True)
-    is_met = run.longest_move < FIRST_ACT and run.moves >= LOSSES
+    is_met = run.longest_move < FIRST_ACT and run.moves >= losses
     aims.take(f"ms from a first act after a loss to its line, worst of {run.moves}, {where}", f"{run.longest_move:.2f}", f"below {FIRST_ACT:.0f}", is_met)
 
 
-def grow(tools, aims):
-    """What a process takes for ten times the hands, three times in turn."""
+def grow(tools, amounts, aims):
+    """What a process takes for ten times the hands, some times in turn."""
     slopes, ratios = [], []
-    for _ in range(3):
-        few, many = Run(tools, 3, 1000, FAST).done(), Run(tools, 3, 10000, FAST).done()
+    for _ in range(amounts.growths):
+        few, many = (Run(tools, 3, hands, FAST).done() for hands in amounts.growth)
         for run in (few, many):
             each = run.seconds / run.commands * 1e6
             print(f"{run.commands:,} commands: {each:,.1f} microseconds each, peak {run.peak / 2**20:.1f} MiB, longest wait {run.longest:.2f} ms", flush=True)
@@ -465,8 +491,9 @@ def grow(tools, aims):
         ratios.append((many.seconds / many.commands) / (few.seconds / few.commands))
     print(f"  {spread(slopes)} bytes a command; a command takes {spread(ratios, 2)} times as long")
     slope, ratio = statistics.median(slopes), statistics.median(ratios)
-    aims.take("bytes of the peak a command, 1,000 to 10,000 hands", f"{slope:,.0f}", f"{A_COMMAND:,} at most", slope <= A_COMMAND)
-    aims.take("time a command at 10,000 hands over that at 1,000", f"{ratio:.2f}", f"{SLOWER} at most", ratio <= SLOWER)
+    fewer, more = (f"{hands:,}" for hands in amounts.growth)
+    aims.take(f"bytes of the peak a command, {fewer} to {more} hands", f"{slope:,.0f}", f"{A_COMMAND:,} at most", slope <= A_COMMAND)
+    aims.take(f"time a command at {more} hands over that at {fewer}", f"{ratio:.2f}", f"{SLOWER} at most", ratio <= SLOWER)
 
 
 def wait_for_lines(longest, where, aims):
@@ -475,28 +502,33 @@ def wait_for_lines(longest, where, aims):
     aims.take(name, f"{longest:.1f}", f"below {ANY_LINE:.0f}", longest < ANY_LINE)
 
 
-def measure(tools, place, runs, aims):
+def measure(tools, place, amounts, aims):
     """All figures, those first that go by the disk."""
-    longest = compare_on_disk(tools, place, runs, aims)
-    lose_nodes(tools, place, aims)
+    longest = compare_on_disk(tools, place, amounts, aims)
+    lose_nodes(tools, place, amounts.losses, aims)
     if sync_of(place) < SYNC:
-        lose_nodes(tools, place, aims, SYNC)
+        lose_nodes(tools, place, amounts.losses, aims, SYNC)
     if longest < ANY_LINE:
         wait_for_lines(longest, place, aims)
     else:
         print(f"from an act to a line of it {longest:.1f} ms went by, but syncs are among it: it tells nothing of the time behind them")
     if FAST is not None:
-        longest = compare_in_memory(tools, runs, aims)
-        lose_nodes(tools, FAST, aims)
+        longest = compare_in_memory(tools, amounts, aims)
+        lose_nodes(tools, FAST, amounts.losses, aims)
         wait_for_lines(longest, FAST, aims)
-        grow(tools, aims)
+        grow(tools, amounts, aims)
 
 
 def main(words):
     if words[:1] in (["-h"], ["--help"]):
         print(__doc__.strip())
         return 0
-    runs = int(words[0]) if words else 10
+    is_least = words[:1] == ["--least"]
+    words = words[is_least:]
+    if len(words) > 3 or not all(word.isdigit() and int(word) for word in words[:1]) or not all(map(os.path.isdir, words[1:2])):
+        print(__doc__.strip(), file=sys.stderr)
+        return 2
+    amounts = (LEAST if is_least else Amounts())._replace(**{"runs": int(word) for word in words[:1]})
     place = Path(words[1] if len(words) > 1 else ".").resolve()
     if len(words) > 2:
         Match.program = Path(words[2]).resolve()
@@ -504,13 +536,13 @@ def main(words):
     print(f"{os.cpu_count()} processors, load {load:.1f} at the beginning" + (": NOT QUIET" if load > 0.5 else ""), flush=True)
     try:
         with tempfile.TemporaryDirectory() as folder:
-            measure(Tools(folder), place, runs, aims)
+            measure(Tools(folder), place, amounts, aims)
     finally:
         for match in Match.made:
             if match.folder.exists():
                 match.remove()
-    print(f"\nafter {(time.monotonic() - begun) / 60:.1f} minutes, {runs} runs each:\n\n{aims.table()}")
-    return 0 if all(row[-1] == "met" for row in aims.rows) else 1
+    print(f"\nafter {(time.monotonic() - begun) / 60:.1f} minutes, {amounts.runs} runs each:\n\n{aims.table()}")
+    return 0 if is_least or all(row[-1] == "met" for row in aims.rows) else 1
 
 
 if __name__ == "__main__":
