@@ -329,14 +329,14 @@ class Tally:
     """Counts the rows of a script as they end, and prints them."""
 
     def __init__(self, script):
-        self.script, self.passed, self.failed, self.skipped = script, 0, 0, []
+        self.script, self.passed, self.faults, self.skipped = script, 0, [], []
 
     def add(self, row, found, seconds=None):
         """Tells what came of a row, and how long it took."""
         took = "" if seconds is None else f" {seconds:5.1f} s "
         print(f"{self.script}:{took} {row}{found.words()}", flush=True)
         if found.failed:
-            self.failed += 1
+            self.faults.append(f"{row}{found.words()}")
         elif found.skipped:
             self.skipped.append(f"{row}: {' '.join(found.skipped.split())}")
         else:
@@ -344,14 +344,17 @@ class Tally:
 
     def count(self):
         """How many rows came."""
-        return self.passed + self.failed + len(self.skipped)
+        return self.passed + len(self.faults) + len(self.skipped)
 
     def end(self):
-        """Prints which rows weren't measured, and the last line; the script's status."""
+        """Prints which rows weren't measured, which failed, so that the end of a long output names them, and the last line; the
+        script's status."""
         for text in self.skipped:
             print(f"not measured: {text}")
-        print(f"{self.passed} passed, {self.failed} failed, {len(self.skipped)} skipped")
-        return 1 if self.failed else 0
+        for text in self.faults:
+            print(f"failed: {text}")
+        print(f"{self.passed} passed, {len(self.faults)} failed, {len(self.skipped)} skipped")
+        return 1 if self.faults else 0
 
 
 def in_room(script, function):
