@@ -1,5 +1,5 @@
 #!/usr/bin/env python3
-"""A bot that does what a test asks: tests/league_bot.py HOW GAME HOST PORT
+"""A bot that does what a test asks: tests/league_bot.py HOW GAME HOST PORT [FOLDER]
 
   calls     calls
   raises    raises to 300 where it begins to bet, and else calls
@@ -11,20 +11,30 @@
   wrong     calls, but answers its first turn with an action that nobody can read
   returns   comes, answers nothing, comes again when its connection ends, and doesn't end when it is asked to; in the same folder
             its next process calls
+  varies    folds, calls and raises by the name of its folder and the line alone; its raises are of any amount. Where FOLDER is
+            there, it makes a file in it at its first turn of every fourth hand, whose name is the number of its process, and
+            waits until that is taken away
 """
 import os
 import signal
 import socket
 import sys
 import time
+import zlib
+from pathlib import Path
 
 sys.dont_write_bytecode = True
 
 from serving import Game, turn_of
 
+# Who waits for a test does so in the last of each so many hands, for so many seconds at most.
+EACH, MOST = 4, 300
 
-def acts(how, betting, turn):
+
+def acts(how, betting, turn, line):
     """The action at a turn, of which `turn` is the number."""
+    if how == "varies":
+        return varied(zlib.crc32(f"{Path.cwd().name} {line.rstrip()}".encode()))
     if how == "raises" and not betting.raises:
         return "r300"
     if how == "quits" and betting.may_fold():
@@ -32,8 +42,23 @@ def acts(how, betting, turn):
     return "x" if how == "wrong" and turn == 0 else "c"
 
 
-def play(how, game, host, port):
-    turn = 0
+def varied(number):
+    """An action by a number: one of eight folds, two raise."""
+    amount = number // 8 % (900 if number % 5 else 30000)
+    return "f" if number % 8 == 0 else f"r{amount}" if number % 8 < 3 else "c"
+
+
+def wait_for_test(folder):
+    """Tells a test that this bot waits, until it is told that it may go on."""
+    file, until = Path(folder, str(os.getpid())), time.monotonic() + MOST
+    if file.parent.exists():
+        file.touch()
+    while file.exists() and time.monotonic() < until:
+        time.sleep(0.002)
+
+
+def play(how, game, host, port, folder=None):
+    turn, waited_in = 0, -1
     # (a match that stands still is waited for)
     with socket.create_connection((host, int(port)), timeout=None) as connection:
         connection.sendall(b"# a comment may come first\r\nVERSION:2.0.0\r\n")
@@ -43,10 +68,14 @@ def play(how, game, host, port):
                 continue
             if how == "slow":
                 time.sleep(0.25)
-            action = acts(how, betting, turn)
+            hand = int(line.split(":")[2])
+            if folder and hand % EACH == EACH - 1 and hand != waited_in:
+                waited_in = hand
+                wait_for_test(folder)
+            action = acts(how, betting, turn, line)
             turn += 1
             connection.sendall(f"{line.rstrip()}:{action}\r\n".encode())
-            if action == "f":
+            if how == "quits" and action == "f":
                 sys.exit(1)
 
 
@@ -66,7 +95,7 @@ def be_stubborn():
     time.sleep(600)
 
 
-def main(how, path, host, port):
+def main(how, path, host, port, folder=None):
     if how == "stubborn":
         be_stubborn()
     if how == "noisy":
@@ -78,7 +107,7 @@ def main(how, path, host, port):
         game = Game(file.read())
     if how == "returns" and is_first():
         play("silent", game, host, port)
-    play("calls" if how == "returns" else how, game, host, port)
+    play("calls" if how == "returns" else how, game, host, port, folder)
 
 
 if __name__ == "__main__":

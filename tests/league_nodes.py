@@ -1,4 +1,5 @@
 """Tests of matches that nodes keep, here and at other hosts, of which some are lost."""
+import contextlib
 import json
 import os
 import shutil
@@ -6,20 +7,24 @@ import signal
 import stat
 import subprocess
 import sys
+import tempfile
 import threading
 import time
+from collections import Counter
 from pathlib import Path
+from typing import NamedTuple
 
 sys.dont_write_bytecode = True
 
-from dealer_runs import are_ended
+from dealer_runs import are_ended, fields_of
 from league_runs import OPTIONS, WAIT, Bots, League, awaited, command, descendants, test
 from measuring import NotMeasured, communicate
 from processes_ways import Hosts, NoHosts
-from serving import TOP, want
+from serving import FAST, TOP, want
 
-# A node of each match is killed so often, in seconds.
-KILL_EACH = 0.3
+# How often it is looked whether a bot waits, and how far behind its going on a node is killed: so long or up to four times as long. In
+# seconds.
+LOOK, BEHIND = 0.01, 0.01
 # What stands for ssh: it runs the command in the network of that address, and answers as ssh does where the host is lost.
 STAND_IN = """#!/bin/sh
 while [ "$1" != -- ]; do shift; done
@@ -42,29 +47,51 @@ def words_of(process):
 
 
 class Killer(threading.Thread):
-    """Kills a node of each match of a run again and again, until the run ends: where the match went on since, however busy the machine
-    is."""
+    """Kills a node of a match whenever a bot of it waits for that, until the run ends: so no match ends before, however fast the machine
+    is. In each second wait of a match the bot goes on some milliseconds before the kill."""
 
-    def __init__(self, league, run):
+    def __init__(self, run, folder):
         super().__init__(daemon=True)
-        self.league, self.run_of, self.killed, self.seen = league, run, 0, {}
+        # How many nodes of each match were killed, by its name.
+        self.run_of, self.folder, self.killed = run, folder, Counter()
+        folder.mkdir()
         self.start()
 
     def run(self):
-        turn = 0
         while self.run_of.poll() is None:
-            time.sleep(KILL_EACH)
-            went_on = {name for name, size in self.sizes().items() if size > self.seen.get(name, 0)}
-            for number, _ in descendants(self.run_of.pid):
-                words = words_of(number)
-                if words[1:2] == ["node"] and words[3] == str(turn % 3) and words[2].removesuffix(".toml") in went_on:
-                    self.killed += end_by_nine(number)
-            self.seen = {**self.seen, **{name: size for name, size in self.sizes().items() if name in went_on}}
-            turn += 1
+            time.sleep(LOOK)
+            for bot in self.folder.iterdir():
+                nodes = nodes_beside(int(bot.name))
+                if nodes:
+                    self.kill_one(bot, nodes)
 
-    def sizes(self):
-        """How far each match is."""
-        return {path.parent.name: size_of(path) for path in self.league.kept.glob("running/*/*.tlog")}
+    def kill_one(self, bot, nodes):
+        """Kills a node of a match, another one each time, and lets a bot of it go on."""
+        match = nodes[0].match
+        turn = self.killed[match]
+        is_behind = turn % 2 == 1
+        if is_behind:
+            bot.unlink()
+            time.sleep(turn % 5 * BEHIND)
+        chosen = min(nodes, key=lambda node: (node.number - turn) % 3)
+        if end_by_nine(chosen.process):
+            self.killed[match] += 1
+            bot.unlink(missing_ok=True)
+
+
+class KilledNode(NamedTuple):
+    """A node's process: the name of its match, its number there, and the number of the process."""
+
+    match: str
+    number: int
+    process: int
+
+
+def nodes_beside(bot):
+    """The nodes of the match that started a bot; none where the bot has ended."""
+    fields = fields_of(bot)
+    commands = [(process, words_of(process)) for process, _ in descendants(int(fields[1]))] if fields else []
+    return [KilledNode(words[2].removesuffix(".toml"), int(words[3]), process) for process, words in commands if words[1:2] == ["node"]]
 
 
 def end_by_nine(number):
@@ -73,6 +100,12 @@ def end_by_nine(number):
     except ProcessLookupError:
         return False
     return True
+
+
+def folder_of_waits():
+    """A folder that isn't there yet, in which bots tell a test that they wait for it."""
+    League.folders.append(Path(tempfile.mkdtemp(prefix="league.", dir=FAST)))
+    return League.folders[-1] / "waits"
 
 
 def alike(*leagues):
@@ -89,19 +122,22 @@ def are_alike(one, other, count):
 
 @test
 def a_league_with_nodes_is_that_without():
-    """Bots that act by their lines alone. Of each match a node is killed each 300 ms: the table is the same letter by letter, and
-    each log. 6 matches, or as --matches says."""
-    meetings, players = -(-int(OPTIONS["--matches"]) // 6), {name: Bots.command(seed) for seed, name in enumerate("abc")}
+    """Bots that act by their lines alone. Of each match nodes are killed, once or more in the fourth hand and in the eighth: the
+    table is the same letter by letter, and each log. 6 matches, or as --matches says."""
+    meetings, folder = -(-int(OPTIONS["--matches"]) // 6), folder_of_waits()
+    players = {name: f"{command('varies')} {folder}" for name in "abc"}
     plain, kept = (League(players, hands=10, meetings=meetings, nodes=nodes, start_timeout=1000 * WAIT) for nodes in (0, 3))
     alike(plain, kept)
     plain.does("run", "--jobs", "2")
     run = kept.start("run", "--jobs", "2")
-    killer = Killer(kept, run)
+    killer = Killer(run, folder)
     said = communicate(run, 5 * WAIT)[1]
-    want(run.returncode == 0 and killer.killed, f"status {run.returncode}, {killer.killed} nodes were killed: {said}")
+    want(run.returncode == 0, f"status {run.returncode}, {dict(killer.killed)} nodes were killed: {said}")
     are_alike(plain, kept, 6 * meetings)
+    want(killer.killed.keys() == kept.logs().keys(), f"nodes were killed of {dict(killer.killed)} alone")
     found = {kept.result(name)["nodes"] for name in kept.logs()} | {plain.result(name)["nodes"] - 3 for name in plain.logs()}
     want(found == {3, -3}, f"results tell of {found} nodes")
+    return f"{sum(killer.killed.values())} nodes were killed"
 
 
 @test
@@ -219,7 +255,8 @@ class OtherHosts:
 def three_hosts_of_which_one_is_lost():
     """Nodes run at three hosts, one of them is ended in the midst for good; so begins each match again whose bots ran there, at the
     second host of the player, with the same cards. All matches are finished, and the table is that of a league without nodes."""
-    meetings, players = -(-int(OPTIONS["--matches"]) // 6), {name: Bots.command(seed) for seed, name in enumerate("abc")}
+    meetings, folder = -(-int(OPTIONS["--matches"]) // 6), folder_of_waits()
+    players = {**{name: Bots.command(seed) for seed, name in enumerate("ab")}, "c": f"{command('varies')} {folder}"}
     plain = League(players, hands=30, meetings=meetings, start_timeout=1000 * WAIT)
     league = League(players, hands=30, meetings=meetings, nodes=3, start_timeout=1000 * WAIT)
     try:
@@ -232,9 +269,11 @@ def three_hosts_of_which_one_is_lost():
         league.write()
         alike(plain, league)
         plain.does("run", "--jobs", "2")
+        folder.mkdir()
         run = league.start("run", "--jobs", "2", path=league.folder)
-        awaited(lambda: run.poll() is not None or any(size_of(path) > 400 for path in league.kept.glob("running/*c*/*.tlog")), "actions of c")
+        awaited(lambda: run.poll() is not None or any(folder.iterdir()), "c, who waits in the midst of a match")
         want(hosts.lose(2), "nothing ran at the host")
+        shutil.rmtree(folder)
         said = communicate(run, 5 * WAIT)[1]
         want(run.returncode == 0, f"status {run.returncode}: {said}")
         are_alike(plain, league, 6 * meetings)
@@ -257,14 +296,21 @@ class AtHost:
         self.notes = open(room / "notes", "ab+")
         self.begun = self.notes.tell()
         self.process = subprocess.Popen(
-            [sys.executable, TOP / "tools/match_engine/at_host.py", what], stdin=subprocess.PIPE, stdout=subprocess.DEVNULL, stderr=self.notes
+            [sys.executable, TOP / "tools/match_engine/at_host.py", what], bufsize=0, stdin=subprocess.PIPE, stdout=subprocess.DEVNULL, stderr=self.notes
         )
+        self.is_closed = threading.Event()
         asked = {"program": str(room / "waits"), "match": "m", "node": 0, "files": {}, **asked}
         self.say(json.dumps(asked))
+        threading.Thread(target=self.beat, daemon=True).start()
 
     def say(self, line):
         self.process.stdin.write(line.encode() + b"\n")
-        self.process.stdin.flush()
+
+    def beat(self):
+        """Says each second that it is there, as who starts such a process does: one that hears nothing for ten seconds ends."""
+        with contextlib.suppress(OSError, ValueError):
+            while not self.is_closed.wait(1):
+                self.say("")
 
     def said(self):
         self.notes.seek(self.begun)
@@ -272,6 +318,7 @@ class AtHost:
 
     def ends(self):
         """Its status, once nothing more comes to it."""
+        self.is_closed.set()
         self.process.stdin.close()
         return self.process.wait(WAIT)
 

@@ -41,17 +41,20 @@ class Aside:
         """Whether a newer one of this peer was read."""
         return subject(message) < self.newest[number]
 
+    def waits(self, message, is_last):
+        """Whether a Prepare or an Accept is set aside, of which it is said whether nothing more has come behind it."""
+        return message[2] > self.process.node.front if message[0] == nodes.ACCEPT else bool(not is_last or self.frames)
+
+    def tells(self, number, message, is_last):
+        """Whether a frame is taken when its turn comes: not one that is older, and not one that is set aside."""
+        return not asks(message) or not self.is_older(number, message) and not self.waits(message, is_last)
+
     def lets(self, number, message):
-        """Whether a frame whose turn has come is taken now: not one that is older, and not one that is set aside."""
-        if not asks(message):
-            return True
-        if self.is_older(number, message):
-            return False
-        process = self.process
-        waits = message[2] > process.node.front if message[0] == nodes.ACCEPT else bool(process.backlog or self.frames)
-        if waits:
+        """Whether a frame whose turn has come is taken now; else it is left out, or set aside."""
+        is_told = self.tells(number, message, not self.process.backlog)
+        if not is_told and not self.is_older(number, message):
             self.frames[number] = message
-        return not waits
+        return is_told
 
     def is_needless(self, number, message):
         """Whether nobody needs the vote for an Accept any more: its peer has told that it knows all its slots as chosen."""

@@ -1,6 +1,8 @@
 """Who comes to the ports of a match and isn't of it, or has one seat's token alone: python3 tests/processes_attacker.py WORD ..
 
-    dial RATE FIRST ADDRESS..          so many connections a second, evenly to these addresses, that say nothing
+    dial KIND RATE FIRST ADDRESS..     so many connections a second, evenly to these addresses: `silent` ones say nothing, `closing` ones
+                                       end what they send as soon as they are there, `resetting` ones are broken off then, and
+                                       `wrong` ones say a token that no seat has, which is no record of a node either
     ask NUMBER FIRST ADDRESS..         so many connections at once, that say nothing; `asked` is printed once all are made
     flood RATE GAME TOKEN ADDRESS..    so many bytes a second of empty lines of a seat, at each of these addresses; it also
                                        answers each line rightly, where it is to act; GAME is the path of a game file
@@ -32,6 +34,8 @@ LONGEST, MOST_MADE, MOST = 600, 5_000_000, 3000
 NETWORKS = [ipaddress.ip_network(it) for it in ("127.0.0.0/8", "10.77.0.0/24", "10.79.0.0/24")]
 # From how many addresses it dials.
 ADDRESSES = 64
+# What wrong strangers say: for a seat a token, and for a node a record that is too long.
+WRONG = b"#TOKEN " + b"f" * 64 + b"\n"
 # A port is taken when a connection is made, so that each address has all of them for each other end.
 NO_PORT_YET = 24
 # A connection that is closed so is gone at once, and leaves nothing behind.
@@ -68,6 +72,8 @@ class Attack:
         self.until, self.poll, self.callers = time.monotonic() + LONGEST, select.epoll(), {}
         self.poll.register(0, select.EPOLLIN)
         self.dialled = self.made = self.sent = 0
+        # Those that aren't there yet, by the numbers of their files.
+        self.begun = set()
 
     def goes_on(self, wait):
         """Waits so long at most; the connections of which something came, or none where all is over."""
@@ -76,23 +82,40 @@ class Attack:
             return None
         return [self.callers[file] for file, _ in found if file in self.callers]
 
-    def keep(self, caller, most=MOST):
-        """Keeps a connection, for which the one that was made first makes room."""
+    def keep(self, caller, most=MOST, is_begun=False):
+        """Keeps a connection, for which the one that was made first makes room. One that is only begun is told too once it is there."""
         if len(self.callers) >= most:
             self.end(next(iter(self.callers.values())))
         self.callers[caller.fileno()] = caller
-        self.poll.register(caller, select.EPOLLIN)
+        self.poll.register(caller, select.EPOLLIN | (select.EPOLLOUT if is_begun else 0))
+        self.begun |= {caller.fileno()} if is_begun else set()
         self.made += 1
 
     def end(self, caller):
         self.poll.unregister(caller)
+        self.begun.discard(caller.fileno())
         del self.callers[caller.fileno()]
         caller.close()
 
-    def dial_next(self, targets, sources):
+    def dial_next(self, targets, sources, kind="silent"):
         number, self.dialled = self.dialled, self.dialled + 1
         with contextlib.suppress(OSError):
-            self.keep(opened(targets[number % len(targets)], sources[number % len(sources)]))
+            self.keep(opened(targets[number % len(targets)], sources[number % len(sources)]), is_begun=kind != "silent")
+
+    def do(self, kind, callers):
+        """Does with connections that are there now what those of a kind do."""
+        for caller in [caller for caller in callers if caller.fileno() in self.begun]:
+            self.begun.discard(caller.fileno())
+            self.poll.modify(caller, select.EPOLLIN)
+            try:
+                if kind == "closing":
+                    caller.shutdown(socket.SHUT_WR)
+                elif kind == "wrong":
+                    caller.send(WRONG)
+                else:
+                    self.end(caller)
+            except OSError:
+                self.end(caller)
 
     def end_closed(self, callers):
         """Ends those connections of which the other end is gone."""
@@ -106,16 +129,17 @@ class Attack:
                 pass
             self.end(caller)
 
-    def dial(self, rate, targets, sources):
+    def dial(self, kind, rate, targets, sources):
         """Dials at an even rate."""
         begun = time.monotonic()
         while True:
             callers = self.goes_on(0.005)
             if callers is None:
                 return
-            self.end_closed(callers)
+            self.do(kind, callers)
+            self.end_closed([caller for caller in callers if caller.fileno() in self.callers])
             for _ in range(min(256, int((time.monotonic() - begun) * rate) - self.dialled)):
-                self.dial_next(targets, sources)
+                self.dial_next(targets, sources, kind)
 
     def sink(self, host):
         """Takes in whoever dials, and what he says; of more than 48 the first one goes."""
@@ -236,8 +260,10 @@ def main(words):
     attack, what = Attack(), words[0]
     print("begun", flush=True)
     if what in ("dial", "ask"):
-        first = ipaddress.ip_address(words[2])
-        getattr(attack, what)(int(words[1]), [*map(place, words[3:])], [str(first + number) for number in range(ADDRESSES)])
+        *kind, number, first = words[1:4] if what == "dial" else words[1:3]
+        targets = words[4:] if what == "dial" else words[3:]
+        sources = [str(ipaddress.ip_address(first) + place) for place in range(ADDRESSES)]
+        getattr(attack, what)(*kind, int(number), [*map(place, targets)], sources)
     elif what == "flood":
         attack.flood(int(words[1]), Game(Path(words[2]).read_text()), words[3].encode(), [*map(place, words[4:])])
     elif what == "sink":

@@ -5,7 +5,8 @@ import shutil
 import subprocess
 import time
 
-from measuring import in_time, want
+from measuring import in_time, measured, want
+from processes_keys import League
 from processes_match import PACE, Match, test
 from serving import patience, waited
 
@@ -46,8 +47,12 @@ FIRST, SOON = 75, ROUND + 10
 # In rounds: the gap between commands in the median, and each. Ballots, and connections that open behind the first command.
 MEDIAN, LONGEST, BALLOTS, JOINED = 1.5, 8, 10, 4
 
-# One slow disk of three: how long a sync takes; so many commands are played before a quick node is lost, and so soon the next one comes.
-ONE_SYNC, PLAYED, CALLS, BESIDE = 0.3, 1000, 5, 5
+# One slow disk of three: how long a sync takes; so many commands are played before a quick node is lost, or for so many seconds before it is
+# lost for good; and so soon the next one comes.
+ONE_SYNC, PLAYED, PLAYED_FOR, CALLS, BESIDE = 0.3, 1000, 10, 5, 5
+# How long a slow node takes at most until it has kept whom it met, and so long is played behind that; and so soon all processes have ended behind
+# the last command: in calls, and seconds beside.
+MET, BEHIND_START, END_CALLS, END_BESIDE = 5, 6, 2, 10
 # A test waits so long for commands that may not come at all.
 PATIENT = 60
 
@@ -83,6 +88,10 @@ class SlowMatch(Match):
     def comes_to(self, commands, seconds):
         """Waits until so many commands were seen, for so long at most in which nobody waits for a processor."""
         waited(lambda: self.is_alive() and len(self.seen) >= commands, f"{commands} commands", self.last_notes, most=seconds)
+
+
+class SlowLeague(SlowMatch, League):
+    """One whose nodes can be asked, too."""
 
 
 def told(match, text):
@@ -129,6 +138,61 @@ def one_slow_disk(seed, is_long):
     match.start(0)
     match.ends()
     return f"the next command {passed:.1f} s behind the loss of a quick node"
+
+
+@test()
+def lost_beside_a_slow_disk(seed, is_long):
+    """The same where a quick node is lost for good behind ten seconds of play: as soon the next command comes, and more behind it."""
+    match = SlowMatch(slow=(2,), sync=ONE_SYNC, hands=10_000).begin()
+    match.goes_on()
+    time.sleep(PLAYED_FOR)
+    match.kill(0)
+    before = len(match.seen)
+    with measured():
+        lost = time.monotonic()
+        match.comes_to(before + 2, PATIENT)
+        passed = time.monotonic() - lost
+    in_time(passed <= CALLS * 2 * ONE_SYNC + BESIDE, f"{passed:.1f} s to the next command")
+    match.comes_to(before + 12, PATIENT)
+    return f"{before} commands in {PLAYED_FOR} s, and the next one {passed:.1f} s behind the loss of a quick node"
+
+
+def quick_leaders(match):
+    """The quick nodes that lead, and hear a majority."""
+    asked = {node: match.asked(node) for node in range(match.count) if node not in match.slow}
+    return [node for node, told in asked.items() if told.get("leads") == told.get("quorum") == "yes"]
+
+
+@test(seeds=2, long_seeds=10)
+def started_with_a_slow_disk(seed, is_long):
+    """Each sync of a node takes 0.3 s longer, from its start on, and a quick node leads. It may campaign once, while it keeps the stores that
+    it meets, for 2.4 s of syncs; behind that it doesn't, and a quick node leads."""
+    slow = (2, 0, 1)[seed % 3 - 1]
+    match = SlowLeague(slow=(slow,), sync=ONE_SYNC, hands=10_000).begin()
+    waited(lambda: quick_leaders(match), "a quick node that leads", match.last_notes)
+    campaigns = lambda: sum("campaigns" in note for note in match.notes(slow))
+    waited(lambda: told(match, f"peer {slow}: connected") == match.count - 1, "the slow node to meet both others", match.last_notes)
+    time.sleep(MET)
+    before = campaigns()
+    time.sleep(BEHIND_START)
+    match.goes_on(20)
+    more = campaigns() - before
+    in_time(before <= 1 and more == 0, f"node {slow} campaigned {before} times and {more} times more: {match.notes(slow)}")
+    leader, *_ = waited(lambda: quick_leaders(match), "a quick node that leads at the end", match.last_notes)
+    return f"node {leader} led in the end, and node {slow}, which is slow, had campaigned {before} times"
+
+
+@test()
+def ended_with_a_slow_disk(seed, is_long):
+    """Each sync of node 4 of five takes 0.3 s longer: all processes have ended within ten seconds and two of its calls behind the last
+    command."""
+    match = SlowMatch(count=5, slow=(4,), sync=ONE_SYNC, hands=100).begin()
+    waited(lambda: match.hand >= match.hands - 2, "the last hands", match.last_notes, seen=match.played)
+    with measured():
+        match.ends()
+        passed = time.monotonic() - match.times[-1]
+    in_time(passed <= END_CALLS * 2 * ONE_SYNC + END_BESIDE, f"{passed:.1f} s from the last command to the end of all")
+    return f"all ended {passed:.1f} s behind the last command"
 
 
 @test(seeds=3)

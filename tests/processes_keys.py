@@ -15,6 +15,8 @@ from processes_match import PACE, Bot, Match, at_random, test
 from table import Game, turn_of
 
 status = loaded("tools/status")
+# A fault of a connection to another node in a note.
+FAULT = re.compile(r": 12[0-8] [A-Z]")
 
 
 class League(Match):
@@ -64,8 +66,8 @@ class League(Match):
         return waited(lambda: (lambda told: told if has(told) else None)(self.asked(node)), f"{word} {parts} of node {node}", self.last_notes)
 
     def faults(self):
-        """The notes of connections that were closed by a fault."""
-        return [note for node in range(self.count) for note in self.notes(node) if any(f": {code} " in note for code in range(120, 129))]
+        """The notes of connections that were closed by a fault: its number and its name. (A peer may be 120 commands behind.)"""
+        return [note for node in range(self.count) for note in self.notes(node) if FAULT.search(note)]
 
 
 @test(long_seeds=20)
@@ -96,12 +98,15 @@ def another_key(seed, is_long):
     match.await_note(2, "124 WrongProof")
     match.await_note(0, "124 WrongProof")
     counts = lambda: [sum("124 WrongProof" in note for note in match.notes(node)) for node in (0, 2)]
+    # (nobody acts meanwhile: on a busy machine the match would be over behind it)
+    match.may_act.clear()
     begun, before = time.monotonic(), counts()
     pause(4)
     more = [count - old for count, old in zip(counts(), before)]
     # (on a busy machine more time has passed)
     most = 1 + time.monotonic() - begun
     want(max(more) <= most, f"nodes 0 and 2 told {more} times in {most - 1:.1f} s that a key is another")
+    match.may_act.set()
     match.goes_on(10)
     match.kill(2)
     key.write_text(right)

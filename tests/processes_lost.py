@@ -12,16 +12,17 @@ CALLS_KILLED, CALLS_SILENT, CALLS_BEHIND, BESIDE = 5, 7, 2, 5000.0
 LOOK, BEGUN, LITTLE = 50.0, 3000.0, 1000.0
 # The match's processes end so soon once it is over somewhere, and two calls of a slow one.
 ENDED = 10_000.0
+# How long a peer isn't heard for which nobody waits any more, where quick ones are lost at the end.
+UNHEARD = 10_000.0
 
 
 class Slow:
     """Which nodes of a world have slow disks, from when on, and how far they fall behind."""
 
-    def __init__(self, world, count, sync, since=0.0, leads=None):
-        """So many nodes are slow by such a sync, from that moment on; bots are at a quick one."""
-        self.world, self.sync, self.since = world, sync, since
+    def __init__(self, world, count, sync, since=0.0, until=1e18):
+        """So many nodes are slow by such a sync, from that moment on and until that one; bots are at a quick one."""
+        self.world, self.sync, self.since, self.until = world, sync, since, until
         self.numbers = world.random.sample(range(world.count), count)
-        self.quick = [number for number in range(world.count) if number not in self.numbers]
         self.reached, self.longest_behind, self.campaigns = {}, 0.0, 0
         world.sync = self.sync_of
         for bot in world.bots:
@@ -29,11 +30,15 @@ class Slow:
         world.at(BEGUN, self.look)
 
     @property
+    def quick(self):
+        return [number for number in range(self.world.count) if number not in self.numbers]
+
+    @property
     def call(self):
         return 2 * self.sync
 
     def sync_of(self, number):
-        return self.sync if number in self.numbers and self.world.now >= self.since else self.world.sync_ms
+        return self.sync if number in self.numbers and self.since <= self.world.now < self.until else self.world.sync_ms
 
     def progressed(self, front):
         self.reached[front] = self.world.now
@@ -58,7 +63,7 @@ class Slow:
 
 def lost_of(world, slow):
     """As many quick nodes as a minority may be, first who leads, and not the one at which bots are."""
-    able = [number for number in slow.quick if number != slow.quick[0]]
+    able = [number for number in slow.quick if all(bot.at != number for bot in world.bots)]
     first = [number for number in able if number in leaders(world)]
     return [*first, *[number for number in able if number not in first]][: (world.count - 1) // 2]
 
@@ -99,15 +104,18 @@ def setup_loss(world, slow, after, is_cut):
     world.at(after, lose, world, slow, is_cut)
 
 
+def in_name(seconds):
+    return f"{seconds:g}".replace(".", "_")
+
+
 def loss(count, count_slow, sync, after=10_000.0, is_cut=False, since=0.0, is_long=True, seeds=1, **options):
     """A batch of so many nodes, some of them slow by such a sync, in which quick ones are lost after so long."""
 
     def setup(world):
         setup_loss(world, Slow(world, count_slow, 1000.0 * sync, since), after, is_cut)
 
-    text = f"{sync:g}".replace(".", "_")
     late = f"_from_{since / 1000:g}_s_on" if since else ""
-    setup.__name__ = f"{count_slow}_of_{count}_slow_by_{text}_s{late}_and_quick_ones_{'cut_off' if is_cut else 'killed'}_after_{after / 1000:g}_s"
+    setup.__name__ = f"{count_slow}_of_{count}_slow_by_{in_name(sync)}_s{late}_and_quick_ones_{'cut_off' if is_cut else 'killed'}_after_{after / 1000:g}_s"
     batch(seeds, most_rounds=None, is_long=is_long, **{**PATIENT, "hands": 100_000, "stays": True, "count": count, "think": 2.0, **options})(setup)
 
 
@@ -115,8 +123,8 @@ for count, count_slow in ((3, 1), (5, 2), (7, 3)):
     for sync in (0.05, 0.3, 1.2, 5):
         for is_cut in (False, True):
             loss(count, count_slow, sync, is_cut=is_cut, is_long=(count, sync, is_cut) not in ((3, 0.3, False), (3, 1.2, True)))
-        loss(count, count_slow, sync, since=10_000.0, after=20_000.0)
-        loss(count, count_slow, sync, after=TEN_MINUTES, think=100.0)
+            loss(count, count_slow, sync, is_cut=is_cut, since=10_000.0, after=20_000.0)
+            loss(count, count_slow, sync, is_cut=is_cut, after=TEN_MINUTES, think=100.0)
 
 
 def setup_end(world, slow):
@@ -141,6 +149,127 @@ for count, count_slow in ((3, 1), (5, 1)):
 
     setup.__name__ = f"{count_slow}_of_{count}_slow_by_0_3_s_and_the_end"
     batch(2, **{**PATIENT, "hands": 60, "stays": True, "count": count, "think": 1.0})(setup)
+
+
+def in_last_hand(world):
+    """Whether some process plays the last hand."""
+    return any(process.up and process.node.table.finished == world.match.hands - 1 for process in world.processes)
+
+
+def setup_loss_at_the_end(world, slow, is_cut):
+    """Quick nodes are lost in the last hand: all others end by themselves."""
+    world.lost_at, bound = None, BESIDE + slow.call * (CALLS_SILENT if is_cut else CALLS_KILLED)
+
+    def lose_now():
+        lose(world, slow, is_cut)
+        world.gone.update(world.lost)
+
+    def went_on(front):
+        slow.progressed(front)
+        if world.lost_at is None and in_last_hand(world):
+            world.lost_at = world.now
+            world.after(1.0, lose_now)
+
+    def why_not():
+        # Each of the last hand's nine commands may take as long as the slow ones, and then all wait for who isn't heard.
+        most = bound + 9 * 2 * slow.call + 2 * ENDED + CALLS_BEHIND * slow.call
+        late = world.now - world.lost_at
+        return f"the last process ended {late:.0f} ms behind the loss, not {most:.0f}" if late > most else slow.why_behind()
+
+    world.on_progress, world.why_not = went_on, why_not
+
+
+def end_with_loss(count, count_slow, sync, is_cut, is_long=True):
+    def setup(world):
+        setup_loss_at_the_end(world, Slow(world, count_slow, 1000.0 * sync), is_cut)
+
+    setup.__name__ = f"{count_slow}_of_{count}_slow_by_{in_name(sync)}_s_and_quick_ones_{'cut_off' if is_cut else 'killed'}_at_the_end"
+    batch(1, is_long=is_long, **{**PATIENT, "hands": 20, "unheard": UNHEARD, "stays": True, "count": count, "think": 2.0})(setup)
+
+
+for count, count_slow in ((3, 1), (5, 2), (7, 3)):
+    for sync in (0.05, 0.3, 1.2, 5):
+        for is_cut in (False, True):
+            end_with_loss(count, count_slow, sync, is_cut, is_long=(count, sync, is_cut) != (3, 0.3, False))
+
+
+# A slow node becomes quick, or is slow and leads, and then quick ones are lost.
+
+
+def quick_again(count, count_slow, sync, is_cut, is_long=True):
+    def setup(world):
+        setup_loss(world, Slow(world, count_slow, 1000.0 * sync, until=10_000.0), 12_000.0, is_cut)
+
+    setup.__name__ = f"{count_slow}_of_{count}_slow_by_{in_name(sync)}_s_until_10_s_and_quick_ones_{'cut_off' if is_cut else 'killed'}_after_12_s"
+    batch(1, most_rounds=None, is_long=is_long, **{**PATIENT, "hands": 100_000, "stays": True, "count": count, "think": 2.0})(setup)
+
+
+def slow_leader(count, sync, is_cut, is_long=True):
+    """Who leads in the fourth second is slow from then on; a quick node, which isn't the one at which bots are, is lost."""
+
+    def setup(world):
+        slow = Slow(world, 1, 1000.0 * sync, since=3000.0)
+        setup_loss(world, slow, 15_000.0, is_cut)
+
+        def look():
+            found = leaders(world)
+            if not found:
+                world.after(50.0, look)
+                return
+            slow.numbers = found[:1]
+            for bot in world.bots:
+                bot.sit_at(next(number for number in slow.quick if number != slow.numbers[0]))
+
+        world.at(2900.0, look)
+
+    setup.__name__ = f"the_leader_of_{count}_slow_by_{in_name(sync)}_s_and_quick_ones_{'cut_off' if is_cut else 'killed'}"
+    batch(1, most_rounds=None, is_long=is_long, **{**PATIENT, "hands": 100_000, "stays": True, "count": count, "think": 2.0})(setup)
+
+
+for sync in (0.05, 0.3, 1.2, 5):
+    for is_cut in (False, True):
+        quick_again(3, 1, sync, is_cut, is_long=(sync, is_cut) != (0.3, False))
+        quick_again(5, 2, sync, is_cut)
+        slow_leader(3, sync, is_cut, is_long=(sync, is_cut) != (0.3, True))
+        slow_leader(5, sync, is_cut)
+
+
+# One node lacks a slot that the only other one left, which is slow, knows as chosen by others' votes alone: it gets that one's vote.
+
+
+def setup_lacking(world, sync):
+    """What the quick node that doesn't lead says doesn't come to the leader any more; once the slow one knows more than the
+    leader, that quick one is killed."""
+    slow = Slow(world, 1, sync)
+    setup_loss(world, slow, 1e17, False)
+
+    def part():
+        found = [number for number in leaders(world) if number in slow.quick]
+        if not found:
+            world.after(100.0, part)
+            return
+        other = next(number for number in slow.quick if number != found[0])
+        for bot in world.bots:
+            bot.sit_at(found[0])
+        world.after(1000.0, cut, found[0], other)
+
+    def cut(leader, other):
+        world.cut({(other, leader)})
+        look(leader, other)
+
+    def look(leader, other):
+        if world.processes[slow.numbers[0]].node.front > world.processes[leader].node.front:
+            world.lost_at, world.lost = world.now, [other]
+            world.kill(other, spares=False)
+        else:
+            world.after(1.0, look, leader, other)
+
+    world.at(4000.0, part)
+
+
+@batch(2, more=6, most_rounds=None, **{**PATIENT, "hands": 100_000, "stays": True, "think": 2.0})
+def a_slot_that_the_only_other_one_left_knows(world):
+    setup_lacking(world, 300.0)
 
 
 # A slow node doesn't campaign while a quick one leads; in each start with a slow disk it may in the first second alone.

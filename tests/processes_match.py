@@ -281,9 +281,16 @@ class Match:
         return True
 
     def goes_on(self, more=5):
-        """Waits until so many more commands were seen."""
+        """Waits until so many more commands were seen. On a busy machine the match may have come to its last hand before, where bots wait for
+        the test: then that is late."""
         goal = len(self.seen) + more
-        waited(lambda: self.is_alive() and len(self.seen) >= goal, f"{more} more commands", self.last_notes, seen=lambda: len(self.seen))
+        has_gone_on = lambda: len(self.seen) >= goal
+        waited(lambda: self.is_alive() and (has_gone_on() or self.awaits_test()), f"{more} more commands", self.last_notes, seen=lambda: len(self.seen))
+        in_time(has_gone_on(), f"the match came to its last hand before {more} more commands")
+
+    def awaits_test(self):
+        """Whether the last hand has begun, and its bots wait until all else was done."""
+        return self.hand == self.hands - 1 and not self.may_end.is_set()
 
     def stands(self, seconds):
         """No command comes for so long, once each bot has read what it had been told before."""

@@ -137,14 +137,14 @@ class Attack:
         in_time(self.made >= made and self.sent >= sent, f"{self.name} made {self.made} connections of {made:.0f} and sent {self.sent} bytes of {sent:.0f}")
 
 
-def dialling(match, rate, *nodes):
-    """So many connections a second to where these nodes are dialled, from 64 addresses, that say nothing."""
-    return Attack(match, "dial", rate, None, targets=[f"{match.peer_address(node)}:{match.ports[node]}" for node in nodes])
+def dialling(match, rate, *nodes, kind="silent"):
+    """So many connections a second to where these nodes are dialled, from 64 addresses, of a kind."""
+    return Attack(match, "dial", kind, rate, None, targets=[f"{match.peer_address(node)}:{match.ports[node]}" for node in nodes])
 
 
-def dialling_seats(match, rate, seat, *nodes):
+def dialling_seats(match, rate, seat, *nodes, kind="silent"):
     """The same to where the bot of a seat dials these nodes."""
-    return Attack(match, "dial", rate, None, targets=[f"{match.address(node)}:{match.seats[node] + seat}" for node in nodes])
+    return Attack(match, "dial", kind, rate, None, targets=[f"{match.address(node)}:{match.seats[node] + seat}" for node in nodes])
 
 
 def asking(match, number, node):

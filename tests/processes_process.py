@@ -14,6 +14,8 @@ from processes_seats import Seating
 # What a process does and waits for, in milliseconds.
 BEAT, HANGUP, REPEAT, TURN = 50.0, 300.0, 100.0, 20.0
 CALL, REDIAL, ASK_AGAIN, FORWARD_AGAIN = 0.02, 20.0, 20.0, 20.0
+# So many things a turn takes of what came, however long that takes, as long as the next one costs no sync: these kinds don't.
+LEAST_TAKEN, CHEAP = 4, (nodes.ACCEPTED, nodes.CHOSEN, nodes.ASK, nodes.REFUSE)
 END_READ = 10.0
 # A process that was up for so long and heard nobody waits for nobody to catch up with.
 ALONE = 1000.0
@@ -199,6 +201,10 @@ class Peer:
         # The beat whose answer is awaited, and when it was told.
         self.probe, self.seats = None, set()
 
+    def again(self, pause):
+        """How long it is until something goes to it again: so long, or as long as its last way there and back was."""
+        return max(pause, self.trip or 0.0)
+
 
 class Process:
     def __init__(self, world, number):
@@ -223,6 +229,10 @@ class Process:
         self.quorate_since, self.replays, self.seating, self.ordered = now, False, Seating(self), None
         self.has_caught_up = False
         self.next_beat, self.turn_began, self.aside = now, now, Aside(self)
+        # Until when its last turn was to wait, and by how much turns came later than that, as the program keeps it.
+        self.left, self.late, self.in_calls = now, [0, 0, 0], 0.0
+        # Since when its turn takes what came, and how many things it took.
+        self.taking, self.taken = now, 0
         self.has_kept_time = self.has_taken_aside = False
         self.log = []
         self.logs.append(self.log)
@@ -281,10 +291,45 @@ class Process:
     def turn(self, life):
         if not self.up or life != self.life or self.busy or self.paused:
             return
+        begins = self.world.had(self.number, 0.0)
+        if begins > self.world.now:
+            # It waits for a processor.
+            self.wake = begins
+            self.world.at(begins, self.awake, self.life, begins)
+            return
+        late = max(0.0, self.world.now - self.left)
+        if late > 0:
+            # That is no silence of others.
+            self.discount(late)
+        self.note_late(late)
+        self.world.began(self.number)
         self.turn_began, self.has_kept_time, self.has_taken_aside = self.world.now, False, False
+        self.in_calls = 0.0
+        takes = self.world.had(self.number, self.world.turn_ms)
+        if takes > self.world.now:
+            self.busy = True
+            self.world.at(takes, self.go_through, self.life)
+        else:
+            self.go_through(self.life)
+
+    def go_through(self, life):
+        """A turn, once it has had a processor for as long as it takes by itself."""
+        if not self.up or life != self.life:
+            return
+        self.busy = False
         self.read()
         self.tend()
+        self.taking, self.taken = self.world.now, 0
         self.step()
+
+    def note_late(self, late):
+        """A turn comes so much later than it was to, or takes so much beyond its calls: where that is so again and again it counts as
+        calls do."""
+        late = micros(late) if self.world.processors is not None else 0
+        if late or any(self.late):
+            *self.late, counted = map(int, self.world.clock.answer(["late", *self.late, late, micros(self.world.now)])[1:])
+            if counted:
+                self.calls.note(counted / 1000, self.world.now)
 
     def read(self):
         """What came over a connection is taken in order, and what came over those that are new after the ends of others."""
@@ -302,13 +347,22 @@ class Process:
             self.rest()
 
     def take_next(self):
-        """Calls the node with the next thing that came, unless the turn's calls have taken their time; whether it does."""
-        while self.backlog and self.world.now - self.turn_began < TURN:
+        """Calls the node with the next thing that came, unless the turn's calls have taken their time; whether it does. One thing is
+        taken in any case, and more as long as they cost no sync."""
+        while self.backlog and (self.taken == 0 or self.world.now - self.taking < TURN or self.is_cheap()):
             sender, message, body = self.backlog.pop(0)
             if sender is None or self.aside.lets(sender, message):
+                self.taken += 1
                 self.call(body)
                 return True
         return False
+
+    def is_cheap(self):
+        """Whether few things were taken, and the first of those that came which is taken costs no sync."""
+        last = len(self.backlog) - 1
+        taken = (message for at, (sender, message, _) in enumerate(self.backlog) if sender is None or self.aside.tells(sender, message, at == last))
+        first = next(taken, None)
+        return self.taken < LEAST_TAKEN and first is not None and first[0] in CHEAP
 
     def keep_time(self):
         """Does what is due, once in a turn; whether the node is called for it."""
@@ -328,12 +382,13 @@ class Process:
 
     def rest(self):
         """Waits for what comes, or until a moment."""
+        self.note_late(self.world.now - self.turn_began - self.in_calls)
         if self.backlog or self.inbox or self.has_taken_aside:
-            self.wake = self.world.now
+            self.wake = self.left = self.world.now
             self.world.at(self.world.now, self.turn, self.life)
         else:
             self.seating.read_all()
-            self.wake = max(min(self.until, self.next_beat, self.next_forward(), self.aside.until()), self.world.now + 0.05)
+            self.wake = self.left = max(min(self.until, self.next_beat, self.next_forward(), self.aside.until()), self.world.now + 0.05)
             self.world.at(self.wake, self.awake, self.life, self.wake)
 
     def awake(self, life, when):
@@ -347,7 +402,7 @@ class Process:
         promised, stored, front, was_idle = node.promised, node.accepted.count, node.front, node.state == "idle"
         answer = body()
         stores = (node.promised, node.accepted.count) != (promised, stored)
-        cost = CALL + (2 * self.world.sync(self.number) if stores else 0.0) + self.world.slowness(self.number)
+        cost = self.world.cost_of_call(self.number, CALL, 2 * self.world.sync(self.number) if stores else 0.0)
         self.busy = True
         has_ended = self.world.tells_ends and node.state == "idle" and not was_idle
         self.world.after(cost, self.called, self.life, answer, promised, front, cost, has_ended)
@@ -360,6 +415,7 @@ class Process:
             return
         now, node = self.world.now, self.node
         self.busy = False
+        self.in_calls += cost
         self.calls.note(cost, now)
         self.discount(cost)
         if node.front != front:
@@ -404,7 +460,7 @@ class Process:
         """Gives a frame to a peer's connection, but an Ask that has just been put."""
         if message[0] == nodes.ASK:
             block, when = peer.asked
-            if block == message[1] // 64 and self.world.now - when < max(ASK_AGAIN, peer.trip or 0.0):
+            if block == message[1] // 64 and self.world.now - when < peer.again(ASK_AGAIN):
                 return
             peer.asked = (message[1] // 64, self.world.now)
         if message[0] == nodes.ACCEPTED:
@@ -428,13 +484,13 @@ class Process:
         it was."""
         now = self.world.now
         for peer in self.peers.values():
-            if peer.forwarded is not None and peer.wire is not None and now - peer.forwarded_at >= FORWARD_AGAIN:
+            if peer.forwarded is not None and peer.wire is not None and now - peer.forwarded_at >= peer.again(FORWARD_AGAIN):
                 peer.forwarded_at = now
                 peer.wire.send(self.number, ("frame", peer.forwarded))
 
     def next_forward(self):
         """When that is next."""
-        return min((p.forwarded_at + FORWARD_AGAIN for p in self.peers.values() if p.forwarded and p.wire), default=1e18)
+        return min((p.forwarded_at + p.again(FORWARD_AGAIN) for p in self.peers.values() if p.forwarded and p.wire), default=1e18)
 
     # Connections.
 
@@ -555,7 +611,9 @@ class Process:
         if peer.probe is not None and peer.probe[0] <= got:
             peer.trip, peer.probe = now - peer.probe[1], None
             peer.measures.go_there_and_back(peer.trip, now)
-        beat = peer.beat or {"below": now, "told": now, "front": front, "campaigns": campaigns}
+        beat = peer.beat or {"below": now, "told": now, "risen": now, "front": front, "campaigns": campaigns}
+        if front > beat["front"]:
+            beat["risen"] = now
         if beat["front"] != front or front >= self.node.front:
             beat["below"] = now
         if beat["campaigns"] != campaigns:
@@ -594,7 +652,7 @@ class Process:
             elif now - peer.heard >= peer.measures.closing(self.silence, now):
                 peer.measures.close(now - peer.heard, now)
                 self.close(peer)
-            elif peer.beat and peer.beat["front"] < self.node.front and now - peer.repeated >= REPEAT:
+            elif peer.beat and peer.beat["front"] < self.node.front and now - peer.repeated >= peer.again(REPEAT):
                 self.repeat(peer)
         self.forward_again()
         self.beat_if_due()
@@ -643,12 +701,13 @@ class Process:
         words = [peer.number, "-" if peer.accepted is None else peer.accepted]
         longest = micros(peer.measures.counted.lately(self.world.now))
         if peer.wire is None:
-            return [*words, 0, micros(peer.since), 0, longest, *[0] * 7]
+            return [*words, 0, micros(peer.since), 0, longest, *[0] * 8]
         words += [1, micros(peer.opened), micros(peer.heard), longest, int(self.owes(peer))]
         if peer.beat is None:
-            return [*words, *[0] * 6]
+            return [*words, *[0] * 7]
         beat = peer.beat
-        return [*words, 1, beat["front"], micros(beat["below"]), int(beat["campaigns"]), micros(beat["told"]), int(beat["over"])]
+        words += [1, beat["front"], micros(beat["below"]), int(beat["campaigns"]), micros(beat["told"]), int(beat["over"])]
+        return [*words, micros(beat["risen"])]
 
     def tick_if_due(self):
         """Asks what is due; whether the node ticks."""

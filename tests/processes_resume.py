@@ -114,7 +114,7 @@ def is_told(match, node, seat, words, lines, ends=False, **how):
         if got == (lines, ends):
             return
         # (its note may come a moment later)
-        time.sleep(QUIET)
+        pause(QUIET)
         want(quorums() != before, f"who says {words} at node {node} is told {got}, not {(lines, ends)}: {match.last_notes()}")
 
 

@@ -109,5 +109,6 @@ class Seating:
         ordered = "-" if process.ordered is None or process.ordered < process.moved else micros(process.ordered)
         words = [micros(world.now), micros(world.patience), int(process.is_over()), int(process.node.table.runs()), int(process.unquorate is None)]
         words += [int(process.replays), int(here), int(bool(others)), rank, max(stood, self.since[seat]), ordered]
-        words += [int(self.is_awake), int(self.is_open()), self.turns[seat], stood, self.waking[9], world.count]
+        # (nobody is ever turned away here)
+        words += [int(self.is_awake), int(self.is_open()), self.turns[seat], stood, self.waking[9], world.count, 0]
         return world.clock.ask_away(["order", *words])

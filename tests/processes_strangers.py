@@ -14,6 +14,7 @@ from pathlib import Path
 from measuring import NotMeasured, in_time, measured, want
 from serving import FAST, patience, reached, waited
 
+from processes_disks import SlowMatch
 from processes_keys import League
 from processes_match import PACE, Match, meanwhile, random_bytes, said, test
 from processes_nets import Besieged, Loopback, Sink, SlowLoopback, asking, dialling, dialling_seats, flooding, showing, slow_hosts
@@ -391,6 +392,39 @@ def strangers_at_seats(seed, is_long):
     figures = f"{1000 * delay:.0f} ms a way, {them.made} strangers: {calm:.1f} hands a second before, {during:.1f} meanwhile, a line comes {', '.join(map(told, times))}, {notes_bytes(match)} bytes of notes"
     them.did(made=2000 * seconds / 2)
     in_time(during >= calm / 3 and all(it is not None and it <= 2 * SOON for it in times), figures)
+    match.ends()
+    return figures
+
+
+class SlowBesieged(SlowMatch, Besieged):
+    """A match that strangers come to, all of whose disks are slow."""
+
+
+# How long a sync takes longer; how soon somebody sits, and a node is there, in seconds; and how many hands suffice.
+SYNC, WITHIN, SLOW_HANDS = 0.02, 2.0, 200
+
+
+@test(seeds=4)
+def strangers_of_each_kind(seed, is_long):
+    """Strangers of one kind come to the ports of a seat and of peers two thousand times a second each, while each sync takes 20 ms:
+    who has the token gets a line, a process that starts again is there, and nobody is played for. Nodes dial from their own
+    addresses, for which places are kept, by proxies."""
+    kind = ("silent", "closing", "resetting", "wrong")[seed - 1]
+    match = SlowBesieged(slow=range(3), sync=SYNC, net=SlowLoopback(3), hands=SLOW_HANDS, pace=THOUGHT, wait=3)
+    match.begin().goes_on(10)
+    begun = time.monotonic()
+    with dialling_seats(match, 2000, 0, 0, 1, 2, kind=kind) as at_seats, dialling(match, 2000, 0, 1, kind=kind) as at_peers:
+        time.sleep(2)
+        sits = [time_to_be_seated(match, 0, node) for node in (0, 1, 2)]
+        joins = [time_to_join(match, node) for node in (2, 1)]
+        sits.append(time_to_be_seated(match, 0, 1))
+        seconds = time.monotonic() - begun
+    orders = sum("default action ordered" in note for node in range(3) for note in match.notes(node))
+    figures = f"{at_seats.made} and {at_peers.made} {kind} strangers in {seconds:.0f} s: a line comes {', '.join(map(told, sits))}, nodes 2 and 1 join {' and '.join(map(told, joins))}, {orders} default actions"
+    at_seats.did(made=2000 * seconds / 2)
+    at_peers.did(made=2000 * seconds / 2)
+    in_time(all(it is not None and it <= WITHIN for it in (*sits, *joins)) and orders == 0, figures)
+    match.file.unlink()
     match.ends()
     return figures
 

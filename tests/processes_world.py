@@ -196,6 +196,8 @@ class World:
             self.fill(votes)
         self.applied, self.last_applied, self.longest, self.ticks = 0, 0.0, 0.0, 0
         self.fault_at, self.gaps, self.faults = None, [], 0
+        # Who gives processes a processor, where each isn't given one whenever it wants one; and how long a turn and a call take of it.
+        self.processors, self.turn_ms, self.call_ms = None, 0.0, 0.0
         self.on_order = lambda seat: None
         self.on_progress, self.on_end, self.writes = (lambda front: None), (lambda: None), (lambda process, receiver, message: True)
         self.held_until = 0.0
@@ -229,6 +231,22 @@ class World:
 
     def slowness(self, number):
         return self.slow.get(number, 0.0) + self.waits()
+
+    def had(self, number, need):
+        """When a process has had a processor for so long."""
+        return self.now + need if self.processors is None else self.processors.had(number, self.now, need)
+
+    def began(self, number):
+        """A turn of a process begins."""
+        if self.processors is not None:
+            self.processors.began(number, self.now)
+
+    def cost_of_call(self, number, call, syncs):
+        """How long a call takes now, with its syncs, in which no processor is needed."""
+        if self.processors is None:
+            return call + syncs + self.slowness(number)
+        ends = self.processors.had(number, self.now, self.call_ms) + syncs
+        return self.processors.had(number, ends, 0.0) - self.now
 
     def at(self, when, what, *arguments):
         self.events += 1

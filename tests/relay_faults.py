@@ -407,7 +407,7 @@ def tokens(folder, seed, is_long):
     places = [[f"127.0.0.1:{match.seats[node] + seat}" for node in range(3)] for seat in range(2)]
     wrong = Relay(folder, "wrong", *places[0], options=["--token-file", files[1]])
     bot = Dialler(wrong)
-    wrong.await_note("turned away: no quorum yet, or a wrong token? dials again in 5 s")
+    wrong.await_note("turned away: a wrong token? dials again in 5 s")
     bot.close()
     wrong.ends(1, "the bot ended its connection")
     relays = [Relay(folder, f"relay{seat}", *places[seat], options=["--token-file", files[seat]]) for seat in range(2)]

@@ -19,7 +19,7 @@ def turned_away(folder, seed, is_long):
     nodes = [Node(stays=False) for _ in range(3)]
     relay = relayed(folder, nodes)
     bot = Dialler(relay)
-    relay.await_note("turned away: no quorum yet, or a wrong token? dials again in 5 s")
+    relay.await_note("turned away: a wrong token? dials again in 5 s")
     # (the file was written when the note was: a busy machine may have it read late)
     told, counts = relay.notes_file.stat().st_mtime, []
     while time.time() < told + 4.5:
@@ -30,7 +30,7 @@ def turned_away(folder, seed, is_long):
     # (a test that had no processor meanwhile has seen nothing)
     in_time(len(counts) >= LEAST_LOOKS, f"the nodes were looked at {len(counts)} times")
     want(counts[:1] * len(counts) == counts, f"nodes are dialled meanwhile: {counts}")
-    relay.await_note("turned away: no quorum yet, or a wrong token? dials again in 10 s")
+    relay.await_note("turned away: a wrong token? dials again in 10 s")
     bot.close()
     relay.ends(1)
 
