@@ -31,6 +31,10 @@ sys.dont_write_bytecode = True
 HERE = Path(__file__).resolve().parent
 sys.path[:0] = [str(HERE / "bots"), str(HERE.parent / "tools")]
 
+import newer_python
+
+newer_python.want("table_env", newer_python.LEAST)
+
 import which_program
 from table import Betting, Game
 

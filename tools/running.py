@@ -7,7 +7,7 @@ import threading
 
 SIGNALS = (signal.SIGINT, signal.SIGTERM, signal.SIGHUP)
 # The commands that run now, and whether none may begin any more.
-RUNNING, ONE, ENDED = set(), threading.Lock(), threading.Event()
+RUNNING, ONE, ENDED = set(), threading.RLock(), threading.Event()
 
 
 class Interrupted(Exception):
@@ -51,6 +51,9 @@ def start(words, **how):
             raise Interrupted
         command = subprocess.Popen(words, start_new_session=True, **how)
         RUNNING.add(command)
+    if ENDED.is_set():
+        # The script was ended while this one began: nobody else saw it.
+        stop(command)
     return command
 
 

@@ -28,6 +28,23 @@ def is_unproved(program):
         return False
 
 
+def can_run(program):
+    """Whether it is a file that may be executed."""
+    return program.is_file() and os.access(program, os.X_OK)
+
+
+def advice(named):
+    """What to do about a path, as it was typed, at which there is no program that can be run."""
+    program = Path(os.path.abspath(named))
+    if program == UNPROVED:
+        return "tools/build --unproved makes it"
+    if can_run(TOP / named):
+        return f"{TOP / named} can; a path begins at the folder in which you type"
+    if not program.exists():
+        return "nothing is there"
+    return "it is a folder" if program.is_dir() else f"if it is one, chmod +x {program}"
+
+
 def chosen(option=None):
     """The program to run, by its whole path, given what the command line names, if it does. What is started from here runs the same one."""
     named = option or os.environ.get(VARIABLE)
@@ -35,12 +52,12 @@ def chosen(option=None):
         if not PROVED.is_file():
             raise NoProgram(
                 f"{PROVED} isn't there: tools/build proves and builds it. Or run tools/build --unproved, which takes two minutes, "
-                f"and then this command with {VARIABLE}={UNPROVED.relative_to(TOP)} before it"
+                f"and then this command with {VARIABLE}={UNPROVED} before it"
             )
         return PROVED
     program = Path(os.path.abspath(named))
-    if not (program.is_file() and os.access(program, os.X_OK)):
-        raise NoProgram(f"{program}, which {OPTION if option else VARIABLE} names, isn't a program that can be run")
+    if not can_run(program):
+        raise NoProgram(f"{program}, which {OPTION if option else VARIABLE} names, isn't a program that can be run: {advice(named)}")
     os.environ[VARIABLE] = str(program)
     return program
 

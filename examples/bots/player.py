@@ -386,6 +386,14 @@ def secret_in(word):
     return secret(opened(word, "r").readline().strip())
 
 
+def game_file(word):
+    """The path of a game file that can be read. The dealer looks whether it is right."""
+    with opened(word, "rb") as file:
+        if b"gamedef" not in file.read().lower():
+            raise argparse.ArgumentTypeError(f"{word}: not a game file")
+    return Path(word)
+
+
 def record(word):
     """A record that goes on at the end of a file."""
     return Record(opened(word, "ab", buffering=0))
@@ -401,7 +409,7 @@ def opened(word, *how, **more):
 def arguments(about, *more):
     """The words of the command line: the game, what more the bot takes, and where its seat is, by node."""
     words = argparse.ArgumentParser(description=about)
-    words.add_argument("game", type=Path, metavar="GAME", help="the game file of the match")
+    words.add_argument("game", type=game_file, metavar="GAME", help="the game file of the match")
     for name, about_it in more:
         words.add_argument(name, type=int, metavar=name.upper(), help=about_it)
     words.add_argument(

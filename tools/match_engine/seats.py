@@ -1,4 +1,6 @@
 """A seat's way to its player: a port, and the one connection that it takes."""
+import errno
+import os
 import re
 import socket
 import time
@@ -32,8 +34,9 @@ def printable(data):
 
 
 def no_port(address, port, why):
-    """The MatchFault of a port that can't be had."""
-    return MatchFault(f"port {port} at {address} can't be had: {why}")
+    """The MatchFault of a port that can't be had, and what to do where another program has it."""
+    advice = "; give another one, or see by ss -ltnp who has it" if why == os.strerror(errno.EADDRINUSE) else ""
+    return MatchFault(f"port {port} at {address} can't be had: {why}{advice}")
 
 
 def bound(address, port):

@@ -45,6 +45,7 @@ start_here() (
     process=$!
     sleep 0.5 || sleep 1
     if ! readlink "/proc/$process/exe" > /dev/null; then
+        if wait "$process"; then echo "run: it ended already, since the match is over"; exit; fi
         echo "run: it ended at once, with these last notes:" >&2; tail -n 2 notes >&2; exit 1
     fi
     echo "$process" > pid
