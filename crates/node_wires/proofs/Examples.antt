@@ -1,7 +1,8 @@
 -- What passed over wires, on values.
-use Rattle.std.proofs.Common.{◌≡◌, refl, List, [], ◌∷◌, ◌++◌}
+use Rattle.std.proofs.Common.{◌≡◌, refl, true, false, List, [], ◌∷◌, ◌++◌}
 use Rattle.node_wires.specs.declared.line.Line.TheVariants.{Peer, Caller, Seat, Guest, Asker}
-use Rattle.node_wires.specs.Passages.{Passage, Began, Came, Wrote, Gave, Logged, came_over, wrote_over, seats_in, logged_in}
+use Rattle.node_wires.specs.declared.way.Way.TheVariants.{Reading, Writing}
+use Rattle.node_wires.specs.Passages.{Passage, Began, Came, Wrote, Gave, Logged, Tried, Ended, Closed, Saw, Waited, Called, came_over, wrote_over, seats_in, logged_in, latest_in, come_behind, calls_in}
 
 -- peer 1 is dialled, sends two bytes and is sent one; somebody calls and sends one; the log gets two texts; peer 1 is
 -- dialled once more, and sends another
@@ -53,3 +54,40 @@ no_guest_yet = refl
 
 both_texts : logged_in some ≡ 80 ∷ 81 ∷ []
 both_texts = refl
+
+-- a turn: it is waited, a bot that is there sends a byte, the node is called, the bot has no room; then nothing more comes, the
+-- log gets a text, and once its connection ended it is closed
+abbrev turn : List Passage
+turn =
+    Began (Seat 1) ∷ Saw 3 ∷ Waited 9 ∷ Saw 8 ∷ Came (Seat 1) (65 ∷ []) ∷ Called ∷ Saw 8 ∷ Wrote (Seat 1) (66 ∷ []) ∷ Tried (Seat 1) Writing ∷ Tried (Seat 1) Reading
+    ∷ Logged (80 ∷ []) ∷ Called ∷ Ended (Seat 1) Reading ∷ Closed (Seat 1) ∷ []
+
+-- what came, was written and went to the log is the same as without all that brought nothing
+came_in_turn : came_over turn (Seat 1) ≡ 65 ∷ []
+came_in_turn = refl
+
+wrote_in_turn : wrote_over turn (Seat 1) ≡ 66 ∷ []
+wrote_in_turn = refl
+
+seats_in_turn : seats_in turn ≡ Began (Seat 1) ∷ Came (Seat 1) (65 ∷ []) ∷ []
+seats_in_turn = refl
+
+text_in_turn : logged_in turn ≡ 80 ∷ []
+text_in_turn = refl
+
+calls_in_turn : calls_in turn ≡ 2
+calls_in_turn = refl
+
+-- how long it may be waited is no moment
+latest_in_turn : latest_in turn ≡ 8
+latest_in_turn = refl
+
+no_moment : latest_in some ≡ 0
+no_moment = refl
+
+turn_in_order : come_behind 0 turn ≡ true
+turn_in_order = refl
+
+-- a clock that goes back
+goes_back : come_behind 0 (turn ++ Saw 7 ∷ []) ≡ false
+goes_back = refl

@@ -1,6 +1,7 @@
 pub mod Passages
 pub mod Passing
 pub mod Logs
+pub mod Moments
 pub mod MemoryPassed
 pub mod Nodes
 pub mod Places

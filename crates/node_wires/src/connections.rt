@@ -1,17 +1,17 @@
 //! The connections of lines over TCP, and who makes room for whom.
 
-ghost use Rattle.std.specs.Prelude.{◌≡◌, ◌≢◌, ◌≤◌, ℕ, length, slice_get, slice_set, Some, IfOk, OnErr, IfSome, IsNone};
+ghost use Rattle.std.specs.Prelude.{◌≡◌, ◌≢◌, ◌≤◌, ◌<◌, ℕ, length, slice_get, slice_set, Some, IfOk, OnErr, IfSome, IsNone};
 ghost use Rattle.node_wires.specs.Sending.{IsSent, IsSentAt, AllSent};
 ghost use Rattle.node_wires.specs.Lines.{place_of};
 ghost use Rattle.node_wires.specs.declared.wired.Wired.{Wired};
 
 use crate::comer::Comer;
 use crate::coming::Stander;
+use crate::halt::Halt;
 use crate::keep_alive::{keep_alive, send_again_soon};
 use crate::limits::LINES;
 use crate::line::Line;
 use crate::nodes::Nodes;
-use crate::wire::Halt;
 use crate::wired::Wired;
 use mio::Poll;
 use mio::net::TcpStream;
@@ -208,10 +208,15 @@ impl Connections {
         }
     }
 
-    /// Reads what came over a line, no more than the buffer holds.
+    /// Reads what came over a line, no more than the buffer holds: 0 bytes where it holds none. The system isn't asked then, of
+    /// which 0 bytes mean that the connection ended.
     pub(crate) fn read(&mut self, line: Line, piece: &mut [u8]) -> Result<usize, Halt>
-        ensures { IfOk result (λ count. count ≤ length piece.new) }
+        ensures within { IfOk result (λ count. count ≤ length piece.new) }
+        ensures room { OnErr result (0 < length piece.new) }
     {
+        if piece.is_empty() {
+            return Ok(0);
+        }
         match self.at_mut(line) {
             Some(wired) => wired.read(piece),
             None => Err(Halt::Ended),

@@ -46,5 +46,8 @@ pub const STANDS: u64 = 300_000;
 /// So many of those who dialled, or who came to the port of one seat, are taken off the system's queue in a turn, at most.
 pub const TAKEN_AT_ONCE: u16 = 512;
 
+/// Those who dialled and for whom there is no place are turned away for so long by one call, at most.
+pub const TURNING_AWAY: u64 = 10_000;
+
 /// How soon a free place of one seat alone is taken: after all others.
 pub const LAST: u64 = u64::MAX;

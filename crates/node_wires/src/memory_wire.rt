@@ -1,23 +1,27 @@
 //! Wires in memory, of whose calls one may fail.
 
-ghost use Rattle.std.specs.Prelude.{◌≡◌, ◌≤◌, ◌++◌, [], length, take, IfOk, OnErr};
+ghost use Rattle.std.specs.Prelude.{◌≡◌, ◌≤◌, ◌<◌, ◌++◌, [], length, take, IfOk, OnErr};
 ghost use Rattle.node_wires.specs.Passages.{logged_in};
 ghost use Rattle.node_wires.specs.Logs.{IsLogged, logged_prop};
+ghost use Rattle.node_wires.specs.Moments.{IsTimely, timely_prop};
 
 use crate::comer::Comer;
 use crate::coming::{Coming, Stander, better};
+use crate::halt::Halt;
 use crate::limits::{GUESTS, LINES, SEATS, STRANGERS};
 use crate::line::Line;
 use crate::passages::Passages;
 use crate::pipe::Pipe;
 use crate::places::is_open_to_guest;
-use crate::wire::{Halt, Wire, WireFault};
+use crate::way::Way;
+use crate::wire::{Wire, WireFault};
 use std::alloc::{AllocError, Global};
 use std::net::{IpAddr, Ipv4Addr};
 
 /// Wires in memory, for tests: who holds them puts in what comes, takes out what was written, and says what time it is.
 pub struct MemoryWire {
     alloc: Global,
+    /// The present moment. It only rises.
     moment: u64,
     /// Of each line, by its place.
     pipes: Vec<Pipe>,
@@ -43,6 +47,7 @@ pub struct MemoryWire {
     /// What passed, for clauses alone.
     passed: Passages,
     ghost logged: { IsLogged log.items passed.items } by { logged_prop log.items passed.items },
+    ghost timely: { IsTimely moment passed.items } by { timely_prop moment passed.items },
 }
 
 /// What one who waits at the port of a seat said meanwhile.
@@ -261,21 +266,27 @@ fn begin_one(pipes: &mut Vec<Pipe>, comer: Comer) -> Option<u8> {
     }
 }
 
-fn read(pipes: &mut Vec<Pipe>, line: Line, piece: &mut [u8]) -> Result<usize, Halt>
-    ensures { IfOk result (λ count. count ≤ length piece.new) }
+/// Reads what came over a line, where there is such a one and the call isn't one that fails.
+fn read(pipes: &mut Vec<Pipe>, fails: bool, line: Line, piece: &mut [u8]) -> Result<usize, Halt>
+    ensures within { IfOk result (λ count. count ≤ length piece.new) }
+    ensures room { OnErr result (0 < length piece.new) }
 {
+    if piece.is_empty() {
+        return Ok(0);
+    }
     match at_mut(pipes, line) {
-        Some(pipe) => pipe.read(piece),
-        None => Err(Halt::Ended),
+        Some(pipe) if !fails => pipe.read(piece),
+        _ => Err(Halt::Ended),
     }
 }
 
-fn write(pipes: &mut Vec<Pipe>, line: Line, bytes: &[u8]) -> Result<usize, Halt>
+/// Writes to a line, where there is such a one and the call isn't one that fails.
+fn write(pipes: &mut Vec<Pipe>, fails: bool, line: Line, bytes: &[u8]) -> Result<usize, Halt>
     ensures { IfOk result (λ count. count ≤ length bytes.now) }
 {
     match at_mut(pipes, line) {
-        Some(pipe) => pipe.write(bytes),
-        None => Err(Halt::Ended),
+        Some(pipe) if !fails => pipe.write(bytes),
+        _ => Err(Halt::Ended),
     }
 }
 
@@ -323,9 +334,12 @@ impl MemoryWire {
         })
     }
 
-    /// It is this moment from now on.
-    pub fn set_now(&mut self, now: u64) {
-        self.moment = now;
+    /// It is this moment from now on, where it isn't later already.
+    #[tactic(auto, using(crate::proofs::Moments::timely_later))]
+    pub fn set_now(&mut self, now: u64)
+        ensures { passed_of self.new ≡ passed_of self.old }
+    {
+        self.moment = self.moment.max(now);
     }
 
     /// Somebody dials this node.
@@ -398,6 +412,15 @@ impl MemoryWire {
         }
     }
 
+    /// The other side of a line's connection takes nothing from now on, or takes what is written again.
+    pub fn set_deaf(&mut self, line: Line, is_deaf: bool)
+        ensures { passed_of self.new ≡ passed_of self.old }
+    {
+        if let Some(pipe) = at_mut(&mut self.pipes, line) {
+            pipe.set_deaf(is_deaf);
+        }
+    }
+
     /// The other side ends a line's connection, behind what it sent.
     pub fn end(&mut self, line: Line) {
         if let Some(pipe) = at_mut(&mut self.pipes, line) {
@@ -429,16 +452,26 @@ impl MemoryWire {
 }
 
 impl Wire for MemoryWire {
-    ghost use Rattle.node_wires.specs.MemoryPassed.{passed_of};
+    ghost use Rattle.node_wires.specs.MemoryPassed.{passed_of, moments_in_order};
 
     ghost passed = { λ wire. wire.passed.items };
 
+    #[tactic(auto, using(crate::proofs::Logged::when_seen, crate::proofs::Moments::timely_seen, crate::proofs::Moments::reached))]
     fn now(&mut self) -> u64 {
+        self.passed.saw(self.moment);
         self.moment
     }
 
     /// No time passes.
-    fn wait(&mut self, _most: u64) {}
+    #[tactic(auto, using(crate::proofs::Logged::when_waited, crate::proofs::Moments::order_waited, crate::proofs::Moments::latest_waited))]
+    fn wait(&mut self, most: u64) {
+        self.passed.waited(most);
+    }
+
+    #[tactic(auto, using(crate::proofs::Logged::when_called, crate::proofs::Moments::order_called, crate::proofs::Moments::latest_called))]
+    fn called(&mut self) {
+        self.passed.called();
+    }
 
     /// The count of draws, and zeros behind it.
     fn draw(&mut self) -> Option<[u8; 32]> {
@@ -459,7 +492,7 @@ impl Wire for MemoryWire {
         }
     }
 
-    #[tactic(auto, using(crate::proofs::Logged::when_began))]
+    #[tactic(auto, using(crate::proofs::Logged::when_began, crate::proofs::Moments::order_began, crate::proofs::Moments::latest_began))]
     fn dial(&mut self, peer: u8) -> Result<(), WireFault> {
         if count_down(&mut self.left) || !begin(&mut self.pipes, Line::Peer(peer)) {
             return Err(WireFault::Failed);
@@ -468,7 +501,7 @@ impl Wire for MemoryWire {
         Ok(())
     }
 
-    #[tactic(auto, using(crate::proofs::Logged::when_began))]
+    #[tactic(auto, using(crate::proofs::Logged::when_began, crate::proofs::Moments::order_began, crate::proofs::Moments::latest_began))]
     fn accept(&mut self) -> Option<u8> {
         if self.callers == 0 || count_down(&mut self.left) {
             return None;
@@ -479,7 +512,7 @@ impl Wire for MemoryWire {
         Some(place)
     }
 
-    #[tactic(auto, using(crate::proofs::Logged::when_began))]
+    #[tactic(auto, using(crate::proofs::Logged::when_began, crate::proofs::Moments::order_began, crate::proofs::Moments::latest_began))]
     fn accept_seat(&mut self, seat: u8) -> bool {
         if !is_there(&self.bots, seat) || count_down(&mut self.left) {
             return false;
@@ -494,7 +527,7 @@ impl Wire for MemoryWire {
         true
     }
 
-    #[tactic(auto, using(crate::proofs::Logged::when_began))]
+    #[tactic(auto, using(crate::proofs::Logged::when_began, crate::proofs::Moments::order_began, crate::proofs::Moments::latest_began))]
     fn accept_guest(&mut self, seat: u8) -> Option<u8> {
         if !is_there(&self.bots, seat) || count_down(&mut self.left) {
             return None;
@@ -504,7 +537,7 @@ impl Wire for MemoryWire {
         Some(place)
     }
 
-    #[tactic(auto, using(crate::proofs::Logged::when_gave))]
+    #[tactic(auto, using(crate::proofs::Logged::when_gave, crate::proofs::Moments::order_gave, crate::proofs::Moments::latest_gave))]
     fn seat_guest(&mut self, place: u8, seat: u8) -> bool {
         if count_down(&mut self.left) || !seat_guest(&mut self.pipes, place, seat) {
             return false;
@@ -514,7 +547,7 @@ impl Wire for MemoryWire {
         true
     }
 
-    #[tactic(auto, using(crate::proofs::Logged::when_began))]
+    #[tactic(auto, using(crate::proofs::Logged::when_began, crate::proofs::Moments::order_began, crate::proofs::Moments::latest_began))]
     fn accept_asker(&mut self) -> Option<u8> {
         if self.askers == 0 || count_down(&mut self.left) {
             return None;
@@ -525,24 +558,34 @@ impl Wire for MemoryWire {
         Some(place)
     }
 
-    #[tactic(auto, using(crate::proofs::Logged::when_came))]
+    #[tactic(auto, using(crate::proofs::Logged::when_came, crate::proofs::Logged::when_halted, crate::proofs::Moments::order_came, crate::proofs::Moments::latest_came, crate::proofs::Moments::order_halted, crate::proofs::Moments::latest_halted))]
     fn read(&mut self, line: Line, piece: &mut [u8]) -> Result<usize, Halt> {
-        if count_down(&mut self.left) {
-            return Err(Halt::Ended);
+        let fails = count_down(&mut self.left);
+        match read(&mut self.pipes, fails, line, piece) {
+            Ok(count) => {
+                self.passed.came(line, &piece[..count]);
+                Ok(count)
+            }
+            Err(halt) => {
+                self.passed.halted(line, Way::Reading, halt);
+                Err(halt)
+            }
         }
-        let count = read(&mut self.pipes, line, piece)?;
-        self.passed.came(line, &piece[..count]);
-        Ok(count)
     }
 
-    #[tactic(auto, using(crate::proofs::Logged::when_wrote))]
+    #[tactic(auto, using(crate::proofs::Logged::when_wrote, crate::proofs::Logged::when_halted, crate::proofs::Moments::order_wrote, crate::proofs::Moments::latest_wrote, crate::proofs::Moments::order_halted, crate::proofs::Moments::latest_halted))]
     fn write(&mut self, line: Line, bytes: &[u8]) -> Result<usize, Halt> {
-        if count_down(&mut self.left) {
-            return Err(Halt::Ended);
+        let fails = count_down(&mut self.left);
+        match write(&mut self.pipes, fails, line, bytes) {
+            Ok(count) => {
+                self.passed.wrote(line, &bytes[..count]);
+                Ok(count)
+            }
+            Err(halt) => {
+                self.passed.halted(line, Way::Writing, halt);
+                Err(halt)
+            }
         }
-        let count = write(&mut self.pipes, line, bytes)?;
-        self.passed.wrote(line, &bytes[..count]);
-        Ok(count)
     }
 
     /// All that was written is on the way.
@@ -555,14 +598,16 @@ impl Wire for MemoryWire {
         }
     }
 
+    #[tactic(auto, using(crate::proofs::Logged::when_closed, crate::proofs::Moments::order_closed, crate::proofs::Moments::latest_closed))]
     fn close(&mut self, line: Line) {
         close(&mut self.pipes, line);
         if let Line::Guest(place) = line {
             stand(&mut self.guests, place, None);
         }
+        self.passed.closed(line);
     }
 
-    #[tactic(auto, using(crate::proofs::Logged::when_logged))]
+    #[tactic(auto, using(crate::proofs::Logged::when_logged, crate::proofs::Moments::order_logged, crate::proofs::Moments::latest_logged))]
     fn add_to_log(&mut self, text: &[u8]) -> Result<(), WireFault> {
         if count_down(&mut self.left) {
             return Err(WireFault::Failed);
@@ -573,4 +618,6 @@ impl Wire for MemoryWire {
         self.passed.logged(text);
         Ok(())
     }
+
+    ghost in_order = { moments_in_order };
 }

@@ -3,9 +3,11 @@
 
 ghost use Rattle.std.specs.Prelude.{◌≡◌, List, [], ◌∷◌, ◌++◌};
 ghost use Rattle.std.specs.Borrow.{ftrue};
-ghost use Rattle.node_wires.specs.Passages.{Passage, passages_code, Began, Came, Wrote, Gave, Logged};
+ghost use Rattle.node_wires.specs.Passages.{Passage, passages_code, Began, Came, Wrote, Gave, Logged, Closed, Saw, Waited, Called, halted_as};
 
+use crate::halt::Halt;
 use crate::line::Line;
+use crate::way::Way;
 use std::marker::Model;
 
 /// All that passed, in order. It has no bytes, and clauses alone read it.
@@ -18,7 +20,7 @@ impl Model for Passages {
     ghost also_owns = { λ _. ftrue };
 }
 
-/// A call of a wire that did what it was to do.
+/// A call of a wire of which something is put down.
 #[derive(Clone, Copy, Drop)]
 pub(crate) enum Passing<'a> {
     Began { line: Line },
@@ -26,6 +28,11 @@ pub(crate) enum Passing<'a> {
     Wrote { line: Line, bytes: &'a [u8] },
     Gave { place: u8, seat: u8 },
     Logged { text: &'a [u8] },
+    Halted { line: Line, way: Way, halt: Halt },
+    Closed { line: Line },
+    Saw { moment: u64 },
+    Waited { most: u64 },
+    Called,
 }
 
 impl Passages {
@@ -78,5 +85,40 @@ impl Passages {
         ensures { self.new.items ≡ self.old.items ++ Logged text.now ∷ [] }
     {
         *self = self.and(&Passing::Logged { text });
+    }
+
+    /// A read or a write did nothing.
+    pub fn halted(&mut self, line: Line, way: Way, halt: Halt)
+        ensures { self.new.items ≡ self.old.items ++ halted_as way line halt ∷ [] }
+    {
+        *self = self.and(&Passing::Halted { line, way, halt });
+    }
+
+    /// This side closed the connection that a line has, if it has one.
+    pub fn closed(&mut self, line: Line)
+        ensures { self.new.items ≡ self.old.items ++ Closed line ∷ [] }
+    {
+        *self = self.and(&Passing::Closed { line });
+    }
+
+    /// This was the present moment.
+    pub fn saw(&mut self, moment: u64)
+        ensures { self.new.items ≡ self.old.items ++ Saw moment ∷ [] }
+    {
+        *self = self.and(&Passing::Saw { moment });
+    }
+
+    /// It was waited for so many microseconds at most.
+    pub fn waited(&mut self, most: u64)
+        ensures { self.new.items ≡ self.old.items ++ Waited most ∷ [] }
+    {
+        *self = self.and(&Passing::Waited { most });
+    }
+
+    /// The node was called.
+    pub fn called(&mut self)
+        ensures { self.new.items ≡ self.old.items ++ Called ∷ [] }
+    {
+        *self = self.and(&Passing::Called);
     }
 }

@@ -1,8 +1,8 @@
 //! A connection in memory.
 
-ghost use Rattle.std.specs.Prelude.{◌≡◌, ◌≤◌, length, IfOk};
+ghost use Rattle.std.specs.Prelude.{◌≡◌, ◌≤◌, ◌<◌, length, IfOk, OnErr};
 
-use crate::wire::Halt;
+use crate::halt::Halt;
 use byte_queue::ByteQueue;
 use std::alloc::{AllocError, Global};
 
@@ -12,6 +12,8 @@ pub(crate) struct Pipe {
     is_open: bool,
     /// Nothing more will come.
     has_ended: bool,
+    /// The other side takes nothing.
+    is_deaf: bool,
     came: ByteQueue,
     wrote: ByteQueue,
 }
@@ -22,6 +24,7 @@ impl Pipe {
         Pipe {
             is_open: false,
             has_ended: false,
+            is_deaf: false,
             came: ByteQueue::new(alloc),
             wrote: ByteQueue::new(alloc),
         }
@@ -31,6 +34,7 @@ impl Pipe {
     pub(crate) fn begin(&mut self) {
         self.is_open = true;
         self.has_ended = false;
+        self.is_deaf = false;
         self.came.clear();
         self.wrote.clear();
     }
@@ -43,6 +47,11 @@ impl Pipe {
     /// The connection is ended on the other side.
     pub(crate) fn end(&mut self) {
         self.has_ended = true;
+    }
+
+    /// Whether the other side takes nothing from now on.
+    pub(crate) fn set_deaf(&mut self, is_deaf: bool) {
+        self.is_deaf = is_deaf;
     }
 
     pub(crate) fn is_open(&self) -> bool {
@@ -66,8 +75,12 @@ impl Pipe {
 
     /// Reads what came, as much of it as the buffer holds.
     pub(crate) fn read(&mut self, piece: &mut [u8]) -> Result<usize, Halt>
-        ensures { IfOk result (λ count. count ≤ length piece.new) }
+        ensures within { IfOk result (λ count. count ≤ length piece.new) }
+        ensures room { OnErr result (0 < length piece.new) }
     {
+        if piece.is_empty() {
+            return Ok(0);
+        }
         if !self.is_open {
             return Err(Halt::Ended);
         }
@@ -91,6 +104,9 @@ impl Pipe {
     {
         if !self.is_open || self.has_ended {
             return Err(Halt::Ended);
+        }
+        if self.is_deaf {
+            return Err(Halt::Later);
         }
         match self.wrote.push(bytes) {
             Ok(()) => Ok(bytes.len()),

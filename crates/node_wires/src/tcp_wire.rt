@@ -1,21 +1,25 @@
 //! Wires over TCP, and a log in a file.
 
-ghost use Rattle.std.specs.Prelude.{◌≡◌, ◌≢◌, ◌≤◌, ◌++◌, ◌∷◌, [], length, take, IfOk, OnOk, OnErr, IfSome, IsNone};
+ghost use Rattle.std.specs.Prelude.{◌≡◌, ◌≢◌, ◌≤◌, ◌++◌, ◌∷◌, [], length, take, IfOk, IfErr, OnOk, OnErr, IfSome, IsNone};
 ghost use Rattle.node_wires.specs.Lines.{place_of};
-ghost use Rattle.node_wires.specs.Passages.{Began, Wrote};
+ghost use Rattle.node_wires.specs.Passages.{Began, Wrote, halted_as};
+ghost use Rattle.node_wires.specs.Moments.{IsTimely, timely_prop};
 ghost use Rattle.node_wires.specs.declared.line.Line.TheVariants.{Caller, Guest};
+ghost use Rattle.node_wires.specs.declared.way.Way.TheVariants.{Writing};
 ghost use Rattle.node_wires.specs.declared.comer.Comer.TheVariants.{Caller as Calling, Guest as Guesting};
 
 use crate::bind_fault::{BindFault, Failed};
 use crate::comer::Comer;
 use crate::coming::Stander;
 use crate::connections::Connections;
-use crate::limits::TAKEN_AT_ONCE;
+use crate::halt::Halt;
+use crate::limits::{TAKEN_AT_ONCE, TURNING_AWAY};
 use crate::line::Line;
 use crate::nodes::Nodes;
 use crate::passages::Passages;
 use crate::ports::{DOOR, Ports, Reached};
-use crate::wire::{Halt, Wire, WireFault};
+use crate::way::Way;
+use crate::wire::{Wire, WireFault};
 use mio::net::TcpStream;
 use mio::{Events, Poll, Token};
 use std::alloc::AllocError;
@@ -38,6 +42,8 @@ pub struct TcpWire<'a> {
     poll: Poll,
     events: Events,
     begun: Instant,
+    /// The moment that was seen last.
+    seen: u64,
     ports: Ports,
     connections: Connections,
     /// How many more of those who dialled are taken off the system's queue in this turn, at most.
@@ -52,6 +58,7 @@ pub struct TcpWire<'a> {
     failed: Option<Failed>,
     /// What passed, for clauses alone.
     passed: Passages,
+    ghost timely: { IsTimely seen passed.items } by { timely_prop seen passed.items },
 }
 
 /// By hand, so that letting one go is one call for whoever owns it (docs/ARCHITECTURE.md, Habits).
@@ -62,6 +69,7 @@ impl Drop for TcpWire<'_> {
             poll: _,
             events: _,
             begun: _,
+            seen: _,
             ports: _,
             connections: _,
             left: _,
@@ -166,6 +174,7 @@ impl<'a> TcpWire<'a> {
             poll,
             events,
             begun,
+            seen: 0,
             ports,
             connections,
             left: TAKEN_AT_ONCE,
@@ -223,6 +232,21 @@ impl<'a> TcpWire<'a> {
         }
     }
 
+    /// Waits for so many microseconds at most, and notes what the system told. A turn begins.
+    fn poll_for(&mut self, most: u64)
+        ensures { self.new.passed ≡ self.old.passed }
+    {
+        self.has_more = false;
+        self.left = TAKEN_AT_ONCE;
+        if self
+            .poll
+            .poll(&mut self.events, Some(Duration::from_micros(most)))
+            .is_ok()
+        {
+            self.note();
+        }
+    }
+
     /// Dials a peer.
     fn begin_dial(&mut self, peer: u8) -> io::Result<()>
         ensures { self.new.passed ≡ self.old.passed }
@@ -245,7 +269,7 @@ impl<'a> TcpWire<'a> {
         }
     }
 
-    /// The present moment, in microseconds since these wires were opened. Where the clock can't be read, it is moment 0.
+    /// What the clock shows, in microseconds since these wires were opened; 0 where it can't be read.
     fn moment(&self) -> u64 {
         match self.begun.elapsed(self.rt) {
             Ok(spent) => spent
@@ -278,13 +302,15 @@ impl<'a> TcpWire<'a> {
         self.connections.take_in(&self.poll, comer, came, now)
     }
 
-    /// Takes in the next one who dialled and for whom there is a place, and answers it. Those before him are turned away.
+    /// Takes in the next one who dialled and for whom there is a place, and answers it. Those before him are turned away, for
+    /// `TURNING_AWAY` at most: who is behind them waits for the next call.
     fn take_caller(&mut self) -> Option<u8>
         ensures passed { self.new.passed ≡ self.old.passed }
         ensures taken { IfSome result (IsTakenIn Calling self.old.connections.nodes self.old.connections.lines.items self.new.connections.lines.items) }
         ensures stay { IsNone result → self.new.connections.lines.items ≡ self.old.connections.lines.items }
         ensures nodes { self.new.connections.nodes ≡ self.old.connections.nodes }
     {
+        let begun = self.moment();
         for _ in 0..self.left {
             let came = self.ports.next_caller()?;
             self.left = self.left.saturating_sub(1);
@@ -292,6 +318,9 @@ impl<'a> TcpWire<'a> {
                 return Some(place);
             }
             self.turned_away = self.turned_away.saturating_add(1);
+            if self.moment().saturating_sub(begun) >= TURNING_AWAY {
+                return None;
+            }
         }
         None
     }
@@ -317,25 +346,26 @@ impl Wire for TcpWire<'_> {
 
     ghost passed = { λ wire. wire.passed.items };
 
-    /// Where the clock can't be read, it is moment 0.
+    /// Where the clock can't be read, or shows less, it is the moment that was seen last.
+    #[tactic(auto, using(crate::proofs::Moments::timely_seen, crate::proofs::Moments::timely_later, crate::proofs::Moments::reached))]
     fn now(&mut self) -> u64 {
-        self.moment()
+        self.seen = self.seen.max(self.moment());
+        self.passed.saw(self.seen);
+        self.seen
     }
 
     /// Sends first what was gathered. Where somebody was taken off a queue since the last wait, more may stand there, of whom
     /// the system doesn't tell again: then it isn't waited.
+    #[tactic(auto, using(crate::proofs::Moments::order_waited, crate::proofs::Moments::latest_waited))]
     fn wait(&mut self, most: u64) {
         self.flush();
-        let most = if self.has_more { 0 } else { most };
-        self.has_more = false;
-        self.left = TAKEN_AT_ONCE;
-        if self
-            .poll
-            .poll(&mut self.events, Some(Duration::from_micros(most)))
-            .is_ok()
-        {
-            self.note();
-        }
+        self.poll_for(if self.has_more { 0 } else { most });
+        self.passed.waited(most);
+    }
+
+    #[tactic(auto, using(crate::proofs::Moments::order_called, crate::proofs::Moments::latest_called))]
+    fn called(&mut self) {
+        self.passed.called();
     }
 
     fn draw(&mut self) -> Option<[u8; 32]> {
@@ -350,6 +380,7 @@ impl Wire for TcpWire<'_> {
         self.connections.source(line)
     }
 
+    #[tactic(auto, using(crate::proofs::Moments::order_began, crate::proofs::Moments::latest_began))]
     fn dial(&mut self, peer: u8) -> Result<(), WireFault> {
         match self.begin_dial(peer) {
             Ok(()) => {
@@ -363,10 +394,12 @@ impl Wire for TcpWire<'_> {
         }
     }
 
-    /// Those for whom there is no place are turned away, up to 512 of them in a turn, until one comes for whom there is one.
+    /// Those for whom there is no place are turned away, up to 512 of them in a turn and for 10 ms by one call, until one comes for
+    /// whom there is one.
     /// Places are kept for nodes: one that is kept for a node is taken by nobody but who comes from an address from which that
     /// node dials, and he takes no other. Nobody makes room for a stranger before he has stood 0.3 seconds at a place that
     /// isn't kept. All other connections stay as they are.
+    #[tactic(auto, using(crate::proofs::Moments::order_began, crate::proofs::Moments::latest_began))]
     fn accept(&mut self) -> Option<u8>
         ensures began { IfSome result (λ place. self.new.passed.items ≡ self.old.passed.items ++ Began (Caller place) ∷ []) }
         ensures none { IsNone result → self.new.passed.items ≡ self.old.passed.items }
@@ -384,6 +417,7 @@ impl Wire for TcpWire<'_> {
         self.turned_away
     }
 
+    #[tactic(auto, using(crate::proofs::Moments::order_began, crate::proofs::Moments::latest_began))]
     fn accept_seat(&mut self, seat: u8) -> bool {
         if !self.take_in_bot(seat) {
             return false;
@@ -394,6 +428,7 @@ impl Wire for TcpWire<'_> {
 
     /// He has a place of those of any seat: a free one, or that of the stranger who came first and has stood 0.3 seconds there;
     /// where there is none, or too many of his address stand there, a free one of his seat alone.
+    #[tactic(auto, using(crate::proofs::Moments::order_began, crate::proofs::Moments::latest_began))]
     fn accept_guest(&mut self, seat: u8) -> Option<u8>
         ensures began { IfSome result (λ place. self.new.passed.items ≡ self.old.passed.items ++ Began (Guest place) ∷ []) }
         ensures none { IsNone result → self.new.passed.items ≡ self.old.passed.items }
@@ -406,6 +441,7 @@ impl Wire for TcpWire<'_> {
         Some(place)
     }
 
+    #[tactic(auto, using(crate::proofs::Moments::order_gave, crate::proofs::Moments::latest_gave))]
     fn seat_guest(&mut self, place: u8, seat: u8) -> bool {
         if !self.connections.seat_guest(&self.poll, place, seat) {
             return false;
@@ -414,6 +450,7 @@ impl Wire for TcpWire<'_> {
         true
     }
 
+    #[tactic(auto, using(crate::proofs::Moments::order_began, crate::proofs::Moments::latest_began))]
     fn accept_asker(&mut self) -> Option<u8> {
         let came = self.ports.next_asker();
         let place = self.take_in(Comer::Asker, came)?;
@@ -421,23 +458,39 @@ impl Wire for TcpWire<'_> {
         Some(place)
     }
 
+    #[tactic(auto, using(crate::proofs::Moments::order_came, crate::proofs::Moments::latest_came, crate::proofs::Moments::order_halted, crate::proofs::Moments::latest_halted))]
     fn read(&mut self, line: Line, piece: &mut [u8]) -> Result<usize, Halt> {
-        let count = self.connections.read(line, piece)?;
-        self.passed.came(line, &piece[..count]);
-        Ok(count)
+        match self.connections.read(line, piece) {
+            Ok(count) => {
+                self.passed.came(line, &piece[..count]);
+                Ok(count)
+            }
+            Err(halt) => {
+                self.passed.halted(line, Way::Reading, halt);
+                Err(halt)
+            }
+        }
     }
 
     /// What is written to another node is gathered, and sent by the first write to another line or the next `flush`, `wait` or
     /// `close`, by one call of the system; what is written to others is sent at once.
+    #[tactic(auto, using(crate::proofs::Moments::order_wrote, crate::proofs::Moments::latest_wrote, crate::proofs::Moments::order_halted, crate::proofs::Moments::latest_halted))]
     fn write(&mut self, line: Line, bytes: &[u8]) -> Result<usize, Halt>
         ensures within { IfOk result (λ count. count ≤ length bytes.now) }
         ensures wrote { IfOk result (λ count. self.new.passed.items ≡ self.old.passed.items ++ Wrote line (take count bytes.now) ∷ []) }
-        ensures nothing { OnErr result (self.new.passed.items ≡ self.old.passed.items) }
+        ensures halted { IfErr result (λ halt. self.new.passed.items ≡ self.old.passed.items ++ halted_as Writing line halt ∷ []) }
         ensures sent { IfSome self.old.connections.written (λ before. self.old.connections.written ≢ place_of line → IsSentAt self.new.connections.lines.items before) }
     {
-        let count = self.connections.write(line, bytes)?;
-        self.passed.wrote(line, &bytes[..count]);
-        Ok(count)
+        match self.connections.write(line, bytes) {
+            Ok(count) => {
+                self.passed.wrote(line, &bytes[..count]);
+                Ok(count)
+            }
+            Err(halt) => {
+                self.passed.halted(line, Way::Writing, halt);
+                Err(halt)
+            }
+        }
     }
 
     /// Sends what was gathered for each line, as far as there is room: of a line whose connection has room and hasn't failed
@@ -453,10 +506,13 @@ impl Wire for TcpWire<'_> {
         self.connections.know(line);
     }
 
+    #[tactic(auto, using(crate::proofs::Moments::order_closed, crate::proofs::Moments::latest_closed))]
     fn close(&mut self, line: Line) {
         self.connections.close(line);
+        self.passed.closed(line);
     }
 
+    #[tactic(auto, using(crate::proofs::Moments::order_logged, crate::proofs::Moments::latest_logged))]
     fn add_to_log(&mut self, text: &[u8]) -> Result<(), WireFault> {
         let Some(log) = &mut self.log else {
             return Err(WireFault::Failed);
@@ -472,4 +528,6 @@ impl Wire for TcpWire<'_> {
             }
         }
     }
+
+    ghost in_order = { λ wire. wire.timely.0 };
 }

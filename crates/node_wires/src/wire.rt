@@ -1,20 +1,13 @@
 //! What a node's process reaches outside of itself: its peers, its seats, its log, and the clock.
 
-ghost use Rattle.std.specs.Prelude.{◌≡◌, ◌≤◌, List, ◌∷◌, [], ◌++◌, length, take, IsTrue, true, false, IfOk, IfSome, IsNone, OnOk, OnErr};
-ghost use Rattle.node_wires.specs.Passages.{Passage, Began, Came, Wrote, Gave, Logged};
+ghost use Rattle.std.specs.Prelude.{◌≡◌, ◌≤◌, ◌<◌, List, ◌∷◌, [], ◌++◌, length, take, IsTrue, true, false, IfOk, IfErr, IfSome, IsNone, OnOk, OnErr};
+ghost use Rattle.node_wires.specs.Passages.{Passage, Began, Came, Wrote, Gave, Logged, Closed, Saw, Waited, Called, halted_as, latest_in, AreInOrder};
 ghost use Rattle.node_wires.specs.declared.line.Line.TheVariants.{Peer, Caller, Seat, Guest, Asker};
+ghost use Rattle.node_wires.specs.declared.way.Way.TheVariants.{Reading, Writing};
 
+use crate::halt::Halt;
 use crate::line::Line;
 use std::net::IpAddr;
-
-/// Why a read or a write did nothing.
-#[derive(Clone, Copy, Debug, PartialEq, Eq)]
-pub enum Halt {
-    /// Nothing is there to read, or no room to write into: later there may be.
-    Later,
-    /// The connection ended, or there is none.
-    Ended,
-}
 
 /// Why a call of a wire did nothing.
 #[derive(Clone, Copy, Debug, PartialEq, Eq)]
@@ -30,19 +23,26 @@ pub enum WireFault {
 /// status, and its log. Nodes, places and seats are counted from 0.
 ///
 /// No call waits but `wait`. Nothing is said of what comes, nor when: what is promised of a node holds whatever its wires
-/// answer. What passed is said: which connections began, the pieces that came and that were written, and what the log got.
-/// A call that does nothing adds nothing to it.
+/// answer. What passed is said: which connections began, which were found to have ended or were closed by `close`, the pieces that came and that were written,
+/// which reads and writes did nothing, what the log got, which moments were seen, which waits there were, and when the
+/// node was called. Another call that does nothing adds nothing to it.
 pub trait Wire {
     /// What passed so far, in order.
     ghost passed: { Self → List Passage };
 
-    /// The present moment, in whole microseconds since one that stays the same as long as the process lives.
+    /// The present moment, in whole microseconds since one that stays the same as long as the process lives. None is below one
+    /// that was seen before.
     fn now(&mut self) -> u64
-        ensures { passed self.new ≡ passed self.old };
+        ensures saw { passed self.new ≡ passed self.old ++ Saw result ∷ [] }
+        ensures later { latest_in (passed self.old) ≤ result };
 
     /// Waits until something may have come, or be written where there was no room, for so many microseconds at most.
     fn wait(&mut self, most: u64)
-        ensures { passed self.new ≡ passed self.old };
+        ensures { passed self.new ≡ passed self.old ++ Waited most ∷ [] };
+
+    /// The node was called: that is put down, and nothing else is done.
+    fn called(&mut self)
+        ensures { passed self.new ≡ passed self.old ++ Called ∷ [] };
 
     /// Bytes that the system drew, for a number that is used once; none where it gives none.
     fn draw(&mut self) -> Option<[u8; 32]>
@@ -60,7 +60,8 @@ pub trait Wire {
         ensures failed { OnErr result (passed self.new ≡ passed self.old) };
 
     /// Takes in the next one who dialled this node and for whom there is a place, if there is one, and answers his place.
-    /// Those for whom there is none are turned away. One who stands there and isn't known (`know`) may be let go of for him.
+    /// Those for whom there is none are turned away, and who is behind many of them may wait for a later call. One who stands there
+    /// and isn't known (`know`) may be let go of for him.
     fn accept(&mut self) -> Option<u8>
         ensures began { IfSome result (λ place. passed self.new ≡ passed self.old ++ Began (Caller place) ∷ []) }
         ensures none { IsNone result → passed self.new ≡ passed self.old };
@@ -94,17 +95,19 @@ pub trait Wire {
         ensures began { IfSome result (λ place. passed self.new ≡ passed self.old ++ Began (Asker place) ∷ []) }
         ensures none { IsNone result → passed self.new ≡ passed self.old };
 
-    /// Reads the next piece that came over a line, no more than the buffer holds, and answers how many bytes it has.
+    /// Reads the next piece that came over a line, no more than the buffer holds, and answers how many bytes it has: 0 where it
+    /// holds none, whatever became of the connection.
     fn read(&mut self, line: Line, piece: &mut [u8]) -> Result<usize, Halt>
         ensures within { IfOk result (λ count. count ≤ length piece.new) }
         ensures came { IfOk result (λ count. passed self.new ≡ passed self.old ++ Came line (take count piece.new) ∷ []) }
-        ensures nothing { OnErr result (passed self.new ≡ passed self.old) };
+        ensures halted { IfErr result (λ halt. passed self.new ≡ passed self.old ++ halted_as Reading line halt ∷ []) }
+        ensures room { OnErr result (0 < length piece.new) };
 
     /// Writes to a line as many of these bytes as there is room for, and answers how many.
     fn write(&mut self, line: Line, bytes: &[u8]) -> Result<usize, Halt>
         ensures within { IfOk result (λ count. count ≤ length bytes.now) }
         ensures wrote { IfOk result (λ count. passed self.new ≡ passed self.old ++ Wrote line (take count bytes.now) ∷ []) }
-        ensures nothing { OnErr result (passed self.new ≡ passed self.old) };
+        ensures halted { IfErr result (λ halt. passed self.new ≡ passed self.old ++ halted_as Writing line halt ∷ []) };
 
     /// Sends what was written and not sent yet: a wire may gather what is written to one line, so that it is sent by one call.
     /// A write to another line and `wait` do so too. What of it there is no room for is sent by a later one.
@@ -117,10 +120,13 @@ pub trait Wire {
 
     /// Closes the connection that a line has, if it has one; what was written is sent.
     fn close(&mut self, line: Line)
-        ensures { passed self.new ≡ passed self.old };
+        ensures { passed self.new ≡ passed self.old ++ Closed line ∷ [] };
 
     /// Puts text behind what the log has, and has it in the file when it answers.
     fn add_to_log(&mut self, text: &[u8]) -> Result<(), WireFault>
         ensures logged { OnOk result (passed self.new ≡ passed self.old ++ Logged text.now ∷ []) }
         ensures failed { OnErr result (passed self.new ≡ passed self.old) };
+
+    /// Of all moments that were seen none is below the one before.
+    ghost in_order: { (wire : Self) → AreInOrder (passed wire) };
 }

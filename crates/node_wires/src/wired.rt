@@ -1,8 +1,8 @@
 ghost use Rattle.std.specs.Prelude.{◌≡◌, ◌≤◌, length, IfOk, true, false};
 
 use crate::coming::Stander;
+use crate::halt::Halt;
 use crate::limits::GATHERED;
-use crate::wire::Halt;
 use byte_queue::ByteQueue;
 use mio::event::Source;
 use mio::net::TcpStream;
@@ -111,7 +111,7 @@ impl Wired {
         self.has_closed = self.has_closed || has_closed;
     }
 
-    /// Reads what came, no more than the buffer holds.
+    /// Reads what came, no more than the buffer holds; one that holds nothing would tell of an end that there isn't.
     pub(crate) fn read(&mut self, piece: &mut [u8]) -> Result<usize, Halt>
         ensures { IfOk result (λ count. count ≤ length piece.new) }
     {
