@@ -4,11 +4,13 @@ use Rattle.std.specs.Prelude.{codes, Option, Some, None}
 use Rattle.std.proofs.lemmas.List.{length-append}
 use Rattle.sha2.specs.Sha256.{sha256}
 use Rattle.node_wires.specs.declared.line.Line.TheVariants.{Guest, Seat}
-use Rattle.node_wires.specs.Passages.{Passage, Began, Came, Wrote, Gave, came_over}
+use Rattle.node_wires.specs.declared.way.Way.TheVariants.{Reading as ByReading}
+use Rattle.node_wires.specs.Passages.{Passage, Began, Came, Wrote, Gave, Tried, came_over}
 use Rattle.node_seats.specs.declared.token_digest.TokenDigest.{TokenDigest}
 use Rattle.node_seats.specs.declared.seat_notice.SeatNotice.TheVariants as notices
 use Rattle.node_seats.specs.Lines.{line_of}
 use Rattle.node_seats.specs.Others.{TellsNoGuest}
+use Rattle.node_seats.specs.Passing.{ReadsSeat}
 use Rattle.node_seats.specs.Writing.{AreToSeats, WritesToSeats}
 use Rattle.node_seats.specs.Tokens.{is_token_digit, IsTokenLine, is_open}
 use Rattle.node_seats.specs.declared.guest.Guest.{Guest as Stranger}
@@ -74,6 +76,8 @@ let_in = record {
   more = said ++ Gave 3 1 ∷ [];
   guested = record { place = 3; front = said; of_guests = (tt, (tt, (tt, tt))); given = refl; shows = record { has_one = omega arith; shown = shows_sevens } };
   put_down = refl;
+  behind = [];
+  by_it = refl;
   wired = refl;
 }
 
@@ -103,6 +107,18 @@ throws_nobody_out shows = omega (arith, (token_length (sha256 sevens) (codes "VE
 
 right_one_is_not_refused : IsToldOf tokens shown (Some (notices.Refused 1 None)) → ⊥
 right_one_is_not_refused refused = refused makes_room
+
+-- ---- what is read where somebody sits
+
+found_nothing : ReadsSeat 1 None said (said ++ Tried (Seat 1) ByReading ∷ [])
+found_nothing = refl
+
+not_read : ReadsSeat 1 (Some (notices.Unread 1)) said said
+not_read = (refl, refl)
+
+-- memory was refused, and that isn't told
+not_told : ReadsSeat 1 None said said → ⊥
+not_told e = omega (arith, ap length e)
 
 -- ---- what is written
 

@@ -7,7 +7,10 @@ use Rattle.std.proofs.lemmas.List.{get_or-set_same, get_or-set_other}
 use Rattle.std.proofs.Math.ListN.{get_or-eq_default}
 use Rattle.node_wires.specs.declared.line.Line.{Line}
 use Rattle.node_wires.specs.declared.line.Line.TheVariants.{Guest as GuestAt}
-use Rattle.node_wires.specs.Passages.{Passage, Began, Came, Gave, came_by, came_behind, came_over}
+use Rattle.node_wires.specs.declared.way.Way.TheVariants.{Reading}
+use Rattle.node_wires.specs.declared.halt.Halt.{Halt}
+use Rattle.node_wires.specs.declared.halt.Halt.TheVariants as halts
+use Rattle.node_wires.specs.Passages.{Passage, Began, Came, Gave, Tried, Ended, Closed, halted_as, came_by, came_behind, came_over}
 use Rattle.node_seats.specs.declared.guest.Guest.{Guest}
 use Rattle.node_seats.specs.declared.guest.Found.{Found}
 use Rattle.node_seats.specs.declared.token_digest.TokenDigest.{TokenDigest}
@@ -71,6 +74,18 @@ hears_piece place piece old new passed_old passed_new line same = record {
   elsewhere = λ other differ. ap (λ (ps : List Passage). came_over ps (GuestAt other)) same ∙ piece_elsewhere passed_old place other piece differ;
 }
 
+-- a read found nothing
+halted_came : (line at : Line) (halt : Halt) (old new : List Passage) → new ≡ old ++ halted_as Reading at halt ∷ [] → came_over new line ≡ came_over old line
+halted_came line at halts.Later old new e = ap (λ (ps : List Passage). came_over ps line) e ∙ came_more line [] old (Tried at Reading)
+halted_came line at halts.Ended old new e = ap (λ (ps : List Passage). came_over ps line) e ∙ came_more line [] old (Ended at Reading)
+
+pub hears_halted : (place : ℕ) (halt : Halt) (old new : Guest) (passed_old passed_new : List Passage) → new.line.items ≡ old.line.items → passed_new ≡ passed_old ++ halted_as Reading (GuestAt place) halt ∷ []
+    → Hears place (Some old) (Some new) passed_old passed_new
+hears_halted place halt old new passed_old passed_new line e = record {
+  here = λ is. halted_came (GuestAt place) (GuestAt place) halt passed_old passed_new e ∙ (is ∙ sym line);
+  elsewhere = λ other differ. halted_came (GuestAt other) (GuestAt place) halt passed_old passed_new e;
+}
+
 -- ---- what is found
 
 pub shows_by : (tokens : List TokenDigest) (seat : ℕ) (digest : TokenDigest) (line : List ℕ) → seat < length tokens → digest ≡ get_or tokens seat no_digest → IsTokenLine digest.bytes line → ShowsToken tokens seat line
@@ -102,6 +117,14 @@ pub heard_moved : (guests : List (Option Guest)) (place : ℕ) (old new : Option
     → HeardThrough passed_old passed_new guests (set guests place new)
 heard_moved guests place old new passed_old passed_new within at hears are =
     heard_set guests place new passed_old passed_new within (hears.here (at_place passed_old guests place old at are)) hears.elsewhere are
+
+-- a connection was closed
+pub heard_behind : (guests : List (Option Guest)) (line : Line) (passed_old passed_new : List Passage) → passed_new ≡ passed_old ++ Closed line ∷ [] → HeardThrough passed_old passed_new guests guests
+heard_behind guests line passed_old passed_new e are q =
+    subst (λ (c : List ℕ). IsHeard c (get_or guests q None)) (sym (ap (λ (ps : List Passage). came_over ps (GuestAt q)) e ∙ came_more (GuestAt q) [] passed_old (Closed line))) (are q)
+
+pub came_closed : (line : Line) (passed_old passed_new : List Passage) → passed_new ≡ passed_old ++ Closed line ∷ [] → (at : ℕ) → came_over passed_new (GuestAt at) ≡ came_over passed_old (GuestAt at)
+came_closed line passed_old passed_new e at = ap (λ (ps : List Passage). came_over ps (GuestAt at)) e ∙ came_more (GuestAt at) [] passed_old (Closed line)
 
 -- nobody stands any more at a place
 pub heard_closed : (guests : List (Option Guest)) (place : ℕ) (passed : List Passage) → place < length guests → HeardThrough passed passed guests (set guests place None)

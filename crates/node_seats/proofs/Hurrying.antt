@@ -18,6 +18,7 @@ elsewhere_by now None old new number seat is differs same = same
 elsewhere_by now (Some (notices.Piece at bytes)) old new number seat is differs same = same
 elsewhere_by now (Some (notices.Gone at)) old new number seat is differs same = same
 elsewhere_by now (Some (notices.Refused at source)) old new number seat is differs same = same
+elsewhere_by now (Some (notices.Unread at)) old new number seat is differs same = same
 elsewhere_by now (Some (notices.Came at)) old new number seat is differs same = (λ here. absurd (differs (here ∙ is)), λ _. same)
 
 -- the seat that is asked is another

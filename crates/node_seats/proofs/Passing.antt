@@ -1,6 +1,10 @@
 -- What passed over the lines of guests, call by call.
-use Rattle.std.proofs.Common.{◌≡◌, List, [], ◌∷◌, ◌++◌, append_assoc, append-nil, ap, sym, ◌∙◌}
-use Rattle.node_wires.specs.Passages.{Passage}
+use Rattle.std.proofs.Common.{◌≡◌, ℕ, List, [], ◌∷◌, ◌++◌, append_assoc, append-nil, ap, sym, ◌∙◌}
+use Rattle.node_wires.specs.declared.line.Line.TheVariants.{Guest}
+use Rattle.node_wires.specs.declared.way.Way.TheVariants.{Reading}
+use Rattle.node_wires.specs.declared.halt.Halt.{Halt}
+use Rattle.node_wires.specs.declared.halt.Halt.TheVariants as halts
+use Rattle.node_wires.specs.Passages.{Passage, Tried, Ended, Closed, halted_as}
 use Rattle.node_seats.specs.Passing.{IsOfGuests, AreOfGuests, Grows}
 
 pub both_of_guests : (xs ys : List Passage) → AreOfGuests xs → AreOfGuests ys → AreOfGuests (xs ++ ys)
@@ -20,3 +24,11 @@ grown_on a b c x y z one two = record {
   put_down = two.put_down ∙ (ap (λ (ps : List Passage). ps ++ two.more) one.put_down ∙ append_assoc a one.more two.more);
   wired = two.wired ∙ (ap (λ (ps : List Passage). ps ++ two.more) one.wired ∙ append_assoc x one.more two.more);
 }
+
+pub halted_grown : (place : ℕ) (halt : Halt) (old new wired_old wired_new : List Passage) → new ≡ old ++ halted_as Reading (Guest place) halt ∷ [] → wired_new ≡ wired_old ++ halted_as Reading (Guest place) halt ∷ []
+    → Grows old new wired_old wired_new
+halted_grown place halts.Later old new wired_old wired_new same wired = one_grown (Tried (Guest place) Reading) old new wired_old wired_new tt same wired
+halted_grown place halts.Ended old new wired_old wired_new same wired = one_grown (Ended (Guest place) Reading) old new wired_old wired_new tt same wired
+
+pub closed_grown : (place : ℕ) (old new wired_old wired_new : List Passage) → new ≡ old ++ Closed (Guest place) ∷ [] → wired_new ≡ wired_old ++ Closed (Guest place) ∷ [] → Grows old new wired_old wired_new
+closed_grown place old new wired_old wired_new same wired = one_grown (Closed (Guest place)) old new wired_old wired_new tt same wired

@@ -8,7 +8,7 @@ use Rattle.slot_log.specs.Hand.{Match}
 use Rattle.line_cursor.specs.declared.cursor.Cursor.{Cursor}
 use Rattle.line_cursor.specs.Cursors.{next_cursor}
 use Rattle.node_wires.specs.declared.line.Line.TheVariants.{Peer, Caller, Seat as SeatOf, Guest, Asker}
-use Rattle.node_wires.specs.Passages.{Passage, Began, Came, Wrote, Gave, Logged, came_over, wrote_behind, wrote_over}
+use Rattle.node_wires.specs.Passages.{Passage, Began, Came, Wrote, Gave, Logged, Tried, Ended, Closed, Saw, Waited, Called, wrote_behind, wrote_over}
 use Rattle.node_seats.specs.declared.bot.Bot.{Bot}
 use Rattle.node_seats.specs.declared.bot.Parting.{Parting}
 use Rattle.node_seats.specs.declared.bot.Telling.{Telling}
@@ -25,7 +25,8 @@ use Rattle.node_seats.specs.Coming.{Comes, tokens_of, passed_of}
 use Rattle.node_seats.specs.Seating.{nobody, no_bot, gone, heard, waits_at, sits_at, bot_at, Follows, Changes, Flushes}
 use Rattle.node_seats.specs.Telling.{texts_in, lines_of, text_of, text_told, parting_line, parting_text, text_for, IsSaid, AreSaid, TellsFrom, telling_from, Told, TellsOn, TellsMore, TellsBot, SaysMore, SaysAt, Loses}
 use Rattle.node_seats.proofs.Seating.{waits_here}
-use Rattle.node_seats.proofs.Others.{wrote_both}
+use Rattle.node_seats.proofs.Others.{wrote_both, wrote_coming}
+use Rattle.node_seats.specs.Others.{Rests}
 use Rattle.node_seats.proofs.Asking.{asked_coming, asked_leaving, asked_telling, nothing_came}
 
 -- ---- lines off a table
@@ -48,6 +49,12 @@ texts_and (Began at ∷ told) seat line = texts_and told seat line
 texts_and (Came at bytes ∷ told) seat line = texts_and told seat line
 texts_and (Gave place number ∷ told) seat line = texts_and told seat line
 texts_and (Logged text ∷ told) seat line = texts_and told seat line
+texts_and (Tried at way ∷ told) seat line = texts_and told seat line
+texts_and (Ended at way ∷ told) seat line = texts_and told seat line
+texts_and (Closed at ∷ told) seat line = texts_and told seat line
+texts_and (Saw moment ∷ told) seat line = texts_and told seat line
+texts_and (Waited most ∷ told) seat line = texts_and told seat line
+texts_and (Called ∷ told) seat line = texts_and told seat line
 
 pub tells_both : (such : Match → Type 0) (seat : ℕ) (at mid next : Cursor) (xs ys : List (List ℕ)) → TellsFrom such seat at xs mid → TellsFrom such seat mid ys next → TellsFrom such seat at (xs ++ ys) next
 tells_both such seat at mid next [] ys one two = subst (λ (c : Cursor). TellsFrom such seat c ys next) one two
@@ -187,6 +194,7 @@ WroteBy (Some (notices.Came number)) seat old new = (seat ≡ number → new ≡
 WroteBy (Some (notices.Piece number bytes)) seat old new = new ≡ old
 WroteBy (Some (notices.Gone number)) seat old new = new ≡ old
 WroteBy (Some (notices.Refused number source)) seat old new = new ≡ old
+WroteBy (Some (notices.Unread number)) seat old new = new ≡ old
 
 nobody_writes : (notice : Option SeatNotice) (seat : ℕ) (old new : List ℕ) → HearsNothing notice → new ≡ old → WroteBy notice seat old new
 nobody_writes None seat old new hears e = e
@@ -194,6 +202,7 @@ nobody_writes (Some (notices.Came number)) seat old new hears e = absurd hears
 nobody_writes (Some (notices.Piece number bytes)) seat old new hears e = absurd hears
 nobody_writes (Some (notices.Gone number)) seat old new hears e = e
 nobody_writes (Some (notices.Refused number source)) seat old new hears e = absurd hears
+nobody_writes (Some (notices.Unread number)) seat old new hears e = absurd hears
 
 by_guests : (seat : ℕ) (before : List ℕ) (ps : List Passage) → AreOfGuests ps → wrote_behind (SeatOf seat) before ps ≡ before
 by_guests seat before [] are = refl
@@ -206,6 +215,12 @@ by_guests seat before (Began (Asker n) ∷ ps) are = absurd are.0
 by_guests seat before (Wrote line bytes ∷ ps) are = absurd are.0
 by_guests seat before (Gave place number ∷ ps) are = absurd are.0
 by_guests seat before (Logged text ∷ ps) are = absurd are.0
+by_guests seat before (Tried line way ∷ ps) are = by_guests seat before ps are.1
+by_guests seat before (Ended line way ∷ ps) are = by_guests seat before ps are.1
+by_guests seat before (Closed line ∷ ps) are = by_guests seat before ps are.1
+by_guests seat before (Saw moment ∷ ps) are = absurd are.0
+by_guests seat before (Waited most ∷ ps) are = absurd are.0
+by_guests seat before (Called ∷ ps) are = absurd are.0
 
 anew : (number seat : ℕ) (before new : List ℕ) → new ≡ (if number == seat then [] else before) → (seat ≡ number → new ≡ []) × ((seat ≢ number) → new ≡ before)
 anew number seat before new e = (λ same. e ∙ cond-true (number == seat) [] before (eq-eqb number seat (sym same)), λ differs. e ∙ cond-false (number == seat) [] before (ne_eqb number seat (λ same. differs (sym same))))
@@ -216,6 +231,7 @@ by_passed (Some (notices.Came number)) seat before = anew number seat before (wr
 by_passed (Some (notices.Piece number bytes)) seat before = refl
 by_passed (Some (notices.Gone number)) seat before = refl
 by_passed (Some (notices.Refused number source)) seat before = refl
+by_passed (Some (notices.Unread number)) seat before = refl
 
 by_more : (tokens : Option (List TokenDigest)) (notice : Option SeatNotice) (old more : List Passage) (seat : ℕ) (before : List ℕ) → IsGuested tokens notice old more
     → WroteBy notice seat before (wrote_behind (SeatOf seat) before (more ++ behind_by tokens notice))
@@ -228,6 +244,7 @@ by_more (Some tokens) (Some (notices.Came number)) old more seat before is =
 by_more (Some tokens) (Some (notices.Piece number bytes)) old more seat before is = wrote_both (SeatOf seat) before more (Came (SeatOf number) bytes.items ∷ []) ∙ by_guests seat before more is
 by_more (Some tokens) (Some (notices.Gone number)) old more seat before is = ap (λ (ps : List Passage). wrote_behind (SeatOf seat) before ps) (append-nil more) ∙ by_guests seat before more is
 by_more (Some tokens) (Some (notices.Refused number source)) old more seat before is = ap (λ (ps : List Passage). wrote_behind (SeatOf seat) before ps) (append-nil more) ∙ by_guests seat before more is
+by_more (Some tokens) (Some (notices.Unread number)) old more seat before is = ap (λ (ps : List Passage). wrote_behind (SeatOf seat) before ps) (append-nil more) ∙ by_guests seat before more is
 
 -- ---- at all seats
 
@@ -266,6 +283,7 @@ comes_at (Some (notices.Piece number bytes)) seat passed_old passed_new old new 
   | inr there ↦ stays_at seat passed_old passed_new old new (sits.1 seat there.1) wrote (waits seat) is
 ]
 comes_at (Some (notices.Refused number source)) seat passed_old passed_new old new wrote waits sits is = stays_at seat passed_old passed_new old new (sits seat) wrote (waits seat) is
+comes_at (Some (notices.Unread number)) seat passed_old passed_new old new wrote waits sits is = stays_at seat passed_old passed_new old new (sits seat) wrote (waits seat) is
 comes_at (Some (notices.Came number)) seat passed_old passed_new old new wrote waits sits is = elim (eqb_tells seat number) as (λ _. SaidAt seat passed_new new) [
   | inl here ↦ anew_at seat passed_new new (ap text_for (ap (λ (n : ℕ). bot_at new n) here.1 ∙ sits.1.0)) (wrote.0 here.1) (ap (λ (n : ℕ). waits_at new n) here.1 ∙ waits.0)
   | inr there ↦ stays_at seat passed_old passed_new old new (sits.1.1 seat there.1) (wrote.1 there.1) (waits.1 seat there.1) is
@@ -280,7 +298,7 @@ comes_at (Some (notices.Gone number)) seat passed_old passed_new old new wrote w
 pub said_coming : (notice : Option SeatNotice) (old new : Seats) (wired_old wired_new : List Passage) → Comes notice old new wired_old wired_new → AreSaid wired_old old.seats.items → AreSaid wired_new new.seats.items
 said_coming notice old new wired_old wired_new comes are seat =
     let wrote : wrote_over wired_new (SeatOf seat) ≡ wrote_behind (SeatOf seat) (wrote_over wired_old (SeatOf seat)) (comes.passes.more ++ behind_by (tokens_of old) notice) =
-    ap (λ (ps : List Passage). wrote_over ps (SeatOf seat)) comes.passes.wired ∙ wrote_both (SeatOf seat) [] wired_old (comes.passes.more ++ behind_by (tokens_of old) notice) in (
+    wrote_coming notice old new wired_old wired_new (SeatOf seat) comes in (
       comes_at notice seat wired_old wired_new old.seats.items new.seats.items
           (subst (λ (w : List ℕ). WroteBy notice seat (wrote_over wired_old (SeatOf seat)) w) (sym wrote)
           (by_more (tokens_of old) notice (passed_of old) comes.passes.more seat (wrote_over wired_old (SeatOf seat)) comes.passes.guested))
@@ -288,12 +306,11 @@ said_coming notice old new wired_old wired_new comes are seat =
       asked_coming notice old new wired_old wired_new comes seat (are seat).1,
     )
 
-pub said_leaving : (notice : Option SeatNotice) (wired_old wired_new : List Passage) (old new : List Seat) → HearsNothing notice → wired_new ≡ wired_old → Follows notice old new → Changes notice old new → AreSaid wired_old old
+pub said_leaving : (notice : Option SeatNotice) (wired_old wired_new : List Passage) (old new : List Seat) → HearsNothing notice → Rests wired_old wired_new → Follows notice old new → Changes notice old new → AreSaid wired_old old
     → AreSaid wired_new new
-said_leaving notice wired_old wired_new old new hears same waits sits are seat = (
-  comes_at notice seat wired_old wired_new old new (nobody_writes notice seat (wrote_over wired_old (SeatOf seat)) (wrote_over wired_new (SeatOf seat)) hears (ap (λ (ps : List Passage). wrote_over ps (SeatOf seat)) same)) waits
-      sits (are seat).0,
-  asked_leaving notice seat wired_old wired_new old new hears (ap (λ (ps : List Passage). came_over ps (SeatOf seat)) same) sits (are seat).1,
+said_leaving notice wired_old wired_new old new hears rests waits sits are seat = (
+  comes_at notice seat wired_old wired_new old new (nobody_writes notice seat (wrote_over wired_old (SeatOf seat)) (wrote_over wired_new (SeatOf seat)) hears (rests.wrote (SeatOf seat))) waits sits (are seat).0,
+  asked_leaving notice seat wired_old wired_new old new hears (rests.came (SeatOf seat)) sits (are seat).1,
 )
 
 moved_at : (seat : ℕ) (passed_old passed_new : List Passage) (old new : List Seat) (bot : Bot) → bot_at new seat ≡ bot → bot.sits ≡ sits_at old seat → text_for bot ≡ text_for (bot_at old seat)
@@ -315,6 +332,7 @@ flushed_at : (notice : Option SeatNotice) (seat : ℕ) (passed_old passed_new : 
 flushed_at None seat passed_old passed_new old new hears said sits loses is = moved_at seat passed_old passed_new old new (bot_at old seat) (sits seat) refl refl (said seat (λ never. never)) is
 flushed_at (Some (notices.Piece number bytes)) seat passed_old passed_new old new hears said sits loses is = absurd hears
 flushed_at (Some (notices.Refused number source)) seat passed_old passed_new old new hears said sits loses is = absurd hears
+flushed_at (Some (notices.Unread number)) seat passed_old passed_new old new hears said sits loses is = absurd hears
 flushed_at (Some (notices.Came number)) seat passed_old passed_new old new hears said sits loses is = absurd hears
 flushed_at (Some (notices.Gone number)) seat passed_old passed_new old new hears said sits loses is = elim (eqb_tells seat number) as (λ _. SaidAt seat passed_new new) [
   | inl here ↦
@@ -358,7 +376,7 @@ said_first seats none nobody seat = (anew_at seat [] seats (ap text_for (nobody 
 
 -- whoever sits there is let go of behind what was written
 pub loses_it : (number : ℕ) (seats : List Seat) (old new : Seat) (waiting : List ℕ) (passed_old passed passed_new : List Passage) → number < length seats → old ≡ get_or seats number old
-    → Writes number old.waiting.waiting waiting passed_old passed → passed_new ≡ passed → new.waiting.waiting ≡ [] → Loses (Some (notices.Gone number)) seats (set seats number new) passed_old passed_new
+    → Writes number old.waiting.waiting waiting passed_old passed → wrote_over passed_new (SeatOf number) ≡ wrote_over passed (SeatOf number) → new.waiting.waiting ≡ [] → Loses (Some (notices.Gone number)) seats (set seats number new) passed_old passed_new
 loses_it number seats old new waiting passed_old passed passed_new within found writes same none seat is =
     let at : waits_at seats number ≡ old.waiting.waiting = ap (λ (s : Seat). s.waiting.waiting) (sym (found ∙ get_or_default seats number old nobody within)) in
     let wrote_old = wrote_over passed_old (SeatOf number) in
@@ -368,7 +386,7 @@ loses_it number seats old new waiting passed_old passed passed_new within found 
     ∙ (sym writes.said
     ∙ (ap (λ (w : List ℕ). w ++ waiting) (sym (append-nil wrote))
     ∙ (ap (λ (w : List ℕ). (wrote ++ w) ++ waiting) (sym (waits_here seats number new within ∙ none))
-    ∙ ap (λ (ps : List Passage). (wrote_over ps (SeatOf number) ++ waits_at (set seats number new) number) ++ waiting) (sym same)))) in
+    ∙ ap (λ (w : List ℕ). (w ++ waits_at (set seats number new) number) ++ waiting) (sym same)))) in
     (waiting, subst (λ (n : ℕ). wrote_over passed_old (SeatOf n) ++ waits_at seats n ≡ (wrote_over passed_new (SeatOf n) ++ waits_at (set seats number new) n) ++ waiting) (sym is) e)
 
 -- ---- all seats

@@ -4,10 +4,13 @@ use Rattle.std.proofs.lemmas.Bool.{eq-eqb, ne_eqb}
 use Rattle.std.proofs.lemmas.List.{take-append-drop}
 use Rattle.node_wires.specs.declared.line.Line.{Line}
 use Rattle.node_wires.specs.declared.line.Line.TheVariants.{Peer, Caller, Seat, Guest, Asker}
-use Rattle.node_wires.specs.Passages.{Passage, Began, Came, Wrote, Gave, Logged, of_seat, seats_in, wrote_by, wrote_behind, wrote_over, logged_in}
-use Rattle.node_seats.specs.Others.{TellsNoGuest}
+use Rattle.node_wires.specs.Passages.{Passage, Began, Came, Wrote, Gave, Logged, Tried, Ended, Closed, Saw, Waited, Called, halted_as, of_seat, seats_in, came_by, came_behind, came_over, wrote_by, wrote_behind, wrote_over, logged_in}
+use Rattle.node_wires.specs.declared.way.Way.TheVariants.{Writing}
+use Rattle.node_wires.specs.declared.halt.Halt.{Halt}
+use Rattle.node_wires.specs.declared.halt.Halt.TheVariants as halts
+use Rattle.node_seats.specs.Others.{KeepsOthers, TellsNoGuest, Rests}
 use Rattle.node_seats.specs.Writing.{Writes, AreToSeats, WritesToSeats}
-use Rattle.node_seats.proofs.Others.{wrote_both, keeps_same, keeps_on, keeps_written}
+use Rattle.node_seats.proofs.Others.{wrote_both, keeps_by, keeps_same, keeps_on, keeps_written}
 
 -- ---- behind what passed, one passage more
 
@@ -21,6 +24,12 @@ log_and_write (Began at ∷ xs) line bytes = log_and_write xs line bytes
 log_and_write (Came at got ∷ xs) line bytes = log_and_write xs line bytes
 log_and_write (Wrote at sent ∷ xs) line bytes = log_and_write xs line bytes
 log_and_write (Gave place seat ∷ xs) line bytes = log_and_write xs line bytes
+log_and_write (Tried at way ∷ xs) line bytes = log_and_write xs line bytes
+log_and_write (Ended at way ∷ xs) line bytes = log_and_write xs line bytes
+log_and_write (Closed at ∷ xs) line bytes = log_and_write xs line bytes
+log_and_write (Saw moment ∷ xs) line bytes = log_and_write xs line bytes
+log_and_write (Waited most ∷ xs) line bytes = log_and_write xs line bytes
+log_and_write (Called ∷ xs) line bytes = log_and_write xs line bytes
 log_and_write (Logged text ∷ xs) line bytes = ap (λ (ls : List ℕ). text ++ ls) (log_and_write xs line bytes)
 
 write_behind : (line : Line) (before : List ℕ) (xs : List Passage) (p : Passage) → wrote_behind line before (xs ++ p ∷ []) ≡ wrote_by line (wrote_behind line before xs) p
@@ -34,6 +43,57 @@ to_the_seat false before bytes e = absurd cc
 to_another : (same : Bool) (before bytes : List ℕ) → same ≡ false → cond same (before ++ bytes) before ≡ before
 to_another true before bytes e = absurd cc
 to_another false before bytes e = refl
+
+came_behind_one : (line : Line) (before : List ℕ) (xs : List Passage) (p : Passage) → came_behind line before (xs ++ p ∷ []) ≡ came_by line (came_behind line before xs) p
+came_behind_one line before [] p = refl
+came_behind_one line before (x ∷ xs) p = came_behind_one line (came_by line before x) xs p
+
+seats_and_none : (xs : List Passage) (p : Passage) → of_seat p ≡ [] → seats_in (xs ++ p ∷ []) ≡ seats_in xs
+seats_and_none [] p e = ap (λ (ps : List Passage). ps ++ []) e
+seats_and_none (x ∷ xs) p e = ap (λ (ps : List Passage). of_seat x ++ ps) (seats_and_none xs p e)
+
+log_and_none : (xs : List Passage) (p : Passage) → logged_in (p ∷ []) ≡ [] → logged_in (xs ++ p ∷ []) ≡ logged_in xs
+log_and_none [] p e = e
+log_and_none (Began at ∷ xs) p e = log_and_none xs p e
+log_and_none (Came at got ∷ xs) p e = log_and_none xs p e
+log_and_none (Wrote at sent ∷ xs) p e = log_and_none xs p e
+log_and_none (Gave place seat ∷ xs) p e = log_and_none xs p e
+log_and_none (Tried at way ∷ xs) p e = log_and_none xs p e
+log_and_none (Ended at way ∷ xs) p e = log_and_none xs p e
+log_and_none (Closed at ∷ xs) p e = log_and_none xs p e
+log_and_none (Saw moment ∷ xs) p e = log_and_none xs p e
+log_and_none (Waited most ∷ xs) p e = log_and_none xs p e
+log_and_none (Called ∷ xs) p e = log_and_none xs p e
+log_and_none (Logged text ∷ xs) p e = ap (λ (ls : List ℕ). text ++ ls) (log_and_none xs p e)
+
+-- a passage that moves nothing
+rests_by : (p : Passage) (old new : List Passage) → ((line : Line) (before : List ℕ) → wrote_by line before p ≡ before) → ((line : Line) (before : List ℕ) → came_by line before p ≡ before) → of_seat p ≡ [] → logged_in (p ∷ []) ≡ []
+    → new ≡ old ++ p ∷ [] → Rests old new
+rests_by p old new wrote came seats text e = record {
+  wrote = λ line. ap (λ (ps : List Passage). wrote_over ps line) e ∙ (write_behind line [] old p ∙ wrote line (wrote_over old line));
+  came = λ line. ap (λ (ps : List Passage). came_over ps line) e ∙ (came_behind_one line [] old p ∙ came line (came_over old line));
+  seats = ap seats_in e ∙ seats_and_none old p seats;
+  log = ap logged_in e ∙ log_and_none old p text;
+}
+
+pub rests_closed : (line : Line) (old new : List Passage) → new ≡ old ++ Closed line ∷ [] → Rests old new
+rests_closed line old new e = rests_by (Closed line) old new (λ at before. refl) (λ at before. refl) refl refl e
+
+pub rests_halted : (line : Line) (halt : Halt) (old new : List Passage) → new ≡ old ++ halted_as Writing line halt ∷ [] → Rests old new
+rests_halted line halts.Later old new e = rests_by (Tried line Writing) old new (λ at before. refl) (λ at before. refl) refl refl e
+rests_halted line halts.Ended old new e = rests_by (Ended line Writing) old new (λ at before. refl) (λ at before. refl) refl refl e
+
+pub rests_same : (old new : List Passage) → new ≡ old → Rests old new
+rests_same old new e = record {
+  wrote = λ line. ap (λ (ps : List Passage). wrote_over ps line) e;
+  came = λ line. ap (λ (ps : List Passage). came_over ps line) e;
+  seats = ap seats_in e;
+  log = ap logged_in e;
+}
+
+-- nobody is told anything by that
+pub unsaid_rests : (old new : List Passage) → Rests old new → TellsNoGuest old new
+unsaid_rests old new rests place none = rests.wrote (Guest place) ∙ none
 
 -- ---- to seats alone
 
@@ -63,13 +123,43 @@ not_to_guests place before (Began line ∷ ps) are = absurd are.0
 not_to_guests place before (Came line bytes ∷ ps) are = absurd are.0
 not_to_guests place before (Gave at seat ∷ ps) are = absurd are.0
 not_to_guests place before (Logged text ∷ ps) are = absurd are.0
+not_to_guests place before (Tried line way ∷ ps) are = not_to_guests place before ps are.1
+not_to_guests place before (Ended line way ∷ ps) are = not_to_guests place before ps are.1
+not_to_guests place before (Closed line ∷ ps) are = not_to_guests place before ps are.1
+not_to_guests place before (Saw moment ∷ ps) are = absurd are.0
+not_to_guests place before (Waited most ∷ ps) are = absurd are.0
+not_to_guests place before (Called ∷ ps) are = absurd are.0
 
 pub no_guest_told : (old new : List Passage) → WritesToSeats old new → TellsNoGuest old new
 no_guest_told old new writes place none =
     ap (λ (ps : List Passage). wrote_over ps (Guest place)) writes.passed
     ∙ (wrote_both (Guest place) [] old writes.more ∙ (not_to_guests place (wrote_over old (Guest place)) writes.more writes.to_seats ∙ none))
 
+-- one is let go of
+pub closed_to_seats : (number : ℕ) (old new : List Passage) → new ≡ old ++ Closed (Seat number) ∷ [] → WritesToSeats old new
+closed_to_seats number old new e = record { more = Closed (Seat number) ∷ []; to_seats = (tt, tt); passed = e }
+
+pub closed_keeps : (number : ℕ) (old new : List Passage) → new ≡ old ++ Closed (Seat number) ∷ [] → KeepsOthers old new
+closed_keeps number old new e = keeps_by old new (Closed (Seat number) ∷ []) (refl, tt) e
+
 -- ---- calls
+
+halted_to_seats : (number : ℕ) (halt : Halt) (old new : List Passage) → new ≡ old ++ halted_as Writing (Seat number) halt ∷ [] → WritesToSeats old new × KeepsOthers old new
+halted_to_seats number halts.Later old new e = (record { more = Tried (Seat number) Writing ∷ []; to_seats = (tt, tt); passed = e }, keeps_by old new (Tried (Seat number) Writing ∷ []) (refl, tt) e)
+halted_to_seats number halts.Ended old new e = (record { more = Ended (Seat number) Writing ∷ []; to_seats = (tt, tt); passed = e }, keeps_by old new (Ended (Seat number) Writing ∷ []) (refl, tt) e)
+
+pub written_in_vain : (number : ℕ) (halt : Halt) (old new : List ℕ) (passed_old passed_new : List Passage) → new ≡ old → passed_new ≡ passed_old ++ halted_as Writing (Seat number) halt ∷ [] → Writes number old new passed_old passed_new
+written_in_vain number halt old new passed_old passed_new e f =
+    let rests = rests_halted (Seat number) halt passed_old passed_new f in
+    let both = halted_to_seats number halt passed_old passed_new f in
+    record {
+      said = ap (λ (w : List ℕ). w ++ new) (rests.wrote (Seat number)) ∙ ap (λ (xs : List ℕ). wrote_over passed_old (Seat number) ++ xs) e;
+      others = λ seat differs. rests.wrote (Seat seat);
+      seats = rests.seats;
+      left = both.1;
+      log = rests.log;
+      all = both.0;
+    }
 
 pub nothing_written : (number : ℕ) (old new : List ℕ) (passed_old passed_new : List Passage) → new ≡ old → passed_new ≡ passed_old → Writes number old new passed_old passed_new
 nothing_written number old new passed_old passed_new e f = record {

@@ -10,7 +10,7 @@ use Rattle.node_seats.specs.declared.token_digest.TokenDigest.{TokenDigest}
 use Rattle.node_seats.specs.declared.seat_notice.SeatNotice.{SeatNotice}
 use Rattle.node_seats.specs.declared.seat_notice.SeatNotice.TheVariants as notices
 use Rattle.node_seats.specs.Tokens.{IsTokenLine}
-use Rattle.node_seats.specs.Passing.{AreOfGuests, passed_by}
+use Rattle.node_seats.specs.Passing.{AreOfGuests, passed_by, IsPassedBy}
 
 -- ---- what came
 
@@ -63,6 +63,7 @@ IsToldOf tokens came (Some (notices.Came seat)) = Unit {0}
 IsToldOf tokens came (Some (notices.Piece seat bytes)) = ⊥
 IsToldOf tokens came (Some (notices.Gone seat)) = ShowsToken tokens seat came
 IsToldOf tokens came (Some (notices.Refused seat source)) = ShowsToken tokens seat came → ⊥
+IsToldOf tokens came (Some (notices.Unread seat)) = ⊥
 
 -- last of all the connection of a guest was given to this seat, over which its token had come and nothing else
 pub record IsSeated (tokens : List TokenDigest) (seat : ℕ) (old more : List Passage) : Type 0 where
@@ -80,8 +81,9 @@ IsGuested (Some tokens) (Some (notices.Came seat)) old more = IsSeated tokens se
 IsGuested (Some tokens) (Some (notices.Piece seat bytes)) old more = AreOfGuests more
 IsGuested (Some tokens) (Some (notices.Gone seat)) old more = AreOfGuests more
 IsGuested (Some tokens) (Some (notices.Refused seat source)) old more = AreOfGuests more
+IsGuested (Some tokens) (Some (notices.Unread seat)) old more = AreOfGuests more
 
--- and what passed behind it over the line of a seat
+-- and what moved behind it over the line of a seat
 abbrev pub behind_by : Option (List TokenDigest) → Option SeatNotice → List Passage
 behind_by None notice = passed_by notice
 behind_by (Some tokens) None = []
@@ -89,10 +91,23 @@ behind_by (Some tokens) (Some (notices.Came seat)) = []
 behind_by (Some tokens) (Some (notices.Piece seat bytes)) = PieceCame (Seat seat) bytes.items ∷ []
 behind_by (Some tokens) (Some (notices.Gone seat)) = []
 behind_by (Some tokens) (Some (notices.Refused seat source)) = []
+behind_by (Some tokens) (Some (notices.Unread seat)) = []
+
+-- what passed there
+abbrev pub IsBehind : Option (List TokenDigest) → Option SeatNotice → List Passage → Type 0
+IsBehind None notice behind = IsPassedBy notice behind
+IsBehind (Some tokens) None behind = IsPassedBy None behind
+IsBehind (Some tokens) (Some (notices.Came seat)) behind = behind ≡ []
+IsBehind (Some tokens) (Some (notices.Piece seat bytes)) behind = IsPassedBy (Some (notices.Piece seat bytes)) behind
+IsBehind (Some tokens) (Some (notices.Gone seat)) behind = IsPassedBy (Some (notices.Gone seat)) behind
+IsBehind (Some tokens) (Some (notices.Refused seat source)) behind = behind ≡ []
+IsBehind (Some tokens) (Some (notices.Unread seat)) behind = behind ≡ []
 
 -- what passed in a call, and what of it is put down of guests
 pub record Passes (tokens : Option (List TokenDigest)) (notice : Option SeatNotice) (old new wired_old wired_new : List Passage) : Type 0 where
   pub more : List Passage
   pub guested : IsGuested tokens notice old more
   pub put_down : new ≡ old ++ more
-  pub wired : wired_new ≡ wired_old ++ (more ++ behind_by tokens notice)
+  pub behind : List Passage
+  pub by_it : IsBehind tokens notice behind
+  pub wired : wired_new ≡ wired_old ++ (more ++ behind)

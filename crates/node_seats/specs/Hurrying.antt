@@ -2,7 +2,6 @@
 use Rattle.std.specs.Prelude.{◌≡◌, ◌⊎◌, ℕ, ◌+◌, ◌<◌, ◌≤◌, Bool, true, false, List, get_or, Option, Some, None}
 use Rattle.node_seats.specs.declared.limits.TheConstants.{VERSION_TIME}
 use Rattle.node_seats.specs.declared.seat.Seat.{Seat}
-use Rattle.node_seats.specs.declared.seats.Seats.{Seats}
 use Rattle.node_seats.specs.declared.seat_notice.SeatNotice.{SeatNotice}
 use Rattle.node_seats.specs.declared.seat_notice.SeatNotice.TheVariants as notices
 use Rattle.node_seats.specs.Seating.{nobody}
@@ -22,6 +21,7 @@ Lasts greeted now None old new = HasTime greeted now old → new ≡ old
 Lasts greeted now (Some (notices.Piece number bytes)) old new = HasTime greeted now old → new ≡ old
 Lasts greeted now (Some (notices.Gone number)) old new = HasTime greeted now old → new ≡ old
 Lasts greeted now (Some (notices.Refused number source)) old new = HasTime greeted now old → new ≡ old
+Lasts greeted now (Some (notices.Unread number)) old new = HasTime greeted now old → new ≡ old
 Lasts greeted now (Some (notices.Came number)) old new = new ≡ Some now
 
 -- a bot whose time was over before is gone; where it is over now, that is kept, and the next call lets go of it
@@ -36,15 +36,5 @@ LastsAt now None old new seat = since_at new seat ≡ since_at old seat
 LastsAt now (Some (notices.Piece number bytes)) old new seat = since_at new seat ≡ since_at old seat
 LastsAt now (Some (notices.Gone number)) old new seat = since_at new seat ≡ since_at old seat
 LastsAt now (Some (notices.Refused number source)) old new seat = since_at new seat ≡ since_at old seat
+LastsAt now (Some (notices.Unread number)) old new seat = since_at new seat ≡ since_at old seat
 LastsAt now (Some (notices.Came number)) old new seat = (seat ≡ number → since_at new seat ≡ Some now) × ((seat ≡ number → ⊥) → since_at new seat ≡ since_at old seat)
-
--- the same of all seats, of which one is asked, or a guest behind them
-pub record HurriesAt (greeted : Bool) (now at : ℕ) (notice : Option SeatNotice) (old new : Seats) : Type 0 where
-  pub here : at < old.count → Hurries greeted now at notice (get_or old.seats.items at nobody) (get_or new.seats.items at nobody)
-  pub elsewhere : (seat : ℕ) → (seat ≡ at → old.count ≤ at) → LastsAt now notice old.seats.items new.seats.items seat
-  pub count : new.count ≡ old.count
-
--- in other calls time stays as it is
-pub record KeepsTime (old new : Seats) : Type 0 where
-  pub since : (seat : ℕ) → since_at new.seats.items seat ≡ since_at old.seats.items seat
-  pub count : new.count ≡ old.count

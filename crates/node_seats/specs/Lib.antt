@@ -10,5 +10,6 @@ pub mod Keeping
 pub mod Crowding
 pub mod Seating
 pub mod Hurrying
+pub mod Times
 pub mod Telling
 pub mod Coming

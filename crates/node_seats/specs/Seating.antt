@@ -88,6 +88,7 @@ abbrev pub Follows : Option SeatNotice → List Seat → List Seat → Type 0
 Follows None old new = (seat : ℕ) → waits_at new seat ≡ waits_at old seat
 Follows (Some (notices.Piece number bytes)) old new = (seat : ℕ) → waits_at new seat ≡ waits_at old seat
 Follows (Some (notices.Refused number source)) old new = (seat : ℕ) → waits_at new seat ≡ waits_at old seat
+Follows (Some (notices.Unread number)) old new = (seat : ℕ) → waits_at new seat ≡ waits_at old seat
 Follows (Some (notices.Came number)) old new = Clears number old new
 Follows (Some (notices.Gone number)) old new = Clears number old new
 
@@ -96,6 +97,7 @@ abbrev pub Changes : Option SeatNotice → List Seat → List Seat → Type 0
 Changes None old new = (seat : ℕ) → bot_at new seat ≡ bot_at old seat
 Changes (Some (notices.Piece number bytes)) old new = (bot_at new number ≡ heard bytes.items (bot_at old number)) × ((seat : ℕ) → seat ≢ number → bot_at new seat ≡ bot_at old seat)
 Changes (Some (notices.Refused number source)) old new = (seat : ℕ) → bot_at new seat ≡ bot_at old seat
+Changes (Some (notices.Unread number)) old new = (seat : ℕ) → bot_at new seat ≡ bot_at old seat
 Changes (Some (notices.Came number)) old new = (sits_at old number ≡ false) × ((bot_at new number ≡ newcomer) × ((seat : ℕ) → seat ≢ number → bot_at new seat ≡ bot_at old seat))
 Changes (Some (notices.Gone number)) old new = (bot_at new number ≡ gone (bot_at old number)) × ((seat : ℕ) → seat ≢ number → bot_at new seat ≡ bot_at old seat)
 
@@ -104,6 +106,7 @@ abbrev pub Sits : Option SeatNotice → Bot → Bot → Type 0
 Sits None old new = new ≡ old
 Sits (Some (notices.Piece number bytes)) old new = new ≡ heard bytes.items old
 Sits (Some (notices.Refused number source)) old new = new ≡ old
+Sits (Some (notices.Unread number)) old new = new ≡ old
 Sits (Some (notices.Came number)) old new = (old.sits ≡ false) × (new ≡ newcomer)
 Sits (Some (notices.Gone number)) old new = new ≡ gone old
 
@@ -112,6 +115,7 @@ abbrev pub KeepsClosed : ℕ → Option SeatNotice → Type 0
 KeepsClosed closed None = Unit {0}
 KeepsClosed closed (Some (notices.Piece number bytes)) = Unit {0}
 KeepsClosed closed (Some (notices.Refused number source)) = Unit {0}
+KeepsClosed closed (Some (notices.Unread number)) = Unit {0}
 KeepsClosed closed (Some (notices.Came number)) = bit_at closed number ≡ 0
 KeepsClosed closed (Some (notices.Gone number)) = Unit {0}
 
@@ -120,6 +124,7 @@ abbrev pub IsOf : Option SeatNotice → ℕ → Type 0
 IsOf None seat = ⊥
 IsOf (Some (notices.Piece number bytes)) seat = ⊥
 IsOf (Some (notices.Refused number source)) seat = ⊥
+IsOf (Some (notices.Unread number)) seat = ⊥
 IsOf (Some (notices.Came number)) seat = seat ≡ number
 IsOf (Some (notices.Gone number)) seat = seat ≡ number
 

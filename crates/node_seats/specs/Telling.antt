@@ -5,7 +5,7 @@ use Rattle.line_cursor.specs.declared.cursor.Cursor.{Cursor}
 use Rattle.line_cursor.specs.Past.{seat_line_at}
 use Rattle.line_cursor.specs.Cursors.{next_cursor}
 use Rattle.node_wires.specs.declared.line.Line.TheVariants.{Seat as SeatOf}
-use Rattle.node_wires.specs.Passages.{Passage, Began, Came, Wrote, Gave, Logged, came_over, wrote_over}
+use Rattle.node_wires.specs.Passages.{Passage, Began, Came, Wrote, Gave, Logged, Tried, Ended, Closed, Saw, Waited, Called, came_over, wrote_over}
 use Rattle.node_seats.specs.declared.limits.TheConstants.{BACKLOG}
 use Rattle.node_seats.specs.declared.bot.Bot.{Bot}
 use Rattle.node_seats.specs.declared.bot.Parting.{Parting}
@@ -26,6 +26,12 @@ texts_in (Began at ∷ more) = texts_in more
 texts_in (Came at bytes ∷ more) = texts_in more
 texts_in (Gave place seat ∷ more) = texts_in more
 texts_in (Logged text ∷ more) = texts_in more
+texts_in (Tried line way ∷ more) = texts_in more
+texts_in (Ended line way ∷ more) = texts_in more
+texts_in (Closed line ∷ more) = texts_in more
+texts_in (Saw moment ∷ more) = texts_in more
+texts_in (Waited most ∷ more) = texts_in more
+texts_in (Called ∷ more) = texts_in more
 
 abbrev pub lines_of : Telling → List (List ℕ)
 lines_of telling = texts_in telling.told.items

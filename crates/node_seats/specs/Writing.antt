@@ -3,7 +3,7 @@ use Rattle.std.specs.Prelude.{◌≡◌, ℕ, List, [], ◌∷◌, ◌++◌}
 use Rattle.node_wires.specs.declared.line.Line.{Line}
 use Rattle.node_wires.specs.declared.line.Line.TheVariants.{Peer, Caller, Seat, Guest, Asker}
 use Rattle.node_seats.specs.Others.{KeepsOthers}
-use Rattle.node_wires.specs.Passages.{Passage, Began, Came, Wrote, Gave, Logged, seats_in, wrote_over, logged_in}
+use Rattle.node_wires.specs.Passages.{Passage, Began, Came, Wrote, Gave, Logged, Tried, Ended, Closed, Saw, Waited, Called, seats_in, wrote_over, logged_in}
 
 abbrev pub IsSeats : Line → Type 0
 IsSeats (Seat number) = Unit {0}
@@ -12,19 +12,25 @@ IsSeats (Caller place) = ⊥
 IsSeats (Guest place) = ⊥
 IsSeats (Asker place) = ⊥
 
--- a piece was written to a seat
+-- a piece was written to a seat, perhaps in vain, or its connection was closed
 abbrev pub IsToSeat : Passage → Type 0
 IsToSeat (Wrote line bytes) = IsSeats line
 IsToSeat (Began line) = ⊥
 IsToSeat (Came line bytes) = ⊥
 IsToSeat (Gave place seat) = ⊥
 IsToSeat (Logged text) = ⊥
+IsToSeat (Tried line way) = IsSeats line
+IsToSeat (Ended line way) = IsSeats line
+IsToSeat (Closed line) = IsSeats line
+IsToSeat (Saw moment) = ⊥
+IsToSeat (Waited most) = ⊥
+IsToSeat Called = ⊥
 
 abbrev pub AreToSeats : List Passage → Type 0
 AreToSeats [] = Unit {0}
 AreToSeats (p ∷ more) = IsToSeat p × AreToSeats more
 
--- all that passed are pieces that were written to seats
+-- all that passed is of that kind
 pub record WritesToSeats (old new : List Passage) : Type 0 where
   pub more : List Passage
   pub to_seats : AreToSeats more

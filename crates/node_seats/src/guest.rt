@@ -10,7 +10,7 @@ ghost use Rattle.node_seats.specs.Keeping.{IsLeftBy};
 use crate::limits::{TOKEN_LINE, TOKEN_TIME};
 use crate::token_digest::{TokenDigest, begins_well, has_end, shows_token};
 use arrayvec::ArrayVec;
-use node_wires::{Halt, Line, Passages, Wire};
+use node_wires::{Halt, Line, Passages, Way, Wire};
 
 /// The bytes of the shortest line that shows a token: LF ends it.
 const SHORTEST: usize = TOKEN_LINE - 1;
@@ -123,7 +123,7 @@ fn lacking(count: usize) -> usize
 }
 
 /// Reads the next piece of a guest's line, no more than the buffer holds.
-#[tactic(auto, using(crate::proofs::Passing::nothing_grown, crate::proofs::Passing::one_grown, crate::proofs::Guesting::hears_alike, crate::proofs::Guesting::hears_piece))]
+#[tactic(auto, using(crate::proofs::Passing::halted_grown, crate::proofs::Passing::one_grown, crate::proofs::Guesting::hears_halted, crate::proofs::Guesting::hears_piece))]
 fn read_into<W: Wire>(
     guest: &mut Guest,
     passed: &mut Passages,
@@ -136,10 +136,17 @@ fn read_into<W: Wire>(
     ensures hears { Hears place (Some guest.old) (Some guest.new) passed.old.items passed.new.items }
     ensures seat { guest.new.seat ≡ guest.old.seat }
 {
-    let count = wire.read(Line::Guest(place), buffer)?;
-    passed.came(Line::Guest(place), &buffer[..count]);
-    guest.add(&buffer[..count]);
-    Ok(())
+    match wire.read(Line::Guest(place), buffer) {
+        Ok(count) => {
+            passed.came(Line::Guest(place), &buffer[..count]);
+            guest.add(&buffer[..count]);
+            Ok(())
+        }
+        Err(halt) => {
+            passed.halted(Line::Guest(place), Way::Reading, halt);
+            Err(halt)
+        }
+    }
 }
 
 /// Reads the next piece of a guest's line, so that nothing behind its end is taken.

@@ -149,14 +149,16 @@ impl Guests {
     }
 
     /// Lets go of who stands at a place, if anybody does.
+    #[tactic(auto, using(crate::proofs::Passing::closed_grown, crate::proofs::Guesting::came_closed))]
     pub(crate) fn dismiss<W: Wire>(&mut self, wire: &mut W, place: u8)
-        ensures passed { self.new.passed ≡ self.old.passed }
-        ensures wired { W.passed wire.new ≡ W.passed wire.old }
+        ensures grows { Grows self.old.passed.items self.new.passed.items (W.passed wire.old) (W.passed wire.new) }
+        ensures came { (at : ℕ) → came_over self.new.passed.items (GuestAt at) ≡ came_over self.old.passed.items (GuestAt at) }
         ensures tokens { self.new.tokens ≡ self.old.tokens }
         ensures gone { stands_at self.new.guests.items place ≡ None }
         ensures others { LeavesOthers place self.old.guests.items self.new.guests.items }
     {
         wire.close(Line::Guest(place));
+        self.passed.closed(Line::Guest(place));
         clear(&mut self.guests, place);
     }
 
@@ -178,12 +180,13 @@ impl Guests {
 
     /// Lets go of who stands at a place of one seat alone and hasn't shown its token: it is only for who has. It says whether one
     /// was.
-    #[tactic(auto, using(crate::proofs::Keeping::stays_same, crate::proofs::Keeping::leaves_of))]
     /// Nothing was to be told of him, where this says so; else all stays.
+    #[tactic(auto, using(crate::proofs::Passing::nothing_grown, crate::proofs::Keeping::stays_same, crate::proofs::Keeping::leaves_of))]
     pub(crate) fn turn_away<W: Wire>(&mut self, wire: &mut W, place: u8, is_quiet: bool) -> bool
         ensures quiet { result ≡ true → is_quiet ≡ true }
-        ensures passed { self.new.passed ≡ self.old.passed }
-        ensures wired { W.passed wire.new ≡ W.passed wire.old }
+        ensures passed { result ≡ false → self.new.passed ≡ self.old.passed }
+        ensures wired { result ≡ false → W.passed wire.new ≡ W.passed wire.old }
+        ensures grows { Grows self.old.passed.items self.new.passed.items (W.passed wire.old) (W.passed wire.new) }
         ensures tokens { self.new.tokens ≡ self.old.tokens }
         ensures left { LeavesOnly self.old.guests.items self.new.guests.items }
     {
@@ -203,10 +206,10 @@ impl Guests {
 
     /// Lets go of whoever else waits for the seat whose token the guest at a place showed. He is known from now on, so he makes
     /// room for nobody.
-    #[tactic(auto, using(crate::proofs::Keeping::stays_same, crate::proofs::Keeping::leaves_of, crate::proofs::Keeping::leaves_on))]
+    #[tactic(auto, using(crate::proofs::Passing::nothing_grown, crate::proofs::Passing::grown_on, crate::proofs::Keeping::stays_same, crate::proofs::Keeping::leaves_of, crate::proofs::Keeping::leaves_on))]
     pub(crate) fn prefer<W: Wire>(&mut self, wire: &mut W, place: u8, seat: u8)
-        ensures passed { self.new.passed ≡ self.old.passed }
-        ensures wired { W.passed wire.new ≡ W.passed wire.old }
+        ensures grows { Grows self.old.passed.items self.new.passed.items (W.passed wire.old) (W.passed wire.new) }
+        ensures came { (at : ℕ) → came_over self.new.passed.items (GuestAt at) ≡ came_over self.old.passed.items (GuestAt at) }
         ensures tokens { self.new.tokens ≡ self.old.tokens }
         ensures here { stands_at self.new.guests.items place ≡ stands_at self.old.guests.items place }
         ensures left { LeavesOnly self.old.guests.items self.new.guests.items }
@@ -225,7 +228,7 @@ impl Guests {
     pub(crate) fn give<W: Wire>(&mut self, wire: &mut W, place: u8, seat: u8) -> bool
         ensures given { result ≡ true → self.new.passed.items ≡ self.old.passed.items ++ Gave place seat ∷ [] }
         ensures wired { result ≡ true → W.passed wire.new ≡ W.passed wire.old ++ Gave place seat ∷ [] }
-        ensures failed { result ≡ false → (self.new.passed.items ≡ self.old.passed.items) × (W.passed wire.new ≡ W.passed wire.old) }
+        ensures failed { result ≡ false → Grows self.old.passed.items self.new.passed.items (W.passed wire.old) (W.passed wire.new) }
         ensures tokens { self.new.tokens ≡ self.old.tokens }
         ensures left { LeavesOnly self.old.guests.items self.new.guests.items }
     {

@@ -1,10 +1,11 @@
 //! One seat.
 
-ghost use Rattle.std.specs.Prelude.{◌≡◌, ◌++◌, ◌+◌, ◌<◌, ◌≤◌, max, ℕ, Bool, [], true, false, IfSome, IsSome, Some, None, length};
+ghost use Rattle.std.specs.Prelude.{◌≡◌, ◌++◌, ◌∷◌, ◌+◌, ◌<◌, ◌≤◌, max, ℕ, Bool, [], true, false, IfSome, IsSome, Some, None, length};
 ghost use Rattle.node_seats.specs.declared.seat_notice.SeatNotice.TheVariants as notices;
-ghost use Rattle.node_wires.specs.declared.line.Line.TheVariants.{Guest as GuestAt};
-ghost use Rattle.node_wires.specs.Passages.{came_over};
-ghost use Rattle.node_seats.specs.Passing.{Passed, TakesNobody, seat_of, Leaves};
+ghost use Rattle.node_wires.specs.declared.line.Line.TheVariants.{Guest as GuestAt, Seat as SeatOf};
+ghost use Rattle.node_wires.specs.Passages.{Closed, came_over};
+ghost use Rattle.node_seats.specs.Others.{Rests};
+ghost use Rattle.node_seats.specs.Passing.{Passed, ReadsSeat, TakesNobody, Grows, seat_of, Leaves};
 ghost use Rattle.node_seats.specs.Pieces.{IsPieceOf};
 ghost use Rattle.node_seats.specs.Guesting.{ShowsToken, IsToldOf, Passes};
 ghost use Rattle.node_seats.specs.Keeping.{LeavesOnly};
@@ -166,7 +167,7 @@ impl Seat {
     }
 
     /// Takes in a bot, where nobody sits there and one came.
-    #[tactic(auto, using(crate::proofs::Lists::nothing_more, crate::proofs::Lists::nothing_passed))]
+    #[tactic(auto, using(crate::proofs::Lists::nothing_passed, crate::proofs::Lists::began_passed))]
     fn take_in<W: Wire>(&mut self, wire: &mut W, number: u8, now: u64) -> Option<SeatNotice>
         requires { self.old.bot.sits ≡ false }
         ensures passed { Passed result (W.passed wire.old) (W.passed wire.new) }
@@ -184,9 +185,10 @@ impl Seat {
     }
 
     /// Lets go of who sits there.
-    #[tactic(auto, using(crate::proofs::Lists::nothing_more, crate::proofs::Lists::nothing_passed))]
+    #[tactic(auto, using(crate::proofs::Writing::rests_closed))]
     pub(crate) fn leave<W: Wire>(&mut self, wire: &mut W, number: u8) -> SeatNotice
-        ensures passed { W.passed wire.new ≡ W.passed wire.old }
+        ensures passed { W.passed wire.new ≡ W.passed wire.old ++ Closed (SeatOf number) ∷ [] }
+        ensures rests { Rests (W.passed wire.old) (W.passed wire.new) }
         ensures gone { result ≡ notices.Gone number }
         ensures sits { self.new.bot ≡ gone self.old.bot }
         ensures since { self.new.since ≡ self.old.since }
@@ -199,7 +201,7 @@ impl Seat {
     }
 
     /// Takes the next piece of who sits there, no more than the buffer holds. Without memory for it nothing is read.
-    #[tactic(auto, using(crate::proofs::Lists::nothing_more, crate::proofs::Lists::nothing_passed))]
+    #[tactic(auto, using(crate::proofs::Lists::unread_passed, crate::proofs::Lists::tried_passed, crate::proofs::Lists::piece_passed, crate::proofs::Lists::ended_passed, crate::proofs::Lists::ended_reads))]
     fn take_piece<W: Wire>(
         &mut self,
         alloc: Global,
@@ -209,6 +211,7 @@ impl Seat {
     ) -> Option<SeatNotice>
         ensures nobody { TakesNobody result }
         ensures passed { Passed result (W.passed wire.old) (W.passed wire.new) }
+        ensures read { ReadsSeat number result (W.passed wire.old) (W.passed wire.new) }
         ensures seat { IfSome result (λ notice. seat_of notice ≡ number) }
         ensures piece { IsPieceOf number (length buffer.old) result }
         ensures waiting { Leaves result self.old.waiting.waiting self.new.waiting.waiting }
@@ -216,7 +219,7 @@ impl Seat {
         ensures since { self.new.since ≡ self.old.since }
     {
         let Ok(mut bytes) = Vec::with_capacity(alloc, buffer.len()) else {
-            return None;
+            return Some(SeatNotice::Unread { seat: number });
         };
         match wire.read(Line::Seat(number), buffer) {
             Ok(count) => {
@@ -254,6 +257,7 @@ impl Seat {
     }
 
     /// The next piece of who sits there, if anybody does, or his end. Who hasn't named the version in time is let go of.
+    #[tactic(auto, using(crate::proofs::Lists::nothing_passed, crate::proofs::Lists::closed_passed, crate::proofs::Lists::closed_reads))]
     pub(crate) fn next_piece<W: Wire>(
         &mut self,
         alloc: Global,
@@ -264,6 +268,7 @@ impl Seat {
         now: u64,
     ) -> Option<SeatNotice>
         ensures passed { Passed result (W.passed wire.old) (W.passed wire.new) }
+        ensures read { self.old.bot.sits ≡ true → ReadsSeat number result (W.passed wire.old) (W.passed wire.new) }
         ensures nobody { TakesNobody result }
         ensures seat { IfSome result (λ notice. seat_of notice ≡ number) }
         ensures piece { IsPieceOf number (length buffer.old) result }
@@ -282,7 +287,6 @@ impl Seat {
     }
 
     /// What came of the seat next, if anything did.
-    #[tactic(auto, using(crate::proofs::Lists::nothing_more, crate::proofs::Lists::nothing_passed))]
     pub(crate) fn next<W: Wire>(
         &mut self,
         alloc: Global,
@@ -293,6 +297,7 @@ impl Seat {
         now: u64,
     ) -> Option<SeatNotice>
         ensures passed { Passed result (W.passed wire.old) (W.passed wire.new) }
+        ensures read { self.old.bot.sits ≡ true → ReadsSeat number result (W.passed wire.old) (W.passed wire.new) }
         ensures seat { IfSome result (λ notice. seat_of notice ≡ number) }
         ensures piece { IsPieceOf number (length buffer.old) result }
         ensures waiting { Leaves result self.old.waiting.waiting self.new.waiting.waiting }
@@ -308,7 +313,7 @@ impl Seat {
 
     /// Has the guest at a place sit there, who showed this seat's token. Who sits there is let go of before: then the guest is
     /// next. Where the wire fails he is let go of, and nothing is told.
-    #[tactic(auto, using(crate::proofs::Coming::gone_passes, crate::proofs::Coming::given_passes, crate::proofs::Coming::nothing_passes, crate::proofs::Keeping::stays_same))]
+    #[tactic(auto, using(crate::proofs::Coming::gone_passes, crate::proofs::Coming::given_passes, crate::proofs::Coming::heard_passes, crate::proofs::Keeping::stays_same))]
     pub(crate) fn welcome<W: Wire>(
         &mut self,
         guests: &mut Guests,
@@ -319,6 +324,7 @@ impl Seat {
     ) -> Option<SeatNotice>
         requires { ShowsToken guests.old.tokens.items number (came_over guests.old.passed.items (GuestAt place)) }
         ensures passes { Passes (Some guests.old.tokens.items) result guests.old.passed.items guests.new.passed.items (W.passed wire.old) (W.passed wire.new) }
+        ensures quiet { result ≡ None → Grows guests.old.passed.items guests.new.passed.items (W.passed wire.old) (W.passed wire.new) }
         ensures told { IsToldOf guests.old.tokens.items (came_over guests.new.passed.items (GuestAt place)) result }
         ensures tokens { guests.new.tokens ≡ guests.old.tokens }
         ensures left { LeavesOnly guests.old.guests.items guests.new.guests.items }
@@ -338,7 +344,7 @@ impl Seat {
     }
 
     /// Writes what there is room for of what waits. `None` where more may be written; else whether the connection goes on.
-    #[tactic(auto, using(crate::proofs::Writing::nothing_written, crate::proofs::Writing::some_written))]
+    #[tactic(auto, using(crate::proofs::Writing::nothing_written, crate::proofs::Writing::written_in_vain, crate::proofs::Writing::some_written))]
     fn write_some<W: Wire>(&mut self, wire: &mut W, number: u8) -> Option<bool>
         ensures wrote { Writes number self.old.waiting.waiting self.new.waiting.waiting (W.passed wire.old) (W.passed wire.new) }
         ensures sits { self.new.bot ≡ self.old.bot }

@@ -15,17 +15,20 @@ pub enum SeatNotice {
     Gone { seat: u8 },
     /// Who came to its port didn't show its token: from this address, where it is known.
     Refused { seat: u8, source: Option<IpAddr> },
+    /// Memory was refused, so nothing was read of it.
+    Unread { seat: u8 },
 }
 
 impl SeatNotice {
-    /// Whether more of the same seat may be there by now. Behind a piece that is shorter than it may be there is nothing: that
-    /// was all that had come.
+    /// Whether more of the same seat may be had at once. Behind a piece that is shorter than it may be there is nothing: that
+    /// was all that had come. Where memory was refused nothing is had at once, but later there may be.
     pub fn may_have_more(&self) -> bool
         ensures { result ≡ may_have_more self.now }
     {
         match self {
             SeatNotice::Piece { seat: _, bytes } => bytes.len() == PIECE,
             SeatNotice::Came { .. } | SeatNotice::Gone { .. } | SeatNotice::Refused { .. } => true,
+            SeatNotice::Unread { .. } => false,
         }
     }
 }

@@ -2,15 +2,14 @@ ghost use Rattle.std.specs.Prelude.{◌≡◌, ◌≢◌, ◌++◌, ◌+◌, ◌
 ghost use Rattle.std.specs.Int.{bit_at};
 ghost use Rattle.node_wires.specs.declared.line.Line.TheVariants.{Guest as GuestAt};
 ghost use Rattle.node_wires.specs.Passages.{Passage, came_over, seats_in, logged_in};
-ghost use Rattle.node_seats.specs.Passing.{Passed, HearsNothing, passed_by, seat_of};
+ghost use Rattle.node_seats.specs.Passing.{Passed, ReadsSeat, HearsNothing, Grows, passed_by, closed_by, seat_of};
 ghost use Rattle.node_seats.specs.Guesting.{IsToldOf, Passes, ShowsToken};
-ghost use Rattle.node_seats.specs.Others.{KeepsOthers, TellsNoGuest};
+ghost use Rattle.node_seats.specs.Others.{KeepsOthers, Rests, TellsNoGuest};
 ghost use Rattle.node_seats.specs.Writing.{WritesToSeats};
 ghost use Rattle.node_seats.specs.Seating.{Follows, Changes, KeepsClosed, bit_of, waits_at, bot_at, sits_at, is_silent, no_bot, KeepsOtherBots};
 ghost use Rattle.node_seats.specs.Hurrying.{LastsAt};
 ghost use Rattle.node_seats.specs.Pieces.{IsPieceOf};
 ghost use Rattle.node_seats.specs.Telling.{AreSaid, Loses};
-ghost use Rattle.node_seats.specs.Coming.{passed_in, tokens_in};
 ghost use Rattle.node_seats.specs.Keeping.{KeepsBut, LeavesOnly, KeepsFit, IsFit, IsNewest, stands_at};
 
 use crate::bot::Parting;
@@ -43,6 +42,7 @@ pub struct Seats {
     buffer: [u8; PIECE],
     /// Where a line of a seat stands while it is told.
     line: SeatLine,
+    ghost counted: { length seats.items ≡ count },
 }
 
 /// What came of the next one who came to the port of a seat with a token.
@@ -76,6 +76,7 @@ fn nobody_called() -> Called
 /// So many seats, where nobody sits.
 #[tactic(auto, using(crate::proofs::Seating::one_empty, crate::proofs::Seating::one_nobody))]
 fn empty_seats(alloc: Global, count: u8) -> Result<Vec<Seat>, AllocError>
+    ensures all { IfOk result (λ seats. length seats.items ≡ count) }
     ensures waits { IfOk result (λ seats. (seat : ℕ) → waits_at seats.items seat ≡ []) }
     ensures nobody { IfOk result (λ seats. (seat : ℕ) → bot_at seats.items seat ≡ no_bot) }
 {
@@ -107,18 +108,8 @@ fn is_set(bits: u16, seat: u8) -> bool
     bits >> seat & 1 == 1
 }
 
-/// Nobody came yet to the ports of seats that have tokens, if they have.
-fn no_guests(alloc: Global, tokens: Option<Vec<TokenDigest>>) -> Result<Option<Guests>, AllocError>
-    ensures tokens { IfOk result (λ guests. tokens_in guests ≡ option_map (λ t. t.items) tokens) }
-    ensures passed { IfOk result (λ guests. passed_in guests ≡ []) }
-{
-    match tokens {
-        Some(tokens) => Ok(Some(Guests::new(alloc, tokens)?)),
-        None => Ok(None),
-    }
-}
-
 /// Has the guest at a place, who showed the token of a seat, sit there, where somebody sits there or it isn't closed.
+#[tactic(auto, using(crate::proofs::Coming::nothing_passes, crate::proofs::Passing::nothing_grown))]
 fn welcome<W: Wire>(
     guests: &mut Guests,
     seats: &mut Vec<Seat>,
@@ -130,11 +121,13 @@ fn welcome<W: Wire>(
     requires { ShowsToken guests.old.tokens.items guest.1 (came_over guests.old.passed.items (GuestAt guest.0)) }
     ensures closed { KeepsClosed closed result }
     ensures passes { Passes (Some guests.old.tokens.items) result guests.old.passed.items guests.new.passed.items (W.passed wire.old) (W.passed wire.new) }
+    ensures quiet { result ≡ None → Grows guests.old.passed.items guests.new.passed.items (W.passed wire.old) (W.passed wire.new) }
     ensures told { IsToldOf guests.old.tokens.items (came_over guests.new.passed.items (GuestAt guest.0)) result }
     ensures tokens { guests.new.tokens ≡ guests.old.tokens }
     ensures waits { Follows result seats.old.items seats.new.items }
     ensures sits { Changes result seats.old.items seats.new.items }
     ensures time { (seat : ℕ) → LastsAt now result seats.old.items seats.new.items seat }
+    ensures all { length seats.new.items ≡ length seats.old.items }
     ensures left { LeavesOnly guests.old.guests.items guests.new.guests.items }
 {
     let (place, seat) = guest;
@@ -149,7 +142,7 @@ fn welcome<W: Wire>(
 /// Hears the guest at a place: who showed the token of a seat sits there from now on, and who sits there is let go of before.
 /// Where nobody sits at a closed seat he stays a guest, and is heard again by a later call: whoever else waited for that seat
 /// is let go of. Who is refused is let go of too.
-#[tactic(auto, using(crate::proofs::Coming::heard_passes, crate::proofs::Coming::refused_passes, crate::proofs::Coming::passed_on, crate::proofs::Coming::nothing_passes))]
+#[tactic(auto, using(crate::proofs::Coming::heard_passes, crate::proofs::Coming::refused_passes, crate::proofs::Passing::grown_on))]
 fn hear_guest<W: Wire>(
     guests: &mut Guests,
     seats: &mut Vec<Seat>,
@@ -160,11 +153,13 @@ fn hear_guest<W: Wire>(
 ) -> Option<SeatNotice>
     ensures closed { KeepsClosed closed result }
     ensures passes { Passes (Some guests.old.tokens.items) result guests.old.passed.items guests.new.passed.items (W.passed wire.old) (W.passed wire.new) }
+    ensures quiet { result ≡ None → Grows guests.old.passed.items guests.new.passed.items (W.passed wire.old) (W.passed wire.new) }
     ensures told { IsToldOf guests.old.tokens.items (came_over guests.new.passed.items (GuestAt place)) result }
     ensures tokens { guests.new.tokens ≡ guests.old.tokens }
     ensures waits { Follows result seats.old.items seats.new.items }
     ensures sits { Changes result seats.old.items seats.new.items }
     ensures time { (seat : ℕ) → LastsAt now result seats.old.items seats.new.items seat }
+    ensures all { length seats.new.items ≡ length seats.old.items }
     ensures kept { KeepsBut place guests.old.guests.items guests.new.guests.items }
     ensures fit { IsFit guests.old.tokens.items (stands_at guests.new.guests.items place) }
     ensures newest { IsNewest place guests.new.guests.items }
@@ -202,6 +197,7 @@ fn take_guest<W: Wire>(
     ensures waits { Follows result.notice seats.old.items seats.new.items }
     ensures sits { Changes result.notice seats.old.items seats.new.items }
     ensures time { (number : ℕ) → LastsAt now result.notice seats.old.items seats.new.items number }
+    ensures all { length seats.new.items ≡ length seats.old.items }
     ensures kept { KeepsFit guests.old.tokens.items guests.old.guests.items guests.new.guests.items }
 {
     let Some((place, made_room)) = guests.accept(wire, seat, now) else {
@@ -222,11 +218,25 @@ impl Seats {
     ghost use Rattle.node_seats.specs.Seating.{is_here_at, Flushes};
     ghost use Rattle.node_seats.specs.Telling.{Begins, TellsBot, IsToldAll, MayPart, Parts, SaysAt};
     ghost use Rattle.node_seats.specs.declared.limits.TheConstants.{BACKLOG as MOST, PIECE as LONGEST};
-    ghost use Rattle.node_seats.specs.Hurrying.{HurriesAt, KeepsTime};
+    ghost use Rattle.node_seats.specs.Times.{HurriesAt, KeepsTime};
     ghost use Rattle.node_seats.specs.Hurrying.{since_at};
-    ghost use Rattle.node_seats.specs.Coming.{tokens_of, passed_of, Comes, AreFit, AreOneASeat};
+    ghost use Rattle.node_seats.specs.Coming.{passed_in, tokens_in, tokens_of, passed_of, Comes, AreFit, AreOneASeat};
     ghost use Rattle.node_seats.specs.Crowding.{turned_away_at, crowded_at, IsCrowded, CountsCalled};
     ghost use Rattle.node_seats.specs.Seating.{resumes};
+
+    /// Nobody came yet to the ports of seats that have tokens, if they have.
+    fn no_guests(
+        alloc: Global,
+        tokens: Option<Vec<TokenDigest>>,
+    ) -> Result<Option<Guests>, AllocError>
+        ensures tokens { IfOk result (λ guests. tokens_in guests ≡ option_map (λ t. t.items) tokens) }
+        ensures passed { IfOk result (λ guests. passed_in guests ≡ []) }
+    {
+        match tokens {
+            Some(tokens) => Ok(Some(Guests::new(alloc, tokens)?)),
+            None => Ok(None),
+        }
+    }
 
     /// So many seats, where nobody sits. With tokens, of each seat by its number, a seat takes nobody but who shows its own,
     /// and one for which there is none takes nobody.
@@ -244,7 +254,7 @@ impl Seats {
         ensures moments { IfOk result (λ seats. (seat : ℕ) → crowded_at seats.crowds seat ≡ None) }
     {
         let seats = empty_seats(alloc, count)?;
-        let guests = no_guests(alloc, tokens)?;
+        let guests = Seats::no_guests(alloc, tokens)?;
         Ok(Seats {
             alloc,
             count,
@@ -257,7 +267,7 @@ impl Seats {
     }
 
     /// What came next of a seat. Where seats have tokens nobody is taken in.
-    #[tactic(auto, using(crate::proofs::Coming::plain_passes, crate::proofs::Coming::nothing_passes, crate::proofs::Coming::bot_alone_passes))]
+    #[tactic(auto, using(crate::proofs::Coming::nothing_passes, crate::proofs::Seating::reads_there, crate::proofs::Seating::reads_nowhere))]
     fn look_at_seat<W: Wire>(
         &mut self,
         wire: &mut W,
@@ -269,7 +279,10 @@ impl Seats {
         requires { number < self.old.count }
         ensures closed { KeepsClosed closed result }
         ensures time { HurriesAt greeted now number result self.old self.new }
-        ensures comes { Comes result self.old self.new (W.passed wire.old) (W.passed wire.new) }
+        ensures passes { Passes (tokens_of self.old) result (passed_of self.old) (passed_of self.new) (W.passed wire.old) (W.passed wire.new) }
+        ensures read { sits_at self.old.seats.items number ≡ true → ReadsSeat number result (W.passed wire.old) (W.passed wire.new) }
+        ensures waits { Follows result self.old.seats.items self.new.seats.items }
+        ensures sits { Changes result self.old.seats.items self.new.seats.items }
         ensures piece { IsPieceOf number LONGEST result }
         ensures guests { self.new.guests ≡ self.old.guests }
         ensures crowds { self.new.crowds ≡ self.old.crowds }
@@ -308,7 +321,7 @@ impl Seats {
     }
 
     /// What came next of a seat or, by numbers behind those of all seats, of the guest at a place.
-    #[tactic(auto, using(crate::proofs::Keeping::are_same))]
+    #[tactic(auto, using(crate::proofs::Keeping::are_same, crate::proofs::Seating::reads_nowhere))]
     fn look<W: Wire>(
         &mut self,
         wire: &mut W,
@@ -320,6 +333,7 @@ impl Seats {
         ensures closed { KeepsClosed closed result }
         ensures time { HurriesAt greeted now at result self.old self.new }
         ensures comes { Comes result self.old self.new (W.passed wire.old) (W.passed wire.new) }
+        ensures read { sits_at self.old.seats.items at ≡ true → ReadsSeat at result (W.passed wire.old) (W.passed wire.new) }
         ensures piece { IsPieceOf at LONGEST result }
         ensures kept { AreFit self.old.guests self.new.guests }
         ensures crowds { self.new.crowds ≡ self.old.crowds }
@@ -331,7 +345,10 @@ impl Seats {
     }
 
     /// How many there are of whom `next` tells: the seats and, where these have tokens, the places of guests behind them.
-    pub fn looks(&self) -> u8 {
+    #[tactic(auto, using(crate::proofs::Seating::sits_within))]
+    pub fn looks(&self) -> u8
+        ensures { (seat : ℕ) → sits_at self.now.seats.items seat ≡ true → seat < result }
+    {
         if self.guests.is_some() {
             self.count.saturating_add(GUESTS as u8)
         } else {
@@ -340,7 +357,8 @@ impl Seats {
     }
 
     /// What came next of one of them, by its number, if anything did. Nothing waits for one who was taken in. Of a seat one
-    /// piece comes at a time, of 512 bytes at most, and of a guest none.
+    /// piece comes at a time, of 512 bytes at most, and of a guest none. Where somebody sits there and nothing is told, a read
+    /// found nothing. Where memory for a piece was refused, that is told (`Unread`), and nothing was read.
     ///
     /// With tokens nobody is taken off the queue of a seat's port (`next_caller` does that): who is taken in was a guest who showed
     /// the token of that seat, and nothing else had come of him; who sat there is told to be gone before. Nothing that came of a
@@ -362,6 +380,7 @@ impl Seats {
     ) -> Option<SeatNotice>
         ensures time { HurriesAt greeted now at result self.old self.new }
         ensures comes { Comes result self.old self.new (W.passed wire.old) (W.passed wire.new) }
+        ensures read { sits_at self.old.seats.items at ≡ true → ReadsSeat at result (W.passed wire.old) (W.passed wire.new) }
         ensures closed { KeepsClosed closed result }
         ensures piece { IsPieceOf at LONGEST result }
         ensures plain { tokens_of self.old ≡ None → Passed result (W.passed wire.old) (W.passed wire.new) }
@@ -610,9 +629,13 @@ impl Seats {
     }
 
     /// Lets go of who sits at a seat, if anybody does.
-    #[tactic(auto, using(crate::proofs::Telling::said_leaving))]
+    #[tactic(auto, using(crate::proofs::Telling::said_leaving, crate::proofs::Writing::unsaid_rests))]
     pub fn hang_up<W: Wire>(&mut self, wire: &mut W, seat: u8) -> Option<SeatNotice>
-        ensures passed { W.passed wire.new ≡ W.passed wire.old }
+        ensures passed { W.passed wire.new ≡ W.passed wire.old ++ closed_by seat result }
+        ensures seats { seats_in (W.passed wire.new) ≡ seats_in (W.passed wire.old) }
+        ensures log { logged_in (W.passed wire.new) ≡ logged_in (W.passed wire.old) }
+        ensures keeps { KeepsOthers (W.passed wire.old) (W.passed wire.new) }
+        ensures unsaid { TellsNoGuest (W.passed wire.old) (W.passed wire.new) }
         ensures guests { self.new.guests ≡ self.old.guests }
         ensures waits { Follows result self.old.seats.items self.new.seats.items }
         ensures sits { Changes result self.old.seats.items self.new.seats.items }
@@ -625,11 +648,13 @@ impl Seats {
     }
 
     /// Lets go of him, as `hang_up` does.
-    #[tactic(auto, using(crate::proofs::Lists::nothing_more, crate::proofs::Lists::nothing_passed))]
+    #[tactic(auto, using(crate::proofs::Lists::nothing_more, crate::proofs::Writing::rests_same, crate::proofs::Writing::closed_keeps, crate::proofs::Others::keeps_same))]
     fn let_go<W: Wire>(&mut self, wire: &mut W, seat: u8) -> Option<SeatNotice>
         ensures nothing { HearsNothing result }
         ensures guests { self.new.guests ≡ self.old.guests }
-        ensures passed { W.passed wire.new ≡ W.passed wire.old }
+        ensures passed { W.passed wire.new ≡ W.passed wire.old ++ closed_by seat result }
+        ensures rests { Rests (W.passed wire.old) (W.passed wire.new) }
+        ensures keeps { KeepsOthers (W.passed wire.old) (W.passed wire.new) }
         ensures waits { Follows result self.old.seats.items self.new.seats.items }
         ensures sits { Changes result self.old.seats.items self.new.seats.items }
         ensures time { KeepsTime self.old self.new }
@@ -651,7 +676,7 @@ impl Seats {
 
     /// Writes what waits for a seat. It answers whether its connection ended, where somebody sits there: then he is let go
     /// of.
-    #[tactic(auto, using(crate::proofs::Others::keeps_same, crate::proofs::Writing::none_to_seats))]
+    #[tactic(auto, using(crate::proofs::Others::keeps_same, crate::proofs::Others::keeps_on, crate::proofs::Writing::closed_keeps, crate::proofs::Writing::none_to_seats, crate::proofs::Writing::to_seats_on, crate::proofs::Writing::closed_to_seats))]
     fn flush_one<W: Wire>(&mut self, wire: &mut W, number: u8) -> Option<SeatNotice>
         ensures waits { IfSome result (λ notice. waits_at self.new.seats.items (seat_of notice) ≡ []) }
         ensures said { Flushes result self.old.seats.items self.new.seats.items (W.passed wire.old) (W.passed wire.new) }

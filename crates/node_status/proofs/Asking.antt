@@ -1,17 +1,18 @@
 -- What those who ask were given and what is written to them, call by call.
-use Rattle.std.proofs.Common.{◌≡◌, ◌≢◌, ◌⊎◌, inl, inr, ℕ, ◌+◌, ◌<◌, ◌≤◌, Bool, true, false, cond, List, [], ◌∷◌, ◌++◌, length, length-append, map, take, Result, Ok, Err, eqb, refl, ap, sym, subst, ◌∙◌, arith}
+use Rattle.std.proofs.Common.{◌≡◌, ◌≢◌, ◌⊎◌, inl, inr, ℕ, ◌+◌, ◌<◌, ◌≤◌, Bool, true, false, cond, List, [], ◌∷◌, ◌++◌, length, length-append, map, take, Result, Ok, Err, eqb, nat_lt, refl, ap, sym, subst, ◌∙◌, append_assoc, arith}
 use Rattle.std.proofs.Math.ListN.{get_or-eq_default}
 use Rattle.std.proofs.Math.Seq.{take-nil}
 use Rattle.std.proofs.lemmas.Bool.{cases_lt, ne_eqb}
 use Rattle.std.proofs.lemmas.Bool.Decides.{eqb_tells}
 use Rattle.std.proofs.lemmas.List.{length-map}
 use Rattle.std.specs.declared.alloc.AllocError.{AllocError}
+use Rattle.node_wires.specs.declared.line.Line.{Line}
 use Rattle.node_wires.specs.declared.line.Line.TheVariants.{Asker as AskerAt}
 use Rattle.node_wires.specs.Passages.{Passage, Began, wrote_over}
 use Rattle.node_status.specs.declared.asker.Asker.{Asker}
-use Rattle.node_status.specs.Given.{Given, given_of, given_at, nobody, with_line}
-use Rattle.node_status.specs.Asking.{IsAnswered, AreAnswered, Comes, Arrivals, Accepts, IsGiven, Gives, Serves}
-use Rattle.node_status.proofs.Passing.{keeps_all, keeps_on, keeps_began, began_here, began_elsewhere}
+use Rattle.node_status.specs.Given.{Given, given_of, given_at, nobody, with_line, IsServed}
+use Rattle.node_status.specs.Asking.{IsAnswered, AreAnswered, Comes, closed_by, arrived, Arrivals, Accepts, IsGiven, Gives, Serves}
+use Rattle.node_status.proofs.Passing.{keeps_all, keeps_on, keeps_one, closed_beyond, began_here, began_elsewhere}
 
 -- ---- one who comes
 
@@ -30,21 +31,37 @@ come_there now place before after new none comes (inr beyond) =
     subst (λ (g : Given). IsAnswered new place g)
     (sym (comes.beyond beyond ∙ get_or-eq_default (map given_of before) nobody (subst (λ (n : ℕ). n ≤ place) (sym (length-map before given_of)) beyond))) none
 
-at_one : (now place q : ℕ) (before after : List Asker) (old new : List Passage) → new ≡ old ++ Began (AskerAt place) ∷ [] → Comes now place before after → AreAnswered old before
-    → ((eqb q place ≡ true) × (q ≡ place)) ⊎ ((eqb q place ≡ false) × (q ≢ place)) → IsAnswered new q (given_at after q)
-at_one now place q before after old new e comes so_far (inl here) =
-    subst (λ (n : ℕ). IsAnswered new n (given_at after n)) (sym here.1) (come_there now place before after new (began_here place old new e) comes (cases_lt place (length before)))
-at_one now place q before after old new e comes so_far (inr elsewhere) =
-    subst (λ (g : Given). IsAnswered new q g) (sym (comes.others q elsewhere.1)) (began_elsewhere place q old new e elsewhere.1 ∙ so_far q)
+at_one : (now place q : ℕ) (before after : List Asker) (old mid new : List Passage) → mid ≡ old ++ Began (AskerAt place) ∷ [] → ((line : Line) → wrote_over new line ≡ wrote_over mid line) → Comes now place before after
+    → AreAnswered old before → ((eqb q place ≡ true) × (q ≡ place)) ⊎ ((eqb q place ≡ false) × (q ≢ place)) → IsAnswered new q (given_at after q)
+at_one now place q before after old mid new e silent comes so_far (inl here) =
+    subst (λ (n : ℕ). IsAnswered new n (given_at after n)) (sym here.1) (come_there now place before after new (silent (AskerAt place) ∙ began_here place old mid e) comes (cases_lt place (length before)))
+at_one now place q before after old mid new e silent comes so_far (inr elsewhere) =
+    subst (λ (g : Given). IsAnswered new q g) (sym (comes.others q elsewhere.1)) (silent (AskerAt q) ∙ (began_elsewhere place q old mid e elsewhere.1 ∙ so_far q))
 
-pub one_accepted : (now place : ℕ) (before after : List Asker) (old new : List Passage) → new ≡ old ++ Began (AskerAt place) ∷ [] → Comes now place before after → Accepts now 1 before after old new
-one_accepted now place before after old new e comes = record {
-  places = place ∷ [];
-  within = omega arith;
-  arrivals = (after, (comes, (e, refl)));
-  others = keeps_began place old new e;
-  answered = λ so_far q. at_one now place q before after old new e comes so_far (eqb_tells q place);
-}
+-- and where there is no place for him he is let go of
+pub one_accepted : (now place : ℕ) (is_there : Bool) (before after : List Asker) (old mid new : List Passage) → is_there ≡ nat_lt place (length before) → mid ≡ old ++ Began (AskerAt place) ∷ []
+    → new ≡ mid ++ closed_by is_there place → Comes now place before after → Accepts now 1 before after old new
+one_accepted now place is_there before after old mid new there e closes comes =
+    let closed = closed_beyond is_there place mid new closes in
+    record {
+      places = place ∷ [];
+      within = omega arith;
+      arrivals = (
+        after,
+        (
+          comes,
+          (
+            closes
+                ∙ (ap (λ (ps : List Passage). ps ++ closed_by is_there place) e
+                ∙ (append_assoc old (Began (AskerAt place) ∷ []) (closed_by is_there place)
+                ∙ ap (λ (b : Bool). old ++ Began (AskerAt place) ∷ closed_by b place) there)),
+            refl,
+          ),
+        ),
+      );
+      others = keeps_on old mid new (keeps_one (Began (AskerAt place)) old mid refl e) closed.0;
+      answered = λ so_far q. at_one now place q before after old mid new e closed.1 comes so_far (eqb_tells q place);
+    }
 
 -- ---- several
 
@@ -52,7 +69,7 @@ arrivals_on : (now : ℕ) (places more : List ℕ) (one two three : List Asker) 
 arrivals_on now [] more one two three a b c here then_on =
     subst (λ (askers : List Asker). Arrivals now more askers three a c) here.1 (subst (λ (ps : List Passage). Arrivals now more two three ps c) here.0 then_on)
 arrivals_on now (place ∷ places) more one two three a b c here then_on =
-    (here.0, (here.1.0, arrivals_on now places more here.0 two three (a ++ Began (AskerAt place) ∷ []) b c here.1.1 then_on))
+    (here.0, (here.1.0, arrivals_on now places more here.0 two three (a ++ arrived one place) b c here.1.1 then_on))
 
 pub accepted_on : (now most : ℕ) (one two three : List Asker) (a b c : List Passage) → Accepts now most one two a b → Accepts now 1 two three b c → Accepts now (most + 1) one three a c
 accepted_on now most one two three a b c first then_on = record {
@@ -119,3 +136,13 @@ line_at_one now place q before after old new serves (inr elsewhere) = ap (λ (g 
 
 pub lines_stay : (now place : ℕ) (before after : List Asker) (old new : List Passage) → Serves now place before after old new → (q : ℕ) → (given_at after q).line ≡ (given_at before q).line
 lines_stay now place before after old new serves q = line_at_one now place q before after old new serves (eqb_tells q place)
+
+served_where : (now place q : ℕ) (before after : List Asker) (old new : List Passage) → Serves now place before after old new → ((at : ℕ) → at < place → IsServed now (given_at before at)) → q < place + 1
+    → ((eqb q place ≡ true) × (q ≡ place)) ⊎ ((eqb q place ≡ false) × (q ≢ place)) → IsServed now (given_at after q)
+served_where now place q before after old new serves so_far within (inl here) = subst (λ (n : ℕ). IsServed now (given_at after n)) (sym here.1) serves.served
+served_where now place q before after old new serves so_far within (inr elsewhere) =
+    subst (λ (g : Given). IsServed now g) (sym (serves.others q elsewhere.1)) (so_far q (omega (arith, within, elsewhere.1)))
+
+pub served_below : (now place : ℕ) (before after : List Asker) (old new : List Passage) → Serves now place before after old new → ((at : ℕ) → at < place → IsServed now (given_at before at)) → (q : ℕ) → q < place + 1
+    → IsServed now (given_at after q)
+served_below now place before after old new serves so_far q within = served_where now place q before after old new serves so_far within (eqb_tells q place)

@@ -1,8 +1,7 @@
 -- What is at a place where one of the askers is another.
-use Rattle.std.proofs.Common.{◌≡◌, ◌≢◌, ℕ, zero, suc, ◌<◌, List, [], ◌∷◌, ◌++◌, map, set, get_or, length, take, refl, subst, sym, ap, ◌∙◌}
+use Rattle.std.proofs.Common.{◌≡◌, ◌≢◌, ℕ, zero, suc, ◌<◌, List, [], ◌∷◌, ◌++◌, map, set, get_or, length, refl, subst, sym, ap, ◌∙◌}
 use Rattle.std.proofs.lemmas.List.{get_or-set_same, get_or-set_other, get_or-map, map-set, length-map}
 use Rattle.node_status.specs.declared.asker.Asker.{Asker}
-use Rattle.node_wires.specs.Passages.{Passage}
 use Rattle.node_status.specs.Asking.{IsAnswered, AreAnswered}
 use Rattle.node_status.specs.Given.{Given, given_of, given_at, nobody}
 

@@ -1,10 +1,10 @@
 -- What is written to those who ask, call by call.
-use Rattle.std.specs.Prelude.{◌≡◌, ◌≢◌, ◌⊎◌, ℕ, ◌<◌, ◌≤◌, Bool, true, false, List, [], ◌∷◌, ◌++◌, take, length, Result, Ok, Err}
+use Rattle.std.specs.Prelude.{◌≡◌, ◌≢◌, ◌⊎◌, ℕ, ◌<◌, ◌≤◌, nat_lt, Bool, true, false, List, [], ◌∷◌, ◌++◌, take, length, Result, Ok, Err}
 use Rattle.std.specs.declared.alloc.AllocError.{AllocError}
 use Rattle.node_wires.specs.declared.line.Line.{Line}
 use Rattle.node_wires.specs.declared.line.Line.TheVariants.{Peer, Caller, Seat, Guest, Asker as AskerAt}
 use Rattle.node_wires.specs.declared.limits.TheConstants.{ASKERS}
-use Rattle.node_wires.specs.Passages.{Passage, Began, came_over, wrote_over, seats_in, logged_in}
+use Rattle.node_wires.specs.Passages.{Passage, Began, Came, Wrote, Gave, Logged, Tried, Ended, Closed, Saw, Waited, Called, came_over, wrote_over, seats_in, logged_in}
 use Rattle.node_status.specs.declared.asker.Asker.{Asker}
 use Rattle.node_status.specs.Given.{Given, given_at, come_at, with_line, IsServed}
 
@@ -22,8 +22,29 @@ is_asker (Caller place) = false
 is_asker (Seat number) = false
 is_asker (Guest place) = false
 
+-- one who asks came, was written to, perhaps in vain, or let go of: nothing is read of him, and it isn't waited for him
+abbrev pub IsOfAskers : Passage → Type 0
+IsOfAskers (Began line) = is_asker line ≡ true
+IsOfAskers (Came line bytes) = ⊥
+IsOfAskers (Wrote line bytes) = is_asker line ≡ true
+IsOfAskers (Gave place seat) = ⊥
+IsOfAskers (Logged text) = ⊥
+IsOfAskers (Tried line way) = is_asker line ≡ true
+IsOfAskers (Ended line way) = is_asker line ≡ true
+IsOfAskers (Closed line) = is_asker line ≡ true
+IsOfAskers (Saw moment) = ⊥
+IsOfAskers (Waited most) = ⊥
+IsOfAskers Called = ⊥
+
+abbrev pub AreOfAskers : List Passage → Type 0
+AreOfAskers [] = Unit {0}
+AreOfAskers (p ∷ more) = IsOfAskers p × AreOfAskers more
+
 -- over no line of others anything passed, and the log got nothing
 pub record KeepsOthers (old new : List Passage) : Type 0 where
+  pub more : List Passage
+  pub passed : new ≡ old ++ more
+  pub of_askers : AreOfAskers more
   pub wrote : (line : Line) → is_asker line ≡ false → wrote_over new line ≡ wrote_over old line
   pub came : (line : Line) → is_asker line ≡ false → came_over new line ≡ came_over old line
   pub seats : seats_in new ≡ seats_in old
@@ -43,10 +64,18 @@ pub record Comes (now place : ℕ) (before after : List Asker) : Type 0 where
   pub beyond : length before ≤ place → given_at after place ≡ given_at before place
   pub others : (other : ℕ) → other ≢ place → given_at after other ≡ given_at before other
 
+-- who comes where there is no place for him is let go of
+abbrev pub closed_by : Bool → ℕ → List Passage
+closed_by true place = []
+closed_by false place = Closed (AskerAt place) ∷ []
+
+abbrev pub arrived : List Asker → ℕ → List Passage
+arrived before place = Began (AskerAt place) ∷ closed_by (nat_lt place (length before)) place
+
 -- these came one after another, each to his place, and nothing else changed
 abbrev pub Arrivals : ℕ → List ℕ → List Asker → List Asker → List Passage → List Passage → Type 0
 Arrivals now [] before after old new = (new ≡ old) × (after ≡ before)
-Arrivals now (place ∷ more) before after old new = (between : List Asker) × (Comes now place before between × Arrivals now more between after (old ++ Began (AskerAt place) ∷ []) new)
+Arrivals now (place ∷ more) before after old new = (between : List Asker) × (Comes now place before between × Arrivals now more between after (old ++ arrived before place) new)
 
 -- so many came at most
 pub record Accepts (now most : ℕ) (before after : List Asker) (old new : List Passage) : Type 0 where

@@ -88,6 +88,7 @@ impl Asker {
     }
 
     /// Writes what there is room for of his line, and lets go of him where he has all of it, or takes too long.
+    #[tactic(auto, using(crate::proofs::Passing::nothing_written))]
     pub(crate) fn serve<W: Wire>(&mut self, wire: &mut W, place: u8, now: u64)
         ensures wrote { Writes place (given_of self.old) (given_of self.new) (W.passed wire.old) (W.passed wire.new) }
         ensures served { IsServed now (given_of self.new) }

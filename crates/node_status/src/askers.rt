@@ -1,6 +1,6 @@
 //! Those who ask how the node is.
 
-ghost use Rattle.std.specs.Prelude.{◌≡◌, ◌<◌, ℕ, [], vec_len, IfOk};
+ghost use Rattle.std.specs.Prelude.{◌≡◌, ◌<◌, ℕ, nat_lt, length, [], vec_len, IfOk};
 
 use crate::asker::Asker;
 use node_wires::limits::ASKERS;
@@ -38,7 +38,8 @@ impl Askers {
     /// One came to this place. False where there is no such place.
     #[tactic(auto, using(crate::proofs::Places::given_here, crate::proofs::Places::given_elsewhere))]
     fn come(&mut self, place: u8, now: u64) -> bool
-        ensures { Comes now place self.old.askers.items self.new.askers.items }
+        ensures comes { Comes now place self.old.askers.items self.new.askers.items }
+        ensures there { result ≡ nat_lt place (length self.old.askers.items) }
     {
         match self.askers.get_mut(place as usize) {
             Some(asker) => {

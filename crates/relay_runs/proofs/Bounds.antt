@@ -1,11 +1,10 @@
 -- Few bytes wait to be written, call by call.
-use Rattle.std.proofs.Common.{◌≡◌, ◌⊎◌, ℕ, ◌+◌, ◌<◌, ◌≤◌, Bool, true, false, if◌then◌else◌, List, [], ◌∷◌, ◌++◌, append_assoc, append-nil, length, inl, inr, None, refl, ap, sym, subst, ◌∙◌, arith}
-use Rattle.byte_queue.specs.Queued.{Queued}
+use Rattle.std.proofs.Common.{◌≡◌, ◌⊎◌, ℕ, ◌+◌, ◌<◌, ◌≤◌, Bool, true, false, List, [], ◌∷◌, ◌++◌, append_assoc, append-nil, length, inl, inr, None, refl, ap, sym, subst, ◌∙◌, arith}
 use Rattle.seat_relay.specs.Relaying.{Standing, Event, Story, after, with_event}
 use Rattle.seat_relay.specs.Laws.{fresh}
 use Rattle.relay_runs.specs.declared.desk.Desk.{Desk}
 use Rattle.relay_runs.specs.declared.opening.Opening.{Opening}
-use Rattle.relay_runs.specs.Said.{ended, greeting, asks, asked_by, asked_over, first_of, said_over, begins_at, over_by, over_behind, waits_at, AreEmpty, first_over}
+use Rattle.relay_runs.specs.Said.{ended, greeting, asks, asked_by, asked_over, first_of, said_over, begins_at, over_by, waits_at, AreEmpty, first_over}
 use Rattle.relay_runs.specs.Few.{last_said, IsTail, IsFew}
 use Rattle.relay_runs.proofs.Hearing.{joined_len}
 use Rattle.relay_runs.proofs.Happening.{asked_more, asked_begins, asked_stays, more_over, over_more, over_is, over_begins}

@@ -1,12 +1,11 @@
 -- What a bot has whose relay ends since the match is over.
-use Rattle.std.proofs.Common.{◌≡◌, ℕ, Bool, true, false, List, [], ◌++◌, append-nil, refl, ap, sym, ◌∙◌}
+use Rattle.std.proofs.Common.{◌≡◌, ℕ, Bool, true, false, List, [], ◌++◌, append-nil, ap, sym, ◌∙◌}
 use Rattle.node_wires.specs.declared.line.Line.TheVariants.{Seat}
-use Rattle.node_wires.specs.Passages.{Passage, wrote_over}
+use Rattle.node_wires.specs.Passages.{wrote_over}
 use Rattle.seat_relay.specs.Relaying.{Line}
 use Rattle.seat_relay.specs.Laws.{IsAllOf, OverIsTheEnd}
-use Rattle.relay_runs.specs.declared.desk.Desk.{Desk}
 use Rattle.relay_runs.specs.Said.{bytes_of_lines, lines_given}
-use Rattle.relay_runs.specs.Ending.{IsOver, IsWritten, WholeMatchesAreWritten}
+use Rattle.relay_runs.specs.Ending.{IsWritten, WholeMatchesAreWritten}
 use Rattle.relay_runs.proofs.Courses.{courses_explain}
 
 -- with nothing that waits all was written

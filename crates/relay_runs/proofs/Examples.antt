@@ -6,7 +6,8 @@ use Rattle.seat_relay.specs.declared.mode.Mode.{Mode}
 use Rattle.seat_relay.specs.Relaying.{Line, Story, Event, Begins, Ends, Tells, Says, Pushes, happens, answered, all_given}
 use Rattle.seat_relay.specs.Laws.{fresh, begun, Word, Shows, Over, words_over}
 use Rattle.node_wires.specs.declared.line.Line.TheVariants.{Peer, Seat, Guest}
-use Rattle.node_wires.specs.Passages.{Passage, Began, Came, Wrote, came_over}
+use Rattle.node_wires.specs.declared.way.Way.TheVariants.{Writing}
+use Rattle.node_wires.specs.Passages.{Passage, Began, Came, Wrote, Tried, Closed, Saw, Waited, Called, came_over}
 use Rattle.relay_runs.specs.declared.desk.Desk.{Desk}
 use Rattle.relay_runs.specs.Since.{since_bot, bots_in, begun_over}
 use Rattle.relay_runs.specs.Said.{bytes_of_lines, token_line, greeting, asks, asked_behind, asked_over, over_behind, said_over, waits_at}
@@ -49,6 +50,13 @@ of_its_own_node = refl
 
 the_bots_line_and_nodes : AllByRecursion IsOwn (Came (Seat 0) (7 ∷ []) ∷ Began (Peer 2) ∷ Wrote (Peer 2) (8 ∷ []) ∷ [])
 the_bots_line_and_nodes = (refl, (refl, (refl, tt)))
+
+-- a turn: it is waited, the bot has no room, and a node is hung up
+nothing_of_others_in_a_turn : AllByRecursion IsOwn (Saw 1 ∷ Waited 5 ∷ Saw 6 ∷ Tried (Seat 0) Writing ∷ Closed (Peer 2) ∷ [])
+nothing_of_others_in_a_turn = (tt, (tt, (tt, (refl, (refl, tt)))))
+
+no_node_is_called : IsOwn Called → ⊥
+no_node_is_called own = own
 
 no_guests_line : IsOwn (Wrote (Guest 0) (7 ∷ [])) → ⊥
 no_guests_line own = cc

@@ -1,5 +1,5 @@
 -- What one event more adds to what a bot is given, and to what a node is answered.
-use Rattle.std.proofs.Common.{◌≡◌, ℕ, ◌+◌, ◌==◌, ◌||◌, Bool, true, false, if◌then◌else◌, List, [], ◌∷◌, ◌++◌, append_assoc, append-nil, Option, Some, refl, ap, sym, subst, ◌∙◌, arith}
+use Rattle.std.proofs.Common.{◌≡◌, ℕ, ◌+◌, ◌==◌, Bool, true, false, if◌then◌else◌, List, [], ◌∷◌, ◌++◌, append_assoc, append-nil, Option, Some, refl, ap, sym, ◌∙◌, arith}
 use Rattle.seat_relay.specs.Relaying.{Line, Standing, Event, Begins, Ends, Tells, Closes, Says, Pushes, happens, after, answered, given, all_given}
 use Rattle.seat_relay.specs.Laws.{begun}
 use Rattle.relay_runs.specs.Said.{ended, bytes_of_lines, bytes_of_answers, asks, asked_by, asked_behind, over_by, over_behind, begins_at}

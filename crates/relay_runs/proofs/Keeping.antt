@@ -4,16 +4,19 @@ use Rattle.std.proofs.lemmas.Bool.{cases_eq, eq-eqb, ne_eqb, false≢true}
 use Rattle.byte_queue.specs.Queued.{Queued}
 use Rattle.node_wires.specs.declared.line.Line.{Line as Wire}
 use Rattle.node_wires.specs.declared.line.Line.TheVariants.{Peer, Seat}
-use Rattle.node_wires.specs.Passages.{Passage, Began, Came, Wrote, wrote_over}
+use Rattle.node_wires.specs.declared.way.Way.{Way}
+use Rattle.node_wires.specs.declared.way.Way.TheVariants.{Reading, Writing}
+use Rattle.node_wires.specs.declared.halt.Halt.TheVariants as halts
+use Rattle.node_wires.specs.Passages.{Passage, Began, Came, Wrote, Gave, Logged, Tried, Ended, Closed, Saw, Waited, Called, came_over, came_by, wrote_over, wrote_by}
 use Rattle.seat_relay.specs.declared.mode.Mode.{Mode}
 use Rattle.seat_relay.specs.Relaying.{Line, Standing, Event, Begins, Ends, Tells, Closes, Says, Pushes, Story, after, answered, given, all_given, with_event, is_given, is_even, link_at}
 use Rattle.seat_relay.specs.Laws.{fresh, begun}
 use Rattle.relay_runs.specs.declared.desk.Desk.{Desk}
 use Rattle.relay_runs.specs.declared.opening.Opening.{Opening}
 use Rattle.relay_runs.specs.Since.{is_taken_in, since_bot, bots_in, begins_there, begun_over}
-use Rattle.relay_runs.specs.Said.{ended, bytes_of_lines, bytes_of_answers, greeting, asks, asked_behind, asked_over, first_of, lines_given, said_over, begins_at, over_by, over_behind, waits_at, AreEmpty, first_over, IsSaid, Reads, Writes}
+use Rattle.relay_runs.specs.Said.{ended, bytes_of_lines, bytes_of_answers, greeting, asks, asked_behind, asked_over, first_of, lines_given, said_over, begins_at, over_by, over_behind, waits_at, AreEmpty, first_over, IsSaid, Halts, Reads, Writes}
 use Rattle.relay_runs.specs.Heard.{IsHeard}
-use Rattle.relay_runs.specs.Own.{was_dialled, IsNoneDialled, IsOwned}
+use Rattle.relay_runs.specs.Own.{is_own, IsOwn, was_dialled, IsNoneDialled, IsOwned}
 use Rattle.relay_runs.specs.Few.{IsTail, IsFew}
 use Rattle.relay_runs.specs.Course.{Explains, ComesBehind, IsNext, Course}
 use Rattle.relay_runs.specs.Kept.{GoesOn, BeginsAnew, IsMode, are_mended, FirstStands, Keeps, Stays}
@@ -158,6 +161,122 @@ kept_idle a b x y hello mended dialled relay bot to_nodes from_nodes from_bot ov
 same_count : (x : List Passage) (p : Passage) (node : ℕ) → begins_there (Peer node) p ≡ false → begun_over (x ++ p ∷ []) (Peer node) ≡ begun_over x (Peer node)
 same_count x p node isnt = more_begun x (x ++ p ∷ []) p (Peer node) refl ∙ (ap (λ (t : Bool). begun_over x (Peer node) + (if t then 1 else 0)) isnt ∙ add-zero (begun_over x (Peer node)))
 
+-- ---- what moves nothing
+
+-- a read or a write that is halted, a connection that is closed, a look at the clock, a wait
+abbrev IsIdle : Passage → Type 0
+IsIdle (Began line) = ⊥
+IsIdle (Came line bytes) = ⊥
+IsIdle (Wrote line bytes) = ⊥
+IsIdle (Gave place seat) = ⊥
+IsIdle (Logged text) = ⊥
+IsIdle (Tried line way) = is_own line ≡ true
+IsIdle (Ended line way) = is_own line ≡ true
+IsIdle (Closed line) = is_own line ≡ true
+IsIdle (Saw moment) = Unit {0}
+IsIdle (Waited most) = Unit {0}
+IsIdle Called = ⊥
+
+idle_taken : (p : Passage) → IsIdle p → is_taken_in p ≡ false
+idle_taken (Began at) is = absurd is
+idle_taken (Came at bytes) is = absurd is
+idle_taken (Wrote at bytes) is = absurd is
+idle_taken (Gave place seat) is = absurd is
+idle_taken (Logged text) is = absurd is
+idle_taken (Tried at way) is = refl
+idle_taken (Ended at way) is = refl
+idle_taken (Closed at) is = refl
+idle_taken (Saw moment) is = refl
+idle_taken (Waited most) is = refl
+idle_taken Called is = absurd is
+
+idle_begins : (line : Wire) (p : Passage) → IsIdle p → begins_there line p ≡ false
+idle_begins line (Began at) is = absurd is
+idle_begins line (Came at bytes) is = absurd is
+idle_begins line (Wrote at bytes) is = absurd is
+idle_begins line (Gave place seat) is = absurd is
+idle_begins line (Logged text) is = absurd is
+idle_begins line (Tried at way) is = refl
+idle_begins line (Ended at way) is = refl
+idle_begins line (Closed at) is = refl
+idle_begins line (Saw moment) is = refl
+idle_begins line (Waited most) is = refl
+idle_begins line Called is = absurd is
+
+idle_own : (p : Passage) → IsIdle p → IsOwn p
+idle_own (Began at) is = absurd is
+idle_own (Came at bytes) is = absurd is
+idle_own (Wrote at bytes) is = absurd is
+idle_own (Gave place seat) is = absurd is
+idle_own (Logged text) is = absurd is
+idle_own (Tried at way) is = is
+idle_own (Ended at way) is = is
+idle_own (Closed at) is = is
+idle_own (Saw moment) is = tt
+idle_own (Waited most) is = tt
+idle_own Called is = absurd is
+
+idle_wrote : (line : Wire) (before : List ℕ) (p : Passage) → IsIdle p → wrote_by line before p ≡ before
+idle_wrote line before (Began at) is = absurd is
+idle_wrote line before (Came at bytes) is = absurd is
+idle_wrote line before (Wrote at bytes) is = absurd is
+idle_wrote line before (Gave place seat) is = absurd is
+idle_wrote line before (Logged text) is = absurd is
+idle_wrote line before (Tried at way) is = refl
+idle_wrote line before (Ended at way) is = refl
+idle_wrote line before (Closed at) is = refl
+idle_wrote line before (Saw moment) is = refl
+idle_wrote line before (Waited most) is = refl
+idle_wrote line before Called is = absurd is
+
+idle_came : (line : Wire) (before : List ℕ) (p : Passage) → IsIdle p → came_by line before p ≡ before
+idle_came line before (Began at) is = absurd is
+idle_came line before (Came at bytes) is = absurd is
+idle_came line before (Wrote at bytes) is = absurd is
+idle_came line before (Gave place seat) is = absurd is
+idle_came line before (Logged text) is = absurd is
+idle_came line before (Tried at way) is = refl
+idle_came line before (Ended at way) is = refl
+idle_came line before (Closed at) is = refl
+idle_came line before (Saw moment) is = refl
+idle_came line before (Waited most) is = refl
+idle_came line before Called is = absurd is
+
+idle_behind : (desk : Desk) (p : Passage) → IsIdle p → ComesBehind desk p
+idle_behind desk (Began at) is = absurd is
+idle_behind desk (Came at bytes) is = absurd is
+idle_behind desk (Wrote at bytes) is = absurd is
+idle_behind desk (Gave place seat) is = absurd is
+idle_behind desk (Logged text) is = absurd is
+idle_behind desk (Tried at way) is = tt
+idle_behind desk (Ended at way) is = tt
+idle_behind desk (Closed at) is = tt
+idle_behind desk (Saw moment) is = tt
+idle_behind desk (Waited most) is = tt
+idle_behind desk Called is = absurd is
+
+-- the desk stays
+pub kept_rest : (a : Desk) (x y : List Passage) (p : Passage) → IsIdle p → y ≡ x ++ p ∷ [] → Keeps a a x y
+kept_rest a x y p is f =
+    let z : List Passage = since_bot x in
+    let wrote : (line : Wire) → wrote_over (z ++ p ∷ []) line ≡ wrote_over z line = λ line. write_behind line [] z p ∙ idle_wrote line (wrote_over z line) p is in
+    kept_passing a a x y p f (idle_taken p is)
+    (steps_by a a z (z ++ p ∷ []) (Some p) refl (λ node. same_count z p node (idle_begins (Peer node) p is)) refl refl refl
+    (ap (λ (l : List ℕ). l ++ a.to_bot.waiting) (wrote (Seat 0)))
+    (λ node. ap (λ (l : List ℕ). l ++ waits_at a.to_nodes.items node) (wrote (Peer node)))
+    (heard_alike a a z (z ++ p ∷ []) refl refl (λ at. came_more at [] z p ∙ idle_came at (came_over z at) p is) refl refl refl refl)
+    (owned_more a a z p refl refl (idle_own p is) (λ node. idle_begins (Peer node) p is) (λ node. inr (idle_came (Peer node) [] p is, idle_wrote (Peer node) [] p is)))
+    (idle_behind a p is) (λ few. few))
+
+kept_halted : (a : Desk) (x y : List Passage) (way : Way) (line : Wire) → is_own line ≡ true → Halts way line x y → Keeps a a x y
+kept_halted a x y way line own (inl f) = kept_same a a x y refl f
+kept_halted a x y way line own (inr (halts.Later, f)) = kept_rest a x y (Tried line way) own f
+kept_halted a x y way line own (inr (halts.Ended, f)) = kept_rest a x y (Ended line way) own f
+
+-- behind what leaves all as it is
+then_rest : (a b : Desk) (x y : List Passage) → Keeps a b x x → Keeps b b x y → Keeps a b x y
+then_rest a b x y one two = kept_on a b b x x y one two
+
 pub kept_to_bot : (a b : Desk) (x y : List Passage) → b.opening ≡ a.opening → b.mended ≡ a.mended → b.dialled.items ≡ a.dialled.items → b.relay ≡ a.relay → b.to_nodes.items ≡ a.to_nodes.items → b.from_nodes.items ≡ a.from_nodes.items
     → b.from_bot.waiting ≡ a.from_bot.waiting → b.passes_over ≡ a.passes_over → b.is_seated ≡ a.is_seated → Writes (Seat 0) a.to_bot.waiting b.to_bot.waiting x y → Keeps a b x y
 kept_to_bot a b x y hello mended dialled relay queues from_nodes from_bot over seat (inl wrote) =
@@ -173,7 +292,7 @@ kept_to_bot a b x y hello mended dialled relay queues from_nodes from_bot over s
     (owned_more a b z p dialled seat refl (λ node. refl) (λ node. inr (refl, refl))) tt
     (few_alike a b hello relay (behind_piece _ _ piece wrote.1) (λ node. tail_same _ _ (ap (λ (qs : List Queued). waits_at qs node) queues))))
 kept_to_bot a b x y hello mended dialled relay queues from_nodes from_bot over seat (inr none) =
-    subst (Keeps a b x) (sym none.1) (kept_alike a b x hello mended dialled relay none.0 queues from_nodes from_bot over seat)
+    then_rest a b x y (kept_alike a b x hello mended dialled relay none.0 queues from_nodes from_bot over seat) (kept_halted b x y Writing (Seat 0) refl none.1)
 
 -- the queue of a node that was put back as it was
 put_back : (a b : Desk) (node : ℕ) (queue : Queued) → b.to_nodes.items ≡ set a.to_nodes.items node queue → node < length a.to_nodes.items → queue.waiting ≡ waits_at a.to_nodes.items node
@@ -214,7 +333,8 @@ kept_to_node a b x y node queue is hello mended dialled relay bot queues within 
     (owned_wrote a b z node piece dialled seat is) tt
     (few_alike a b hello relay (as_long _ _ bot) (tails_wrote a b node queue piece queues within wrote.1)))
 kept_to_node a b x y node queue is hello mended dialled relay bot queues within from_nodes from_bot over seat (inr none) =
-    kept_idle a b x y hello mended dialled relay bot (put_back a b node queue queues within none.0) (λ other. ap (λ (qs : List Queued). waits_at qs other) from_nodes) from_bot over seat none.1
+    then_rest a b x y (kept_idle a b x x hello mended dialled relay bot (put_back a b node queue queues within none.0) (λ other. ap (λ (qs : List Queued). waits_at qs other) from_nodes) from_bot over seat refl)
+    (kept_halted b x y Writing (Peer node) refl none.1)
 
 -- ---- a read
 
@@ -233,7 +353,7 @@ kept_read_bot a b x y hello mended dialled relay bot queues from_nodes over seat
     (steps_read a b (since_bot x) (Seat 0) came.0 hello mended relay bot queues (heard_read_bot a b (since_bot x) came.0 mended relay from_nodes over seat came.1 came.3.short came.4)
     (owned_more a b (since_bot x) (Came (Seat 0) came.0) dialled seat refl (λ node. refl) (λ node. inr (refl, refl))) came.3)
 kept_read_bot a b x y hello mended dialled relay bot queues from_nodes over seat (inr none) =
-    subst (Keeps a b x) (sym none.1) (kept_alike a b x hello mended dialled relay bot queues from_nodes none.0 over seat)
+    then_rest a b x y (kept_alike a b x hello mended dialled relay bot queues from_nodes none.0 over seat) (kept_halted b x y Reading (Seat 0) refl none.1)
 
 pub kept_read_node : (a b : Desk) (x y : List Passage) (node : ℕ) (queue : Queued) → was_dialled a.dialled.items node ≡ true → b.opening ≡ a.opening → b.mended ≡ a.mended → b.dialled.items ≡ a.dialled.items → b.relay ≡ a.relay → b.to_bot.waiting ≡ a.to_bot.waiting
     → b.to_nodes.items ≡ a.to_nodes.items → b.from_nodes.items ≡ set a.from_nodes.items node queue → node < length a.from_nodes.items → b.from_bot.waiting ≡ a.from_bot.waiting → b.passes_over ≡ a.passes_over → b.is_seated ≡ a.is_seated
@@ -243,8 +363,10 @@ kept_read_node a b x y node queue is hello mended dialled relay bot queues from_
     (steps_read a b (since_bot x) (Peer node) came.0 hello mended relay bot queues (heard_read_node a b (since_bot x) node queue came.0 mended relay from_nodes within from_bot over seat came.1 came.3.short came.4)
     (owned_came a b (since_bot x) node came.0 dialled seat is) came.3)
 kept_read_node a b x y node queue is hello mended dialled relay bot queues from_nodes within from_bot over seat (inr none) =
-    kept_idle a b x y hello mended dialled relay bot (λ other. ap (λ (qs : List Queued). waits_at qs other) queues)
-    (λ other. ap (λ (qs : List Queued). waits_at qs other) from_nodes ∙ set_back a.from_nodes.items node queue within none.0 other) from_bot over seat none.1
+    then_rest a b x y
+    (kept_idle a b x x hello mended dialled relay bot (λ other. ap (λ (qs : List Queued). waits_at qs other) queues)
+    (λ other. ap (λ (qs : List Queued). waits_at qs other) from_nodes ∙ set_back a.from_nodes.items node queue within none.0 other) from_bot over seat refl)
+    (kept_halted b x y Reading (Peer node) refl none.1)
 
 -- ---- an event
 
@@ -313,10 +435,16 @@ kept_silent a b x e story follows hello mended dialled bot queues none no_more i
     (λ node is_it. absurd (false≢true (sym (isnt node) ∙ is_it))) f))
 
 pub kept_ends : (a b : Desk) (x y : List Passage) (node : ℕ) → b.relay ≡ with_event a.relay (Ends node) → a.relay.standing ≡ after (fresh a.relay.mode a.relay.nodes) a.relay.events → b.opening ≡ a.opening → b.mended ≡ a.mended → b.dialled.items ≡ a.dialled.items
-    → b.to_bot.waiting ≡ a.to_bot.waiting → b.to_nodes.items ≡ a.to_nodes.items → y ≡ x → b.is_seated ≡ a.is_seated → (IsHeard a (since_bot x) → IsHeard b (since_bot x)) → Keeps a b x y
+    → b.to_bot.waiting ≡ a.to_bot.waiting → b.to_nodes.items ≡ a.to_nodes.items → y ≡ x ++ Closed (Peer node) ∷ [] → b.is_seated ≡ a.is_seated → (IsHeard a (since_bot x) → IsHeard b (since_bot x)) → Keeps a b x y
 kept_ends a b x y node story follows hello mended dialled bot queues f seat heard =
-    subst (Keeps a b x) (sym f)
-    (kept_silent a b x (Ends node) story follows hello mended dialled bot (λ n. ap (λ (qs : List Queued). waits_at qs n) queues) refl (λ n. refl) (λ n. refl) seat heard)
+    then_rest a b x y (kept_silent a b x (Ends node) story follows hello mended dialled bot (λ n. ap (λ (qs : List Queued). waits_at qs n) queues) refl (λ n. refl) (λ n. refl) seat heard)
+    (kept_rest b x y (Closed (Peer node)) refl f)
+
+-- the bot's connection is closed
+pub kept_closed : (a b : Desk) (x y : List Passage) → b.opening ≡ a.opening → b.mended ≡ a.mended → b.dialled.items ≡ a.dialled.items → b.relay ≡ a.relay → b.to_bot.waiting ≡ a.to_bot.waiting
+    → b.to_nodes.items ≡ a.to_nodes.items → b.from_nodes.items ≡ a.from_nodes.items → b.from_bot.waiting ≡ a.from_bot.waiting → b.passes_over ≡ a.passes_over → b.is_seated ≡ a.is_seated → y ≡ x ++ Closed (Seat 0) ∷ [] → Keeps a b x y
+kept_closed a b x y hello mended dialled relay bot to_nodes from_nodes from_bot over seat f =
+    then_rest a b x y (kept_alike a b x hello mended dialled relay bot to_nodes from_nodes from_bot over seat) (kept_rest b x y (Closed (Seat 0)) refl f)
 
 pub kept_says : (a b : Desk) (x : List Passage) (text : List ℕ) → b.relay ≡ with_event a.relay (Says text) → a.relay.standing ≡ after (fresh a.relay.mode a.relay.nodes) a.relay.events → b.opening ≡ a.opening → b.mended ≡ a.mended → b.dialled.items ≡ a.dialled.items
     → b.to_bot.waiting ≡ a.to_bot.waiting → b.to_nodes.items ≡ a.to_nodes.items → b.is_seated ≡ a.is_seated → (IsHeard a (since_bot x) → IsHeard b (since_bot x)) → Keeps a b x x

@@ -4,7 +4,9 @@ use Rattle.std.proofs.lemmas.List.{take-append-drop}
 use Rattle.std.proofs.lemmas.Bool.{eq-eqb}
 use Rattle.node_wires.specs.declared.line.Line.{Line}
 use Rattle.node_wires.specs.declared.line.Line.TheVariants.{Peer, Caller, Seat, Guest, Asker}
-use Rattle.node_wires.specs.Passages.{Passage, Came, Wrote, is_line, came_by, came_behind, wrote_by, wrote_behind}
+use Rattle.node_wires.specs.declared.way.Way.TheVariants.{Reading, Writing}
+use Rattle.node_wires.specs.declared.halt.Halt.{Halt}
+use Rattle.node_wires.specs.Passages.{Passage, Came, Wrote, halted_as, is_line, came_by, came_behind, wrote_by, wrote_behind}
 use Rattle.relay_runs.specs.Since.{is_taken_in, since_by, since_behind, since_bot, bots_in, begins_there, begun_over}
 use Rattle.relay_runs.specs.Said.{IsBeginning, Reads, Writes}
 
@@ -29,14 +31,20 @@ own_line (Asker n) = own_number n
 -- ---- one call of a wire
 
 pub nothing_written : (line : Line) (old new : List ℕ) (x y : List Passage) → new ≡ old → y ≡ x → Writes line old new x y
-nothing_written line old new x y e f = inr (e, f)
+nothing_written line old new x y e f = inr (e, inl f)
+
+pub written_in_vain : (line : Line) (halt : Halt) (old new : List ℕ) (x y : List Passage) → new ≡ old → y ≡ x ++ halted_as Writing line halt ∷ [] → Writes line old new x y
+written_in_vain line halt old new x y e f = inr (e, inr (halt, f))
 
 pub some_written : (line : Line) (count : ℕ) (old bytes new : List ℕ) (x y : List Passage) → bytes ≡ old → new ≡ drop count old → y ≡ x ++ Wrote line (take count bytes) ∷ [] → Writes line old new x y
 some_written line count old bytes new x y same e f =
     inl (take count old, sym (take-append-drop count old) ∙ ap (λ (l : List ℕ). take count old ++ l) (sym e), subst (λ (w : List ℕ). y ≡ x ++ Wrote line (take count w) ∷ []) same f)
 
 pub nothing_read : (line : Line) (old new : List ℕ) (x y : List Passage) → new ≡ old → y ≡ x → Reads line old new x y
-nothing_read line old new x y e f = inr (e, f)
+nothing_read line old new x y e f = inr (e, inl f)
+
+pub read_in_vain : (line : Line) (halt : Halt) (old new : List ℕ) (x y : List Passage) → new ≡ old → y ≡ x ++ halted_as Reading line halt ∷ [] → Reads line old new x y
+read_in_vain line halt old new x y e f = inr (e, inr (halt, f))
 
 pub some_read : (line : Line) (piece old new : List ℕ) (x y : List Passage) → IsBeginning old → length piece ≤ 512 → new ≡ old ++ piece → y ≡ x ++ Came line piece ∷ [] → Reads line old new x y
 some_read line piece old new x y begins short e f = inl (piece, e, f, begins, short)

@@ -3,7 +3,7 @@ use Rattle.std.specs.Prelude.{◌≡◌, ℕ, ◌<◌, List, [], ◌∷◌, ◌+
 use Rattle.std.specs.List.{AllByRecursion}
 use Rattle.matchstate.specs.Free.{IsFreeOf}
 use Rattle.node_wires.specs.declared.line.Line.TheVariants.{Peer, Caller, Seat, Guest, Asker}
-use Rattle.node_wires.specs.Passages.{Passage, Began, Came, Wrote, Gave, Logged, came_over}
+use Rattle.node_wires.specs.Passages.{Passage, Began, Came, Wrote, Gave, Logged, Tried, Ended, Closed, Saw, Waited, Called, came_over}
 use Rattle.seat_relay.specs.Relaying.{Line, Event}
 use Rattle.seat_relay.specs.Laws.{begun}
 use Rattle.relay_runs.specs.declared.desk.Desk.{Desk}
@@ -32,6 +32,12 @@ ComesBehind desk (Came (Asker place) bytes) = Unit {0}
 ComesBehind desk (Wrote line bytes) = Unit {0}
 ComesBehind desk (Gave place seat) = Unit {0}
 ComesBehind desk (Logged text) = Unit {0}
+ComesBehind desk (Tried line way) = Unit {0}
+ComesBehind desk (Ended line way) = Unit {0}
+ComesBehind desk (Closed line) = Unit {0}
+ComesBehind desk (Saw moment) = Unit {0}
+ComesBehind desk (Waited most) = Unit {0}
+ComesBehind desk Called = Unit {0}
 
 -- one event more at most, and one passage more at most, each behind what came before; how connections begin, how the relay serves its bot, and the game by which answers are mended, stay
 pub record IsNext (old new : Desk) (passed_old passed_new : List Passage) : Type 0 where

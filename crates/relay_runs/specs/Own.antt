@@ -3,7 +3,7 @@ use Rattle.std.specs.Prelude.{◌≡◌, ℕ, ◌<◌, ◌==◌, Bool, true, fal
 use Rattle.std.specs.List.{AllByRecursion}
 use Rattle.node_wires.specs.declared.line.Line.{Line}
 use Rattle.node_wires.specs.declared.line.Line.TheVariants.{Peer, Caller, Seat, Guest, Asker}
-use Rattle.node_wires.specs.Passages.{Passage, Began, Came, Wrote, Gave, Logged, came_over, wrote_over}
+use Rattle.node_wires.specs.Passages.{Passage, Began, Came, Wrote, Gave, Logged, Tried, Ended, Closed, Saw, Waited, Called, came_over, wrote_over}
 use Rattle.relay_runs.specs.declared.desk.Desk.{Desk}
 use Rattle.relay_runs.specs.Since.{begun_over}
 
@@ -17,12 +17,19 @@ is_own (Seat number) = number == 0
 is_own (Guest place) = false
 is_own (Asker place) = false
 
+-- over such a line, or a look at the clock or a wait
 abbrev pub IsOwn : Passage → Type 0
 IsOwn (Began line) = is_own line ≡ true
 IsOwn (Came line bytes) = is_own line ≡ true
 IsOwn (Wrote line bytes) = is_own line ≡ true
 IsOwn (Gave place seat) = ⊥
 IsOwn (Logged text) = ⊥
+IsOwn (Tried line way) = is_own line ≡ true
+IsOwn (Ended line way) = is_own line ≡ true
+IsOwn (Closed line) = is_own line ≡ true
+IsOwn (Saw moment) = Unit {0}
+IsOwn (Waited most) = Unit {0}
+IsOwn Called = ⊥
 
 -- ---- which nodes
 

@@ -4,7 +4,10 @@ use Rattle.byte_queue.specs.Queued.{Queued}
 use Rattle.matchstate.specs.Free.{IsFreeOf}
 use Rattle.node_wires.specs.declared.line.Line.{Line as Wire}
 use Rattle.node_wires.specs.declared.line.Line.TheVariants.{Seat, Peer}
-use Rattle.node_wires.specs.Passages.{Passage, Came, Wrote, wrote_over}
+use Rattle.node_wires.specs.declared.way.Way.{Way}
+use Rattle.node_wires.specs.declared.way.Way.TheVariants.{Reading, Writing}
+use Rattle.node_wires.specs.declared.halt.Halt.{Halt}
+use Rattle.node_wires.specs.Passages.{Passage, Came, Wrote, halted_as, wrote_over}
 use Rattle.seat_relay.specs.Relaying.{Line, Standing, Event, Story, Begins, Ends, Tells, Closes, Says, Pushes, happens, answered, all_given}
 use Rattle.seat_relay.specs.Laws.{fresh}
 use Rattle.relay_runs.specs.declared.desk.Desk.{Desk}
@@ -125,10 +128,14 @@ pub record IsSaid (desk : Desk) (passed : List Passage) : Type 0 where
 
 -- ---- one call of a wire
 
+-- nothing passes, or a read or a write is halted
+abbrev pub Halts : Way → Wire → List Passage → List Passage → Type 0
+Halts way line passed_old passed_new = (passed_new ≡ passed_old) ⊎ ((halt : Halt) × (passed_new ≡ passed_old ++ halted_as way line halt ∷ []))
+
 -- a piece of what waits for a line is written to it, and waits no longer; or nothing is
 abbrev pub Writes : Wire → List ℕ → List ℕ → List Passage → List Passage → Type 0
 Writes line old new passed_old passed_new =
-    ((piece : List ℕ) × (old ≡ piece ++ new) × (passed_new ≡ passed_old ++ Wrote line piece ∷ [])) ⊎ ((new ≡ old) × (passed_new ≡ passed_old))
+    ((piece : List ℕ) × (old ≡ piece ++ new) × (passed_new ≡ passed_old ++ Wrote line piece ∷ [])) ⊎ ((new ≡ old) × Halts Writing line passed_old passed_new)
 
 -- what came is the beginning of one line: no line feed, and no more bytes than one with a carriage return may have
 pub record IsBeginning (came : List ℕ) : Type 0 where
@@ -138,4 +145,4 @@ pub record IsBeginning (came : List ℕ) : Type 0 where
 -- where only the beginning of a line waits a piece of at most 512 bytes came over a line, and stands behind what waits of that line; or none did
 abbrev pub Reads : Wire → List ℕ → List ℕ → List Passage → List Passage → Type 0
 Reads line old new passed_old passed_new =
-    ((piece : List ℕ) × (new ≡ old ++ piece) × (passed_new ≡ passed_old ++ Came line piece ∷ []) × IsBeginning old × (length piece ≤ 512)) ⊎ ((new ≡ old) × (passed_new ≡ passed_old))
+    ((piece : List ℕ) × (new ≡ old ++ piece) × (passed_new ≡ passed_old ++ Came line piece ∷ []) × IsBeginning old × (length piece ≤ 512)) ⊎ ((new ≡ old) × Halts Reading line passed_old passed_new)

@@ -2,7 +2,7 @@
 use Rattle.std.specs.Prelude.{ℕ, ◌+◌, Bool, false, if◌then◌else◌, List, [], ◌∷◌, ◌++◌}
 use Rattle.node_wires.specs.declared.line.Line.{Line}
 use Rattle.node_wires.specs.declared.line.Line.TheVariants.{Seat}
-use Rattle.node_wires.specs.Passages.{Passage, Began, Came, Wrote, Gave, Logged, is_line}
+use Rattle.node_wires.specs.Passages.{Passage, Began, Came, Wrote, Gave, Logged, Tried, Ended, Closed, Saw, Waited, Called, is_line}
 
 -- a bot is taken in: the connection of its line begins, or a guest is given that line
 abbrev pub is_taken_in : Passage → Bool
@@ -11,6 +11,12 @@ is_taken_in (Came line bytes) = false
 is_taken_in (Wrote line bytes) = false
 is_taken_in (Gave place seat) = is_line (Seat seat) (Seat 0)
 is_taken_in (Logged text) = false
+is_taken_in (Tried line way) = false
+is_taken_in (Ended line way) = false
+is_taken_in (Closed line) = false
+is_taken_in (Saw moment) = false
+is_taken_in (Waited most) = false
+is_taken_in Called = false
 
 -- what passed since then, after one call more
 abbrev pub since_by : List Passage → Passage → List Passage
@@ -36,6 +42,12 @@ begins_there line (Came at bytes) = false
 begins_there line (Wrote at bytes) = false
 begins_there line (Gave place seat) = false
 begins_there line (Logged text) = false
+begins_there line (Tried at way) = false
+begins_there line (Ended at way) = false
+begins_there line (Closed at) = false
+begins_there line (Saw moment) = false
+begins_there line (Waited most) = false
+begins_there line Called = false
 
 abbrev pub begun_over : List Passage → Line → ℕ
 begun_over [] line = 0

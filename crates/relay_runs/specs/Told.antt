@@ -1,5 +1,5 @@
 -- What nodes are told comes from the bot, and answers the line that it was given last when it was said.
-use Rattle.std.specs.Prelude.{◌≡◌, ℕ, Bool, List, [], ◌∷◌, ◌++◌, Option}
+use Rattle.std.specs.Prelude.{◌≡◌, ℕ, List, [], ◌∷◌, ◌++◌, Option}
 use Rattle.std.specs.List.{AllByRecursion}
 use Rattle.game_def.specs.Game.{Game}
 use Rattle.matchstate.specs.Free.{IsFreeOf}

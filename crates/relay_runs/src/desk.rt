@@ -1,7 +1,9 @@
 //! What a relay knows, and what waits to be written over each connection.
 
-ghost use Rattle.std.specs.Prelude.{◌≡◌, true, false, ◌+◌, ◌≤◌, ◌++◌, [], length, option_map, IfOk, ◌↔◌};
+ghost use Rattle.std.specs.Prelude.{◌≡◌, true, false, ◌+◌, ◌≤◌, ◌∷◌, ◌++◌, [], length, option_map, IfOk, ◌↔◌};
 ghost use Rattle.matchstate.specs.Free.{IsFreeOf};
+ghost use Rattle.node_wires.specs.declared.line.Line.TheVariants.{Peer, Seat};
+ghost use Rattle.node_wires.specs.Passages.{Closed};
 ghost use Rattle.seat_relay.specs.Relaying.{with_event, Ends};
 ghost use Rattle.relay_runs.specs.Said.{ended, token_line, AreEmpty, Reads, Writes};
 ghost use Rattle.relay_runs.specs.Course.{Course};
@@ -210,6 +212,7 @@ impl Desk {
     pub(crate) fn hang_up<W: Wire>(&mut self, wire: &mut W, node: u8)
         ensures keeps { Keeps self.old self.new (W.passed wire.old) (W.passed wire.new) }
         ensures told { self.new.relay ≡ with_event self.old.relay (Ends node) }
+        ensures closed { W.passed wire.new ≡ W.passed wire.old ++ Closed (Peer node) ∷ [] }
     {
         wire.close(Line::Peer(node));
         self.relay.follows_events();
@@ -220,6 +223,7 @@ impl Desk {
     pub(crate) fn let_go<W: Wire>(&mut self, wire: &mut W)
         ensures keeps { Keeps self.old self.new (W.passed wire.old) (W.passed wire.new) }
         ensures over { IsOver self.old → IsOver self.new }
+        ensures closed { W.passed wire.new ≡ W.passed wire.old ++ Closed (Seat 0) ∷ [] }
     {
         wire.close(BOT);
         self.has_bot = false;

@@ -19,7 +19,7 @@ pub(crate) enum Unread {
 }
 
 /// Reads the next piece that came over a line, behind what came before; nothing while a whole line of that waits.
-#[tactic(auto, using(crate::proofs::Writing::nothing_read, crate::proofs::Writing::some_read))]
+#[tactic(auto, using(crate::proofs::Writing::nothing_read, crate::proofs::Writing::read_in_vain, crate::proofs::Writing::some_read))]
 pub(crate) fn read_into<W: Wire>(
     came: &mut ByteQueue,
     wire: &mut W,
@@ -51,7 +51,7 @@ fn unless_written(count: usize) -> Option<bool> {
 
 /// Writes what there is room for of what waits for a line. `None` where more may be written; else whether the connection
 /// goes on.
-#[tactic(auto, using(crate::proofs::Writing::nothing_written, crate::proofs::Writing::some_written))]
+#[tactic(auto, using(crate::proofs::Writing::nothing_written, crate::proofs::Writing::written_in_vain, crate::proofs::Writing::some_written))]
 pub(crate) fn write_some<W: Wire>(waiting: &mut ByteQueue, wire: &mut W, line: Line) -> Option<bool>
     ensures { Writes line waiting.old.waiting waiting.new.waiting (W.passed wire.old) (W.passed wire.new) }
 {

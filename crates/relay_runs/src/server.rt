@@ -111,10 +111,17 @@ impl RelayServer {
         ensures keeps { Keeps self.old.desk self.new.desk (W.passed wire.old) (W.passed wire.new) }
         ensures over { result ≡ Some RelayEnd.Over → IsOver self.new.desk }
     {
+        let now = self.await_next(wire);
+        self.act(wire, now)
+    }
+
+    /// Waits until something may have come or is to be done, and answers which moment it is then.
+    fn await_next<W: Wire>(&self, wire: &mut W) -> u64
+        ensures { Keeps self.now.desk self.now.desk (W.passed wire.old) (W.passed wire.new) }
+    {
         let now = wire.now();
         wire.wait(self.wait_time(now));
-        let now = wire.now();
-        self.act(wire, now)
+        wire.now()
     }
 
     /// Does all that there is to do.

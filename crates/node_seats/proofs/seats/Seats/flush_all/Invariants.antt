@@ -4,7 +4,7 @@ use Rattle.node_wires.specs.Passages.{seats_in, wrote_over, logged_in}
 use Rattle.node_seats.specs.Others.{KeepsOthers}
 use Rattle.node_seats.specs.Seating.{waits_at, bot_at}
 use Rattle.node_seats.specs.Writing.{WritesToSeats}
-use Rattle.node_seats.specs.Hurrying.{KeepsTime}
+use Rattle.node_seats.specs.Times.{KeepsTime}
 use Rattle.node_seats.proofs.seats.Seats.flush_all.Given as goal
 
 abbrev pub invariant-loop-number : goal.invariant-loop-number
