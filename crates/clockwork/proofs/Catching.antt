@@ -1,19 +1,19 @@
 -- A node that is behind ticks once the fronts have stood.
 use Rattle.std.proofs.Common.{ℕ, ◌≡◌, ◌+◌, ◌-◌, ◌*◌, ◌≤◌, true, Option, Some, None, refl, arith}
-use Rattle.std.specs.Prelude.{max, min, not, ◌&&◌, ◌==◌, if◌then◌else◌, nat_lt, is_some}
+use Rattle.std.specs.Prelude.{max, min, not, ◌&&◌, ◌==◌, nat_lt, is_some}
 use Rattle.clockwork.specs.declared.known.Ticks.{Ticks}
 use Rattle.clockwork.specs.declared.known.PeerReport.{PeerReport}
 use Rattle.clockwork.specs.declared.known.Peer.{Peer}
 use Rattle.clockwork.specs.declared.known.Known.{Known}
 use Rattle.clockwork.specs.declared.answer.Due.TheVariants.{Now}
-use Rattle.clockwork.specs.declared.limits.TheConstants.{SPACE, STEP, BEHIND}
+use Rattle.clockwork.specs.declared.limits.TheConstants.{STEP, BEHIND}
 use Rattle.clockwork.specs.Waits.{left, times, doubled, in_vain, again, spaced}
 use Rattle.clockwork.specs.Presence.{told, pace_of, most_of, lag_of, present, is_quorate, is_behind, one_can_help, behind_wait}
 use Rattle.clockwork.specs.Ranks.{is_before, rank_by_number}
 use Rattle.clockwork.specs.Work.{steps_by_number}
 use Rattle.clockwork.specs.Teaching.{told_by_leader, teaching_left, taught_left}
 use Rattle.clockwork.specs.Dues.{behind_left, awaited, slow_in, due_by, due_of}
-use Rattle.clockwork.specs.Laws.{quorate, behind, longest_wait, rise_of, risen, last_tick, waits_from, ComesOnceFrontsStand}
+use Rattle.clockwork.specs.Laws.{quorate, longest_wait, rise_of, last_tick, waits_from, ComesOnceFrontsStand}
 use Rattle.clockwork.proofs.Lists.{count_fewer}
 use Rattle.clockwork.proofs.Ticking.{tick_of_none}
 use Rattle.clockwork.proofs.Later.{either_none, max_none, lag_short, doubled_short, steps_few, few_of_both, before_is_told, tick_when}

@@ -14,7 +14,7 @@ use Rattle.clockwork.specs.Dues.{due_in}
 use Rattle.clockwork.specs.ActionTimeout.{is_able, order_left, seated_after, IsOrderedLongAgo}
 use Rattle.clockwork.specs.SeatWatches.{place_after, has_passed, BeginsAnewOnce, BeginsAnew}
 use Rattle.clockwork.specs.Openings.{first_after, looked_all, OpeningLook, HadQuorum, OpensOnlyThen, IsPast, OpensThen}
-use Rattle.clockwork.specs.Orders.{wait_of, longest_of, has_stood, is_its_turn, may_be_kept_out, turn_since, is_to_order, turn_left, order_due_of, turn_wait, more_of, IsAble, IsItsTurn, HasBeenPatient, IsOrderedAtTheLatest, IsOrderedInTurn, WaitsBehindACrowd, uncrowded, IsWaitedForAsEver, waits_together, CostsTenSeconds}
+use Rattle.clockwork.specs.Orders.{wait_of, longest_of, has_stood, is_its_turn, may_be_kept_out, turn_since, is_to_order, turn_left, order_due_of, turn_wait, more_of, IsAble, IsItsTurn, HasBeenPatient, IsOrderedAtTheLatest, IsOrderedInTurn, WaitsBehindACrowd, IsWaitedForAsEver, waits_together, CostsTenSeconds}
 use Rattle.clockwork.proofs.Ticking.{max_parts, none_left, tick_of_none, none_of_tick, until_of, cases_none}
 use Rattle.clockwork.proofs.Ordering.{long_ago, none_of_long_ago}
 

@@ -11,3 +11,4 @@ mod Fairness
 mod Awakening
 mod SeatExamples
 mod Sightings
+mod Sleeping

@@ -1,7 +1,7 @@
 -- One late turn counts for nothing, and what all of a stretch were late by counts.
-use Rattle.std.proofs.Common.{ℕ, suc, ◌≡◌, ◌⊎◌, ◌+◌, ◌-◌, ◌≤◌, ◌<◌, true, false, List, [], ◌∷◌, inl, inr, refl, arith}
-use Rattle.std.specs.Prelude.{min, max, if◌then◌else◌, nat_lt}
-use Rattle.std.proofs.lemmas.Bool.{cases_Bool, ltb-true, ltb-false, le-ltb}
+use Rattle.std.proofs.Common.{ℕ, suc, ◌≡◌, ◌⊎◌, ◌+◌, ◌-◌, ◌≤◌, List, [], ◌∷◌, inl, inr, arith}
+use Rattle.std.specs.Prelude.{nat_lt}
+use Rattle.std.proofs.lemmas.Bool.{cases_Bool, ltb-true, ltb-false}
 use Rattle.clockwork.specs.declared.lateness.Lateness.{Lateness}
 use Rattle.clockwork.specs.declared.lateness.LateTurn.{LateTurn}
 use Rattle.clockwork.specs.declared.limits.TheConstants.{STRETCH}

@@ -4,13 +4,12 @@ use Rattle.clockwork.specs.declared.known.PeerReport.{PeerReport}
 use Rattle.clockwork.specs.declared.watch.Seen.{Seen}
 use Rattle.clockwork.specs.declared.watch.Watch.{Watch}
 use Rattle.clockwork.specs.declared.longest.Measure.{Measure}
-use Rattle.clockwork.specs.declared.lateness.Lateness.{Lateness}
 use Rattle.clockwork.specs.declared.lateness.LateTurn.{LateTurn}
 use Rattle.clockwork.specs.LateTurns.{late_behind, counted_of, later_than, AreLate}
 use Rattle.clockwork.specs.Silence.{is_heard}
 use Rattle.clockwork.specs.Measuring.{fresh, noted, lately, AreInOrder, AreWithin}
 use Rattle.clockwork.specs.PeerReports.{report_after}
-use Rattle.clockwork.specs.Watches.{watch_of, seen_at, stood, ticked_at, passed_in}
+use Rattle.clockwork.specs.Watches.{watch_of, seen_at, stood, ticked_at, passed_in, waited}
 
 -- heard within the limit, not at it, and at a moment that lies ahead
 heard_within : is_heard 100 1099 1000 ≡ true
@@ -72,6 +71,31 @@ work_stays = refl
 
 work_behind : (stood (stood ticked true false 500) true true 600).work_since ≡ None
 work_behind = refl
+
+-- it is behind since 500, and sleeps: at once behind that, when its front moved meanwhile, where that is no sleep, and longer than it was behind
+abbrev falls_behind : Watch
+falls_behind = stood ticked false true 500
+
+waits_on_where_it_was : (passed_in falls_behind 600000 1000000).behind_since ≡ Some 600500
+waits_on_where_it_was = refl
+
+from_where_its_front_moved : (passed_in (seen_at falls_behind (seen 6 None) 7 300000) 600000 1000000).behind_since ≡ Some 900000
+from_where_its_front_moved = refl
+
+a_short_one_is_no_sleep : (passed_in falls_behind 100000 1000000).behind_since ≡ Some 500
+a_short_one_is_no_sleep = refl
+
+never_beyond_now : (passed_in falls_behind 999999 1000000).behind_since ≡ Some 1000000
+never_beyond_now = refl
+
+not_where_it_is_not_behind : (passed_in ticked 600000 1000000).behind_since ≡ None
+not_where_it_is_not_behind = refl
+
+work_counts_on : (passed_in (stood ticked true false 500) 600000 1000000).work_since ≡ Some 500
+work_counts_on = refl
+
+it_has_waited_awake : waited (passed_in falls_behind 600000 1000000) 1000000 ≡ 399500
+it_has_waited_awake = refl
 
 -- ---- late turns, in stretches of a second; moments of these in milliseconds
 

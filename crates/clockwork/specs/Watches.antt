@@ -1,11 +1,12 @@
 -- What is seen of the node of a process, and since when.
-use Rattle.std.specs.Prelude.{ℕ, ◌+◌, ◌==◌, ◌&&◌, ◌||◌, not, min, Bool, true, false, if◌then◌else◌, List, Option, Some, None}
+use Rattle.std.specs.Prelude.{◌≡◌, ℕ, ◌+◌, ◌-◌, ◌==◌, ◌&&◌, ◌||◌, not, min, max, Bool, true, false, if◌then◌else◌, nat_lt, List, Option, Some, None}
 use Rattle.std.specs.Borrow.{Bor}
 use Rattle.clockwork.specs.declared.known.Ticks.{Ticks}
 use Rattle.clockwork.specs.declared.known.Peer.{Peer}
 use Rattle.clockwork.specs.declared.known.Known.{Known}
 use Rattle.clockwork.specs.declared.watch.Seen.{Seen}
 use Rattle.clockwork.specs.declared.watch.Watch.{Watch}
+use Rattle.clockwork.specs.declared.limits.TheConstants.{LEAP}
 use Rattle.clockwork.specs.Measuring.{fresh, noted, lately}
 use Rattle.clockwork.specs.LateTurns.{punctual, late_after, counted_of}
 
@@ -45,9 +46,18 @@ seen_at w seen took now = record {
   lateness = w.lateness;
 }
 
--- a turn came so much later than it was to: what counts of that counts as a call
+-- since when a node that is behind waits: it read nothing in a sleep, so its wait goes on where it was, from where its front moved if that was later
+abbrev pub put_off : Option ℕ → (moved lost now : ℕ) → Option ℕ
+put_off None moved lost now = None
+put_off (Some moment) moved lost now = Some (if nat_lt LEAP lost then min now (max moment moved + lost) else moment)
+
+-- a turn came so much later than it was to: what counts of that counts as a call, and a node that is behind doesn't wait while it sleeps
 abbrev pub passed_in : Watch → (lost now : ℕ) → Watch
-passed_in w lost now = record w { lateness = late_after w.lateness lost now; calls = noted w.calls (counted_of (late_after w.lateness lost now)) now }
+passed_in w lost now = record w {
+  lateness = late_after w.lateness lost now;
+  calls = noted w.calls (counted_of (late_after w.lateness lost now)) now;
+  behind_since = put_off w.behind_since w.moved lost now;
+}
 
 -- work counts while the node isn't behind
 abbrev pub stood : Watch → Bool → Bool → ℕ → Watch
@@ -82,3 +92,17 @@ known_of w number peers now = record {
   ticks = w.ticks;
   longest_call = lately w.calls now;
 }
+
+-- ---- what holds of it
+
+-- for how long a node that is behind has waited: since it became that, or its front moved
+abbrev pub waited : Watch → ℕ → ℕ
+waited w now = now - max (begun w.behind_since now) w.moved
+
+-- what is lost in a sleep
+abbrev pub slept_of : ℕ → ℕ
+slept_of lost = if nat_lt LEAP lost then lost else 0
+
+-- of what went by it has waited for all but its sleeps
+abbrev pub WaitsAwake : Watch → (lost now : ℕ) → Type 0
+WaitsAwake w lost now = waited (passed_in w lost now) now ≡ waited w now - slept_of lost

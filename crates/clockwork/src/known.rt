@@ -34,7 +34,8 @@ pub struct Known<'a> {
     /// Since when there has been work here (`has_work`) while the node wasn't behind, both without a break. It tells
     /// nothing where that isn't so now.
     pub work_since: u64,
-    /// Since when the node has been behind (`is_behind`) without a break. It tells nothing where it isn't.
+    /// Since when the node has been behind (`is_behind`) without a break; later by what its process slept through since then, or
+    /// since the front moved (`Watch::pass`). It tells nothing where it isn't.
     pub behind_since: u64,
     /// This process's own ticks, where it has ticked.
     pub ticks: Option<Ticks>,

@@ -6,6 +6,7 @@ ghost use Rattle.clockwork.specs.LateTurns.{OneCountsForNothing, LateOnesCount};
 ghost use Rattle.clockwork.specs.SeatWatches.{Sighting, BeginsAnewOnce, BeginsAnew, ComesExactlyThen, GivesUpOnlyThen, GivesUpThen, CountsOn};
 ghost use Rattle.clockwork.specs.Openings.{OpensOnlyThen, OpensThen, OpeningLook};
 ghost use Rattle.clockwork.specs.Wakings.{WakesExactlyThen};
+ghost use Rattle.clockwork.specs.Watches.{WaitsAwake};
 ghost use Rattle.clockwork.specs.Orders.{IsOrderedAtTheLatest, IsOrderedInTurn, WaitsBehindACrowd, IsWaitedForAsEver, CostsTenSeconds};
 ghost use Rattle.std.specs.Prelude.{ℕ, List};
 
@@ -15,6 +16,7 @@ use crate::longest::Measure;
 use crate::order::Expected;
 use crate::seat_watch::{Acts, At, Place, SeatLook, SeatWatch};
 use crate::waking::Happening;
+use crate::watch::Watch;
 
 /// Where a node is quorate, and is behind, has work or has a peer that lags, a tick is due after the wait for answers (`pace`),
 /// or two seconds where that is shorter, doubled for each tick in vain, and a step for each present peer; if nothing else
@@ -37,6 +39,12 @@ pub fn what_was_measured_counts_for_a_minute(_measures: &[Measure], _now: u64)
 pub fn one_late_turn_counts_for_nothing(_turn: LateTurn, _earlier: &[LateTurn], _late: u64)
     ensures nothing { OneCountsForNothing _earlier.now _late }
     ensures counted { LateOnesCount _turn _earlier.now _late }
+{}
+
+/// A node that is behind has waited for all that went by since, or since its front moved, but what its process slept through
+/// at that moment (`LEAP`): then it gets nothing of what it lacks.
+pub fn a_node_that_is_behind_waits_awake(_watch: &Watch, _lost: u64, _now: u64)
+    ensures { WaitsAwake _watch.now _lost _now }
 {}
 
 /// Where a node is able to order that the seat to act is played for, is awake, and the match is open: it does so, wherever the

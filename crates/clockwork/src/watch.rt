@@ -1,8 +1,9 @@
 ghost use Rattle.std.specs.Prelude.{◌≡◌, true};
-ghost use Rattle.clockwork.specs.Watches.{watch_of, is_same, quiet, since, seen_at, stood, ticked_at, known_of, passed_in};
+ghost use Rattle.clockwork.specs.Watches.{watch_of, is_same, quiet, since, put_off, seen_at, stood, ticked_at, known_of, passed_in};
 
 use crate::known::{Known, Peer, Ticks};
 use crate::lateness::Lateness;
+use crate::limits::LEAP;
 use crate::longest::Longest;
 
 /// What is seen of a node between two calls.
@@ -36,7 +37,7 @@ pub struct Watch {
     pub was_led: bool,
     /// Since when there has been work while the node wasn't behind.
     pub work_since: Option<u64>,
-    /// Since when the node has been behind.
+    /// Since when the node has been behind, without what it slept through meanwhile.
     pub behind_since: Option<u64>,
     /// The process's own ticks.
     pub ticks: Option<Ticks>,
@@ -83,6 +84,23 @@ pub(crate) fn since(earlier: Option<u64>, is_so: bool, now: u64) -> Option<u64>
     }
 }
 
+/// Since when a node that is behind waits once so many microseconds were lost, beyond calls, waits and callers, where its front last
+/// moved at that moment. In a sleep (`LEAP`) it gets nothing of what it lacks, so its wait goes on where it was, from the later of both.
+fn put_off(behind: Option<u64>, moved: u64, lost: u64, now: u64) -> Option<u64>
+    ensures { result ≡ put_off behind moved lost now }
+{
+    match behind {
+        Some(moment) => {
+            if lost > LEAP {
+                Some(moment.max(moved).saturating_add(lost).min(now))
+            } else {
+                Some(moment)
+            }
+        }
+        None => None,
+    }
+}
+
 impl Watch {
     /// The process begins: this is seen of its node.
     pub fn new(seen: Seen, now: u64) -> Watch
@@ -118,12 +136,13 @@ impl Watch {
     }
 
     /// So much time went by beyond what the process asked to wait and the calls of its node took: what counts of it counts as a
-    /// call does.
+    /// call does. Where it is a sleep, a node that is behind doesn't wait meanwhile.
     pub fn pass(&mut self, lost: u64, now: u64)
         ensures { self.new ≡ passed_in self.old lost now }
     {
         self.lateness.note(lost, now);
         self.calls.note(self.lateness.counted(), now);
+        self.behind_since = put_off(self.behind_since, self.moved, lost, now);
     }
 
     /// A peer has told that it campaigns.
