@@ -1,8 +1,12 @@
 -- What is added stays so behind more calls, and is nothing of seats and of the log.
 use Rattle.std.proofs.Common.{◌≡◌, ℕ, ◌-◌, Bool, true, false, if◌then◌else◌, nat_lt, List, [], ◌∷◌, ◌++◌, append_assoc, append-nil, refl, ap, sym, ◌∙◌}
 use Rattle.node_peers.specs.declared.limits.TheConstants.{DIALLED}
+use Rattle.node_wires.specs.declared.line.Line.{Line}
 use Rattle.node_wires.specs.declared.line.Line.TheVariants.{Peer, Caller, Seat, Guest, Asker}
-use Rattle.node_wires.specs.Passages.{Passage, Began, Came, Wrote, Gave, Logged, of_seat, seats_in, wrote_by, wrote_behind, wrote_over, logged_in}
+use Rattle.node_wires.specs.declared.way.Way.{Way}
+use Rattle.node_wires.specs.declared.halt.Halt.{Halt}
+use Rattle.node_wires.specs.declared.halt.Halt.TheVariants as halts
+use Rattle.node_wires.specs.Passages.{Passage, Began, Came, Wrote, Gave, Logged, Tried, Ended, Closed, Saw, Waited, Called, halted_as, of_seat, seats_in, wrote_by, wrote_behind, wrote_over, logged_in}
 use Rattle.node_peers.specs.Lines.{line_at}
 use Rattle.node_peers.specs.Adding.{IsPeers, IsOfPeers, AreOfPeers, Adds}
 
@@ -40,6 +44,10 @@ added_on a b c w x y one two = record {
 pub one_added : (p : Passage) (old new wired_old wired_new : List Passage) → IsOfPeers p → new ≡ old ++ p ∷ [] → wired_new ≡ wired_old ++ p ∷ [] → Adds old new wired_old wired_new
 one_added p old new wired_old wired_new is e f = record { more = p ∷ []; put_down = e; wired = f; of_peers = (is, tt) }
 
+pub halted_added : (way : Way) (line : Line) (halt : Halt) (old new wired_old wired_new : List Passage) → IsPeers line → new ≡ old ++ halted_as way line halt ∷ [] → wired_new ≡ wired_old ++ halted_as way line halt ∷ [] → Adds old new wired_old wired_new
+halted_added way line halts.Later old new wired_old wired_new is e f = one_added (Tried line way) old new wired_old wired_new is e f
+halted_added way line halts.Ended old new wired_old wired_new is e f = one_added (Ended line way) old new wired_old wired_new is e f
+
 -- ---- what it leaves of seats and of the log
 
 no_seat : (p : Passage) → IsOfPeers p → of_seat p ≡ []
@@ -56,6 +64,12 @@ no_seat (Came (Asker n) bytes) is = absurd is
 no_seat (Wrote line bytes) is = refl
 no_seat (Gave place seat) is = absurd is
 no_seat (Logged text) is = absurd is
+no_seat (Tried line way) is = refl
+no_seat (Ended line way) is = refl
+no_seat (Closed line) is = refl
+no_seat (Saw moment) is = absurd is
+no_seat (Waited most) is = absurd is
+no_seat Called is = absurd is
 
 no_seats : (ys : List Passage) → AreOfPeers ys → seats_in ys ≡ []
 no_seats [] are = refl
@@ -72,10 +86,22 @@ log_of_both [] (Came line bytes ∷ ys) are = log_of_both [] ys are.1
 log_of_both [] (Wrote line bytes ∷ ys) are = log_of_both [] ys are.1
 log_of_both [] (Gave place seat ∷ ys) are = absurd are.0
 log_of_both [] (Logged text ∷ ys) are = absurd are.0
+log_of_both [] (Tried line way ∷ ys) are = log_of_both [] ys are.1
+log_of_both [] (Ended line way ∷ ys) are = log_of_both [] ys are.1
+log_of_both [] (Closed line ∷ ys) are = log_of_both [] ys are.1
+log_of_both [] (Saw moment ∷ ys) are = absurd are.0
+log_of_both [] (Waited most ∷ ys) are = absurd are.0
+log_of_both [] (Called ∷ ys) are = absurd are.0
 log_of_both (Began line ∷ xs) ys are = log_of_both xs ys are
 log_of_both (Came line bytes ∷ xs) ys are = log_of_both xs ys are
 log_of_both (Wrote line bytes ∷ xs) ys are = log_of_both xs ys are
 log_of_both (Gave place seat ∷ xs) ys are = log_of_both xs ys are
+log_of_both (Tried line way ∷ xs) ys are = log_of_both xs ys are
+log_of_both (Ended line way ∷ xs) ys are = log_of_both xs ys are
+log_of_both (Closed line ∷ xs) ys are = log_of_both xs ys are
+log_of_both (Saw moment ∷ xs) ys are = log_of_both xs ys are
+log_of_both (Waited most ∷ xs) ys are = log_of_both xs ys are
+log_of_both (Called ∷ xs) ys are = log_of_both xs ys are
 log_of_both (Logged text ∷ xs) ys are = ap (λ (ls : List ℕ). text ++ ls) (log_of_both xs ys are)
 
 not_written : (seat : ℕ) (before : List ℕ) (ys : List Passage) → AreOfPeers ys → wrote_behind (Seat seat) before ys ≡ before
@@ -93,6 +119,12 @@ not_written seat before (Wrote (Guest n) bytes ∷ ys) are = absurd are.0
 not_written seat before (Wrote (Asker n) bytes ∷ ys) are = absurd are.0
 not_written seat before (Gave place number ∷ ys) are = absurd are.0
 not_written seat before (Logged text ∷ ys) are = absurd are.0
+not_written seat before (Tried line way ∷ ys) are = not_written seat before ys are.1
+not_written seat before (Ended line way ∷ ys) are = not_written seat before ys are.1
+not_written seat before (Closed line ∷ ys) are = not_written seat before ys are.1
+not_written seat before (Saw moment ∷ ys) are = absurd are.0
+not_written seat before (Waited most ∷ ys) are = absurd are.0
+not_written seat before (Called ∷ ys) are = absurd are.0
 
 written_behind : (seat : ℕ) (before : List ℕ) (xs ys : List Passage) → AreOfPeers ys → wrote_behind (Seat seat) before (xs ++ ys) ≡ wrote_behind (Seat seat) before xs
 written_behind seat before [] ys are = not_written seat before ys are

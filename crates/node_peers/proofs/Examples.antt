@@ -10,8 +10,10 @@ use Rattle.peer_codes.specs.Spelling.{record_text}
 use Rattle.node_links.specs.declared.own.Own.{Own}
 use Rattle.node_wires.specs.declared.line.Line.{Line}
 use Rattle.node_wires.specs.declared.line.Line.TheVariants.{Peer, Caller, Seat, Guest, Asker}
-use Rattle.node_wires.specs.Passages.{Passage, Began, Came, Wrote, Gave, Logged}
+use Rattle.node_wires.specs.Passages.{Passage, Began, Came, Wrote, Gave, Logged, Tried, Ended, Closed, Saw, Waited, Called}
 use Rattle.node_peers.specs.declared.notice.Notice.TheVariants as notices
+use Rattle.node_wires.specs.declared.way.Way.TheVariants.{Reading, Writing}
+use Rattle.node_peers.specs.Adding.{IsOfPeers}
 use Rattle.node_peers.specs.Lines.{line_at, dialled_over}
 use Rattle.node_peers.specs.Hearing.{IsTold, talk_over}
 use Rattle.node_peers.specs.Greeting.{IsOurs, coded_by, first_of}
@@ -106,6 +108,20 @@ began_anew = refl
 written_there : talk_over (passed ++ Wrote (Caller 0) (7 ∷ []) ∷ Wrote (Caller 1) (8 ∷ []) ∷ []) (Caller 0) ≡ record { dialled = None; came = both; wrote = 7 ∷ [] }
 written_there = refl
 
+-- reads and writes that did nothing leave that, and so it stays behind a connection that is closed
+closed_there : talk_over (passed ++ Wrote (Caller 0) (7 ∷ []) ∷ Tried (Caller 0) Reading ∷ Ended (Caller 0) Writing ∷ Closed (Caller 0) ∷ []) (Caller 0) ≡ record { dialled = None; came = both; wrote = 7 ∷ [] }
+closed_there = refl
+
+-- the lines of peers are closed, and of no seat
+closes_peer : IsOfPeers (Closed (Peer 1))
+closes_peer = tt
+
+closes_no_seat : IsOfPeers (Closed (Seat 1)) → ⊥
+closes_no_seat is = is
+
+waits_never : IsOfPeers (Waited 0) → ⊥
+waits_never is = is
+
 -- ---- what is said first, and what was handed to peers
 
 -- node 1 says it, not node 0
@@ -143,6 +159,12 @@ to_whom (Began line) = 0
 to_whom (Came line bytes) = 0
 to_whom (Gave place seat) = 0
 to_whom (Logged text) = 0
+to_whom (Tried line way) = 0
+to_whom (Ended line way) = 0
+to_whom (Closed line) = 0
+to_whom (Saw moment) = 0
+to_whom (Waited most) = 0
+to_whom Called = 0
 
 -- what was handed to node 2 wasn't to node 1
 handed_to_another : Is (Wrote (Peer 1) vote) (Wrote (Peer 2) vote ∷ []) → ⊥

@@ -8,7 +8,10 @@ use Rattle.std.proofs.lemmas.List.{get_or-set_same, get_or-set_other, length-set
 use Rattle.node_peers.specs.declared.limits.TheConstants.{DIALLED}
 use Rattle.node_wires.specs.declared.line.Line.{Line}
 use Rattle.node_wires.specs.declared.line.Line.TheVariants.{Peer, Caller, Seat, Guest, Asker}
-use Rattle.node_wires.specs.Passages.{Passage, Began, Came, Wrote, is_line, came_by, came_behind, came_over, wrote_by, wrote_behind, wrote_over}
+use Rattle.node_wires.specs.declared.way.Way.{Way}
+use Rattle.node_wires.specs.declared.halt.Halt.{Halt}
+use Rattle.node_wires.specs.declared.halt.Halt.TheVariants as halts
+use Rattle.node_wires.specs.Passages.{Passage, Began, Came, Wrote, is_line, came_by, came_behind, came_over, wrote_by, wrote_behind, wrote_over, Tried, Ended, Closed, halted_as}
 use Rattle.peer_codes.specs.declared.frame.Frame.{Frame}
 use Rattle.peer_codes.specs.declared.hello.Hello.{Hello}
 use Rattle.peer_codes.specs.declared.hello.Life.{Life}
@@ -297,6 +300,28 @@ moves_still place old new passed_old passed_new lost connection same = record {
   elsewhere = λ other differ. ap (λ (ps : List Passage). talk_over ps (line_at other)) same;
 }
 
+-- a read or a write that is halted, a connection that is closed: nothing moves
+rests : (passed : List Passage) (p : Passage) (line : Line) → ((before : List ℕ) → came_by line before p ≡ before) → ((before : List ℕ) → wrote_by line before p ≡ before) → talk_over (passed ++ p ∷ []) line ≡ talk_over passed line
+rests passed p line came wrote = talk_is _ _ _ _ _ (came_more line [] passed p ∙ came (came_over passed line)) (wrote_more line [] passed p ∙ wrote (wrote_over passed line))
+
+halted_rests : (way : Way) (at : Line) (halt : Halt) (passed : List Passage) (line : Line) → talk_over (passed ++ halted_as way at halt ∷ []) line ≡ talk_over passed line
+halted_rests way at halts.Later passed line = rests passed (Tried at way) line (λ before. refl) (λ before. refl)
+halted_rests way at halts.Ended passed line = rests passed (Ended at way) line (λ before. refl) (λ before. refl)
+
+pub moves_halted : (place : ℕ) (way : Way) (line : Line) (halt : Halt) (old new : Link) (passed_old passed_new : List Passage) → new.is_lost ≡ old.is_lost → new.connection ≡ old.connection → passed_new ≡ passed_old ++ halted_as way line halt ∷ []
+    → Moves place (Some old) (Some new) passed_old passed_new
+moves_halted place way line halt old new passed_old passed_new lost connection same = record {
+  heard =
+      λ own sent is. subst (λ (t : Talk). IsOf own sent t (Some new)) (sym (ap (λ (ps : List Passage). talk_over ps (line_at place)) same ∙ halted_rests way line halt passed_old (line_at place)))
+      (keeps_still old new lost connection own sent (talk_over passed_old (line_at place)) is);
+  elsewhere = λ other differ. ap (λ (ps : List Passage). talk_over ps (line_at other)) same ∙ halted_rests way line halt passed_old (line_at other);
+}
+
+-- so it is behind a connection that is closed
+pub fits_behind : (own : Own) (sent : List Passage) (line : Line) (links : List (Option Link)) (passed_old passed_new : List Passage) → passed_new ≡ passed_old ++ Closed line ∷ [] → Fits own sent passed_old links → Fits own sent passed_new links
+fits_behind own sent line links passed_old passed_new same fits place =
+    subst (λ (t : Talk). IsOf own sent t (get_or links place None)) (sym (ap (λ (ps : List Passage). talk_over ps (line_at place)) same ∙ rests passed_old (Closed line) (line_at place) (λ before. refl) (λ before. refl))) (fits place)
+
 pub moves_on : (place : ℕ) (a b c : Option Link) (x y z : List Passage) → Moves place a b x y → Moves place b c y z → Moves place a c x z
 moves_on place a b c x y z one two = record {
   heard = λ own sent is. two.heard own sent (one.heard own sent is);
@@ -455,6 +480,12 @@ pub said_at : (saying : Saying) (frame : Frame) (links : List (Option Link)) (pl
 said_at saying frame links place old at said = said_in saying frame links place old at said
 
 -- ---- over lines
+
+pub are_told_behind : (own : Own) (old new more : List Passage) (told : List Notice) → new ≡ old ++ more → AreTold own old told → AreTold own new told
+are_told_behind own old new more told same are = subst (λ (ps : List Passage). AreTold own ps told) (sym same) (are_told_on own old more told are)
+
+pub are_aside_behind : (own : Own) (old new more : List Passage) (frames : List (Option Frame)) → new ≡ old ++ more → AreAside own old frames → AreAside own new frames
+are_aside_behind own old new more frames same are = subst (λ (ps : List Passage). AreAside own ps frames) (sym same) (are_aside_on own old more frames are)
 
 pub are_told_through : (own : Own) (old new wired_old wired_new : List Passage) (told : List Notice) → Adds old new wired_old wired_new → AreTold own old told → AreTold own new told
 are_told_through own old new wired_old wired_new told adds are = subst (λ (ps : List Passage). AreTold own ps told) (sym adds.put_down) (are_told_on own old adds.more told are)

@@ -2,7 +2,7 @@
 use Rattle.std.specs.Prelude.{◌≡◌, List, [], ◌∷◌, ◌++◌}
 use Rattle.node_wires.specs.declared.line.Line.{Line}
 use Rattle.node_wires.specs.declared.line.Line.TheVariants.{Peer, Caller, Seat, Guest, Asker}
-use Rattle.node_wires.specs.Passages.{Passage, Began, Came, Wrote, Gave, Logged}
+use Rattle.node_wires.specs.Passages.{Passage, Began, Came, Wrote, Gave, Logged, Tried, Ended, Closed, Saw, Waited, Called}
 use Rattle.node_wires.specs.declared.passages.Passages.{Passages}
 
 abbrev pub IsPeers : Line → Type 0
@@ -12,13 +12,19 @@ IsPeers (Seat number) = ⊥
 IsPeers (Guest place) = ⊥
 IsPeers (Asker place) = ⊥
 
--- a passage over the line of a peer, or of one who dialled
+-- a passage over the line of a peer, or of one who dialled: nobody waits, nobody sees the clock, and the node isn't called
 abbrev pub IsOfPeers : Passage → Type 0
 IsOfPeers (Began line) = IsPeers line
 IsOfPeers (Came line bytes) = IsPeers line
 IsOfPeers (Wrote line bytes) = IsPeers line
 IsOfPeers (Gave place seat) = ⊥
 IsOfPeers (Logged text) = ⊥
+IsOfPeers (Tried line way) = IsPeers line
+IsOfPeers (Ended line way) = IsPeers line
+IsOfPeers (Closed line) = IsPeers line
+IsOfPeers (Saw moment) = ⊥
+IsOfPeers (Waited most) = ⊥
+IsOfPeers Called = ⊥
 
 abbrev pub AreOfPeers : List Passage → Type 0
 AreOfPeers [] = Unit {0}

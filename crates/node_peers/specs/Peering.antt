@@ -1,8 +1,9 @@
 -- What passes over the lines of a process's peers.
-use Rattle.std.specs.Prelude.{List}
+use Rattle.std.specs.Prelude.{nat_le, Bool, List, length}
 use Rattle.node_wires.specs.Passages.{Passage}
 use Rattle.node_links.specs.declared.own.Own.{Own}
 use Rattle.node_peers.specs.Growing as lines
+use Rattle.node_peers.specs.declared.limits.TheConstants.{BACKLOG}
 use Rattle.node_peers.specs.declared.peers.Peers.{Peers}
 
 -- the node whose peers they are
@@ -32,3 +33,7 @@ Keeps old new = lines.Keeps old.lines new.lines
 -- and nothing is handed to them, and nothing told of them
 abbrev pub Stays : Peers → Peers → Type 0
 Stays old new = lines.Stays old.lines new.lines
+
+-- so much waits to be told that nothing more is taken
+abbrev pub is_full : Peers → Bool
+is_full peers = nat_le BACKLOG (length peers.lines.notices.items)

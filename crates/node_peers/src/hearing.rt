@@ -1,7 +1,8 @@
 //! What came over the lines: who dialled, and what peers said.
 
-ghost use Rattle.std.specs.Prelude.{◌≡◌, ◌<◌};
+ghost use Rattle.std.specs.Prelude.{◌≡◌, ◌<◌, true, false};
 ghost use Rattle.node_peers.specs.Handing.{GoBack};
+ghost use Rattle.node_peers.specs.Replacing.{AreClosed};
 
 use crate::limits::LINKS;
 use crate::lines::Came;
@@ -10,7 +11,6 @@ use crate::peer::Peer;
 use crate::peers::Peers;
 use node_links::{Further, Lives, Subject};
 use node_wires::Wire;
-use node_wires::limits::TAKEN_AT_ONCE;
 use peer_codes::{Beat, Hello};
 
 /// A frame of a peer came by the connection at a place, which answers this.
@@ -56,18 +56,31 @@ fn take_lives(peers: &mut Vec<Peer>, from: u8, place: usize, lives: &Lives)
 }
 
 impl Peers {
-    ghost use Rattle.node_peers.specs.Peering.{Grew};
+    ghost use Rattle.node_peers.specs.Peering.{own_of, is_full, Grew};
 
-    /// Takes in those who dialled, up to `TAKEN_AT_ONCE` of them, and hears each at once.
+    /// Takes in the next one who dialled, unless too much waits to be told, and hears him; then it ends whom a second life of a
+    /// store ends. False where nobody was taken in.
     #[tactic(auto, using(crate::proofs::Growing::grew_on, crate::proofs::Growing::stayed, crate::proofs::Growing::stays_on))]
-    pub(crate) fn accept_all<W: Wire>(&mut self, wire: &mut W, now: u64)
-        ensures { Grew self.old self.new (W.passed wire.old) (W.passed wire.new) }
+    pub(crate) fn take_one<W: Wire>(&mut self, wire: &mut W, now: u64) -> bool
+        ensures grew { Grew self.old self.new (W.passed wire.old) (W.passed wire.new) }
+        ensures closed { AreClosed (own_of self.new) self.new.peers.items }
+        ensures full { is_full self.old ≡ true → result ≡ false }
     {
-        for _ in 0..TAKEN_AT_ONCE {
-            if !self.accept_next(wire, now) {
-                return;
-            }
+        let is_taken = self.accept_unless_full(wire, now);
+        self.end_replaced(wire, now);
+        is_taken
+    }
+
+    /// Takes in the next one who dialled, and hears him, but nobody while too much waits to be told. False where nobody was taken in.
+    #[tactic(auto, using(crate::proofs::Growing::stayed))]
+    fn accept_unless_full<W: Wire>(&mut self, wire: &mut W, now: u64) -> bool
+        ensures grew { Grew self.old self.new (W.passed wire.old) (W.passed wire.new) }
+        ensures full { is_full self.old ≡ true → result ≡ false }
+    {
+        if self.lines.is_full() {
+            return false;
         }
+        self.accept_next(wire, now)
     }
 
     /// Takes in the next one who dialled, and hears him. False where there is none.

@@ -1,6 +1,7 @@
 //! The connections over which nodes speak, by the places of their lines, and what is told of them.
 
-ghost use Rattle.std.specs.Prelude.{◌≡◌, ◌⊎◌, ◌<◌, ◌+◌, ◌++◌, ◌∷◌, [], true, get_or, set, IfOk, IfSome, None, Some};
+ghost use Rattle.std.specs.Prelude.{◌≡◌, ◌⊎◌, ◌<◌, ◌+◌, ◌++◌, ◌∷◌, [], nat_le, true, length, get_or, set, IfOk, IfSome, None, Some};
+ghost use Rattle.node_peers.specs.declared.limits.TheConstants.{BACKLOG as MOST};
 ghost use Rattle.node_peers.specs.declared.notice.Notice.TheVariants as notices;
 ghost use Rattle.node_wires.specs.Passages.{Began, Wrote};
 ghost use Rattle.node_wires.specs.declared.line.Line.TheVariants.{Peer, Caller};
@@ -178,7 +179,9 @@ impl Lines {
     }
 
     /// Whether so much waits to be told that nothing more is read.
-    pub(crate) fn is_full(&self) -> bool {
+    pub(crate) fn is_full(&self) -> bool
+        ensures { result ≡ nat_le MOST (length self.now.notices.items) }
+    {
         self.notices.len() >= BACKLOG
     }
 
@@ -546,7 +549,7 @@ impl Lines {
     }
 
     /// Closes the connection at a place.
-    #[tactic(auto, using(crate::proofs::Adding::one_added, crate::proofs::Growing::stayed))]
+    #[tactic(auto, using(crate::proofs::Adding::line_of_peers, crate::proofs::Adding::one_added, crate::proofs::Growing::stayed))]
     pub(crate) fn close<W: Wire>(&mut self, wire: &mut W, place: usize)
         requires { place < LINKS }
         ensures { Grew self.old self.new (W.passed wire.old) (W.passed wire.new) }
@@ -554,6 +557,7 @@ impl Lines {
         self.count_unheard(place);
         clear(&mut self.links, place);
         wire.close(line_at(place));
+        self.passed.closed(line_at(place));
     }
 
     /// The fault at a place is told from now on. False where it was already, or no connection is there.

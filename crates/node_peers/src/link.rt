@@ -15,7 +15,7 @@ ghost use Rattle.node_peers.specs.Hearing.{IsOf, KeepsOn, KeepsAs, KeepsSaying, 
 use crate::limits::{DIALLED, LINKS, PIECES};
 use node_links::{Arrived, Connection, Heading, Met, Outbox, Own, PeerFault};
 use node_wires::limits::NODES;
-use node_wires::{Halt, Line, Passages, Wire};
+use node_wires::{Halt, Line, Passages, Way, Wire};
 use paxos_wire::Ballot;
 use peer_codes::{Frame, Hello};
 
@@ -156,7 +156,7 @@ fn take_in(link: &mut Link, piece: &[u8])
 }
 
 /// Reads the next piece that came over a line. It says whether there may be more.
-#[tactic(auto, using(crate::proofs::Adding::line_of_peers, crate::proofs::Adding::nothing_added, crate::proofs::Adding::one_added, crate::proofs::Fitting::moves_still, crate::proofs::Fitting::moves_taken))]
+#[tactic(auto, using(crate::proofs::Adding::line_of_peers, crate::proofs::Adding::halted_added, crate::proofs::Adding::one_added, crate::proofs::Fitting::moves_halted, crate::proofs::Fitting::moves_taken))]
 fn read_piece<W: Wire>(
     link: &mut Link,
     passed: &mut Passages,
@@ -174,9 +174,9 @@ fn read_piece<W: Wire>(
             take_in(link, &piece[..count]);
             !link.has_ended
         }
-        Err(Halt::Later) => false,
-        Err(Halt::Ended) => {
-            link.has_ended = true;
+        Err(halt) => {
+            passed.halted(line_at(place), Way::Reading, halt);
+            link.has_ended = link.has_ended || halt == Halt::Ended;
             false
         }
     }
@@ -217,8 +217,16 @@ fn what_of(count: usize) -> Written {
     }
 }
 
+/// What became of bytes of which none was written, for this reason.
+fn halted(halt: Halt) -> Written {
+    match halt {
+        Halt::Later => Written::Later,
+        Halt::Ended => Written::Ended,
+    }
+}
+
 /// Writes what was begun over the line at a place, as much of it as there is room for.
-#[tactic(auto, using(crate::proofs::Adding::line_of_peers, crate::proofs::Adding::nothing_added, crate::proofs::Adding::one_added, crate::proofs::Fitting::moves_still, crate::proofs::Fitting::moves_written))]
+#[tactic(auto, using(crate::proofs::Adding::line_of_peers, crate::proofs::Adding::nothing_added, crate::proofs::Adding::halted_added, crate::proofs::Adding::one_added, crate::proofs::Fitting::moves_still, crate::proofs::Fitting::moves_halted, crate::proofs::Fitting::moves_written))]
 pub(crate) fn write<W: Wire>(
     link: &mut Link,
     passed: &mut Passages,
@@ -239,8 +247,10 @@ pub(crate) fn write<W: Wire>(
             link.connection.wrote(count);
             what_of(count)
         }
-        Err(Halt::Later) => Written::Later,
-        Err(Halt::Ended) => Written::Ended,
+        Err(halt) => {
+            passed.halted(line_at(place), Way::Writing, halt);
+            halted(halt)
+        }
     }
 }
 

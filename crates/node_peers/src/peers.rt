@@ -1,6 +1,6 @@
 //! A process's connections to its peers.
 
-ghost use Rattle.std.specs.Prelude.{◌≡◌, ◌≤◌, ◌<◌, ◌+◌, true, ℕ, List, [], ◌∷◌, ◌++◌, length, get_or, slice_get, None, Some, IfOk, IfSome};
+ghost use Rattle.std.specs.Prelude.{◌≡◌, ◌≤◌, ◌<◌, ◌+◌, true, false, ℕ, List, [], ◌∷◌, ◌++◌, length, get_or, slice_get, None, Some, IfOk, IfSome};
 ghost use Rattle.node_peers.specs.declared.limits.TheConstants.{HOLD as LONG};
 ghost use Rattle.node_peers.specs.Hearing.{IsTold, talk_over};
 ghost use Rattle.node_peers.specs.Lines.{line_at};
@@ -32,8 +32,8 @@ use std::alloc::{AllocError, Global};
 
 /// The connections of a node's process to its peers: of each pair of nodes the one with the greater number dials.
 ///
-/// A turn: `hear` takes what came, `next` tells it; what the node sends meanwhile goes by `send`; `tell` says how the node
-/// is, where that is due; `flush` writes what waits. None of them waits.
+/// A turn: `hear` takes what came, and `take_caller` one after another who dialled; `next` tells it; what the node sends
+/// meanwhile goes by `send`; `tell` says how the node is, where that is due; `flush` writes what waits. None of them waits.
 pub struct Peers {
     pub(crate) lines: Lines,
     /// The ballot that the node has promised, as Hellos say it.
@@ -92,7 +92,7 @@ fn unmet(alloc: Global, nodes: u8, kept: &[Option<Life>]) -> Result<Vec<Peer>, A
 }
 
 impl Peers {
-    ghost use Rattle.node_peers.specs.Peering.{own_of, passed_of, frames_of, heard_of, Grew, Keeps, Stays};
+    ghost use Rattle.node_peers.specs.Peering.{own_of, passed_of, frames_of, heard_of, is_full, Grew, Keeps, Stays};
     ghost use Rattle.node_peers.specs.Leaving.{IsQuiet, NoneIsNeeded, Passes, TakesAside, aside_of, newest_of, waits_of};
     ghost use Rattle.node_links.specs.Promising.{higher};
     ghost use Rattle.node_peers.specs.Noticing.{heard_by, IsFrame};
@@ -269,11 +269,10 @@ impl Peers {
         notice
     }
 
-    /// Takes what came: what was said, which connections ended, and who dialled. What peers said that are there, and which of
-    /// their connections ended, is taken before new Hellos. Up to `TAKEN_AT_ONCE` callers are taken in, and each is heard at
-    /// once: who has ended, or said anything wrong, has no place behind that. Peers that are to be dialled are dialled, also one
-    /// that is there and has been silent for so long that it counts as absent: beside its connection, over a second line. While
-    /// too much waits to be told nothing is taken.
+    /// Takes what came: what was said, and which connections ended. What peers said that are there, and which of their connections
+    /// ended, is taken before new Hellos. Nobody is taken in: who dialled waits for `take_caller`. Peers that are to be dialled are
+    /// dialled, also one that is there and has been silent for so long that it counts as absent: beside its connection, over a
+    /// second line. While too much waits to be told nothing is taken.
     ///
     /// Behind it no other node is there of which two lives are known: its connection was closed.
     pub fn hear<W: Wire>(&mut self, wire: &mut W, now: u64)
@@ -284,6 +283,22 @@ impl Peers {
         ensures writing { (seat : ℕ) → wrote_over (W.passed wire.new) (Seat seat) ≡ wrote_over (W.passed wire.old) (Seat seat) }
     {
         self.take(wire, now);
+    }
+
+    /// Takes in the next one who dialled, and hears him at once: who has ended, or said anything wrong, has no place behind that.
+    /// False where the wires give none, and while too much waits to be told. It belongs behind `hear`, by which
+    /// those who are there are heard first. Whoever calls it bounds how many are taken in a turn.
+    ///
+    /// Behind it no other node is there of which two lives are known: its connection was closed.
+    pub fn take_caller<W: Wire>(&mut self, wire: &mut W, now: u64) -> bool
+        ensures grew { Grew self.old self.new (W.passed wire.old) (W.passed wire.new) }
+        ensures closed { AreClosed (own_of self.new) self.new.peers.items }
+        ensures seats { seats_in (W.passed wire.new) ≡ seats_in (W.passed wire.old) }
+        ensures log { logged_in (W.passed wire.new) ≡ logged_in (W.passed wire.old) }
+        ensures writing { (seat : ℕ) → wrote_over (W.passed wire.new) (Seat seat) ≡ wrote_over (W.passed wire.old) (Seat seat) }
+        ensures full { is_full self.old ≡ true → result ≡ false }
+    {
+        self.take_one(wire, now)
     }
 
     /// Takes what came, and dials.
@@ -320,15 +335,6 @@ impl Peers {
         self.hear_peers(wire, now);
     }
 
-    /// Takes in who dialled, and hears all others.
-    #[tactic(auto, using(crate::proofs::Growing::grew_on, crate::proofs::Growing::stayed, crate::proofs::Growing::stays_on))]
-    fn hear_in<W: Wire>(&mut self, wire: &mut W, now: u64)
-        ensures { Grew self.old self.new (W.passed wire.old) (W.passed wire.new) }
-    {
-        self.accept_all(wire, now);
-        self.hear_all(wire, now);
-    }
-
     /// Ends what has ended or is stale, and tells how many were refused.
     #[tactic(auto, using(crate::proofs::Growing::grew_on, crate::proofs::Growing::stayed, crate::proofs::Growing::stays_on))]
     fn end_in<W: Wire>(&mut self, wire: &mut W, now: u64)
@@ -343,7 +349,7 @@ impl Peers {
         ensures { Grew self.old self.new (W.passed wire.old) (W.passed wire.new) }
     {
         self.read_in(wire, now);
-        self.hear_in(wire, now);
+        self.hear_all(wire, now);
         self.end_in(wire, now);
     }
 

@@ -89,6 +89,10 @@ impl<W: Wire + Drop> Wire for ComparedWire<'_, W> {
         self.wire.wait(most);
     }
 
+    fn called(&mut self) {
+        self.wire.called();
+    }
+
     fn draw(&mut self) -> Option<[u8; 32]> {
         self.wire.draw()
     }
@@ -152,4 +156,6 @@ impl<W: Wire + Drop> Wire for ComparedWire<'_, W> {
             Err(WireFault::Failed)
         }
     }
+
+    ghost in_order = { λ compared. W.in_order compared.wire };
 }

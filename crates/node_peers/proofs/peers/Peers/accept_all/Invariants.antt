@@ -1,5 +1,0 @@
-use Rattle.node_peers.specs.Peering.{Grew}
-use Rattle.node_peers.proofs.peers.Peers.accept_all.Given as goal
-
-abbrev pub invariant-loop : goal.invariant-loop
-invariant-loop g l = Grew l.initial.self l.self (g.W.Wire.passed l.initial.wire) (g.W.Wire.passed l.wire)
