@@ -122,11 +122,11 @@ waits_off seat old new says = put_off_at (true ≡ true) seat old new (λ is. in
 -- something came, or a bot was let go of
 pub changed_off : (notice : Option SeatNotice) (old new : List Seat) → Changes notice old new → PutsOff false old new
 changed_off None old new is = λ seat waits. inl (sym (ap (λ (b : Bot). b.parting) (is seat)) ∙ waits)
-changed_off (Some (notices.Refused number source)) old new is = λ seat waits. inl (sym (ap (λ (b : Bot). b.parting) (is seat)) ∙ waits)
 changed_off (Some (notices.Piece number bytes)) old new is = put_off_at (false ≡ true) number old new (λ waits. inl (sym (ap (λ (b : Bot). b.parting) is.0) ∙ waits)) is.1
 changed_off (Some (notices.Gone number)) old new is = put_off_at (false ≡ true) number old new (λ waits. inl (sym (ap (λ (b : Bot). b.parting) is.0) ∙ waits)) is.1
 changed_off (Some (notices.Came number)) old new is =
     put_off_at (false ≡ true) number old new (λ waits. none_waits (sym (ap (λ (b : Bot). b.parting) is.1.0) ∙ waits)) is.1.1
+changed_off (Some other) old new is = λ seat waits. inl (sym (ap (λ (b : Bot). b.parting) (is seat)) ∙ waits)
 
 pub waits_changed : (apart : Apart) (notice : Option SeatNotice) (old new : List Seat) → Changes notice old new → PutsOffApart apart apart old new
 waits_changed apart notice old new is = waits_by apart old new (none_in_any apart.is_apart old new (changed_off notice old new is))

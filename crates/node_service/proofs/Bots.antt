@@ -1,11 +1,10 @@
 -- What the bots of a process's seats are told, call by call.
-use Rattle.std.proofs.Common.{◌≡◌, ◌⊎◌, inl, inr, ℕ, Bool, true, false, List, [], ◌∷◌, ◌++◌, ◌==◌, if◌then◌else◌, nat_lt, length, append_assoc, refl, ap, sym, subst, ◌∙◌}
+use Rattle.std.proofs.Common.{◌≡◌, inl, inr, ℕ, Bool, true, false, List, [], ◌∷◌, ◌++◌, ◌==◌, if◌then◌else◌, nat_lt, length, append_assoc, refl, ap, sym, subst, ◌∙◌}
 use Rattle.std.proofs.lemmas.Bool.Decides.{eqb_tells}
 use Rattle.std.specs.Prelude.{Option, Some, None, IsSomeAnd}
 use Rattle.promise_store.specs.declared.disk.Disk.{Ghosts}
 use Rattle.slot_log.specs.Hand.{Match}
 use Rattle.line_cursor.specs.declared.cursor.Cursor.{Cursor}
-use Rattle.line_cursor.specs.Past.{seat_line_at}
 use Rattle.line_cursor.specs.Cursors.{next_cursor}
 use Rattle.node_rules.specs.Standings.{Standing, applied}
 use Rattle.dealer_node.specs.Nodes.{Node}
@@ -399,10 +398,10 @@ module _ {D : Type 0} {g : Ghosts D} where
 
   pub bots_changed : (look : Look (Node D)) (notice : Option SeatNotice) (old new : List Seat) → Changes notice old new → KeepBots g look look old new
   bots_changed look None old new changes = goes_all look old new (λ seat. goes_same look seat (bot_at old seat) (bot_at new seat) (changes seat))
-  bots_changed look (Some (notices.Refused number source)) old new changes = goes_all look old new (λ seat. goes_same look seat (bot_at old seat) (bot_at new seat) (changes seat))
   bots_changed look (Some (notices.Piece number bytes)) old new changes = goes_at look number old new (goes_heard look number bytes.items (bot_at old number) (bot_at new number) changes.0) changes.1
   bots_changed look (Some (notices.Came number)) old new changes = goes_at look number old new (goes_new look number (bot_at old number) (bot_at new number) changes.1.0) changes.1.1
   bots_changed look (Some (notices.Gone number)) old new changes = goes_at look number old new (goes_gone look number (bot_at old number) (bot_at new number) changes.0) changes.1
+  bots_changed look (Some other) old new changes = goes_all look old new (λ seat. goes_same look seat (bot_at old seat) (bot_at new seat) (changes seat))
 
   -- ---- one of them was told something
 

@@ -3,11 +3,12 @@ use Rattle.std.proofs.Common.{◌≡◌, ◌⊎◌, inl, inr, ℕ, nat_lt, Bool,
 use Rattle.std.proofs.Math.Logic.{∥∥₁_map}
 use Rattle.std.proofs.lemmas.Bool.{ltb-true, ltb-false}
 use Rattle.std.proofs.lemmas.Bool.Decides.{eqb_tells}
+use Rattle.std.proofs.lemmas.List.{append-nil}
 use Rattle.std.specs.Prelude.{Option, Some, None, IfSome, Result, Ok, Err}
 use Rattle.std.specs.declared.alloc.AllocError.{AllocError}
 use Rattle.node_wires.specs.declared.line.Line.{Line}
 use Rattle.node_wires.specs.declared.line.Line.TheVariants.{Peer, Caller, Seat as SeatOf, Guest, Asker as AskerAt}
-use Rattle.node_wires.specs.Passages.{Passage, Began, Came, Wrote, Gave, Logged, came_by, came_behind, came_over, wrote_by, wrote_behind, wrote_over}
+use Rattle.node_wires.specs.Passages.{Passage, Began, Came, Wrote, Gave, Logged, Saw, Waited, Called, came_by, came_behind, came_over, wrote_by, wrote_behind, wrote_over, seats_in, logged_in, calls_in}
 use Rattle.peer_codes.specs.declared.frame.Frame.{Frame}
 use Rattle.peer_codes.specs.declared.hello.Life.{Life}
 use Rattle.node_links.specs.declared.own.Own.{Own}
@@ -22,14 +23,17 @@ use Rattle.node_seats.specs.Telling.{text_for, IsSaid, AreSaid}
 use Rattle.node_seats.specs.Words.{read_of}
 use Rattle.node_status.specs.declared.asker.Asker.{Asker}
 use Rattle.node_status.specs.Asking as status
-use Rattle.node_status.specs.Asking.{AreAnswered, is_asker, Arrivals, Comes, IsGiven}
+use Rattle.node_status.specs.Asking.{AreAnswered, is_asker, Arrivals, Comes, IsGiven, arrived}
 use Rattle.node_status.specs.Given.{Given, given_at, waits, with_line}
 use Rattle.node_service.specs.Arriving.{Incoming, OfSeat, OfPeer, OfJoined}
 use Rattle.node_service.specs.Telling.{told_of, told_by}
 use Rattle.node_service.specs.Company.{Hears}
 use Rattle.node_service.specs.Asking.{line_given, GivesOnly, IsNoLine}
 use Rattle.node_service.specs.Crossing.{IsCarried, KeepsLines, IsHeard, AreHeard, HasNoLife, EndsAtLife}
+use Rattle.node_service.specs.Calling.{called_if}
 use Rattle.node_service.proofs.Asking.{gives_alike}
+use Rattle.node_service.proofs.Calls.{calls_kept}
+use Rattle.node_service.proofs.Showing.{log_of_both, seats_of_both}
 
 -- ---- several passages
 
@@ -44,53 +48,25 @@ came_both line before (x ∷ xs) ys = came_both line (came_by line before x) xs 
 -- over lines of peers nothing is written to those who ask
 not_asked : (place : ℕ) (before : List ℕ) (ys : List Passage) → AreOfPeers ys → wrote_behind (AskerAt place) before ys ≡ before
 not_asked place before [] are = refl
-not_asked place before (Began (Peer n) ∷ ys) are = not_asked place before ys are.1
-not_asked place before (Began (Caller n) ∷ ys) are = not_asked place before ys are.1
-not_asked place before (Began (SeatOf n) ∷ ys) are = absurd are.0
-not_asked place before (Began (Guest n) ∷ ys) are = absurd are.0
 not_asked place before (Began (AskerAt n) ∷ ys) are = absurd are.0
-not_asked place before (Came line bytes ∷ ys) are = not_asked place before ys are.1
-not_asked place before (Wrote (Peer n) bytes ∷ ys) are = not_asked place before ys are.1
-not_asked place before (Wrote (Caller n) bytes ∷ ys) are = not_asked place before ys are.1
-not_asked place before (Wrote (SeatOf n) bytes ∷ ys) are = absurd are.0
-not_asked place before (Wrote (Guest n) bytes ∷ ys) are = absurd are.0
 not_asked place before (Wrote (AskerAt n) bytes ∷ ys) are = absurd are.0
-not_asked place before (Gave at number ∷ ys) are = absurd are.0
-not_asked place before (Logged text ∷ ys) are = absurd are.0
+not_asked place before (other ∷ ys) are = not_asked place before ys are.1
 
 -- nor to guests
 not_guests : (place : ℕ) (before : List ℕ) (ys : List Passage) → AreOfPeers ys → wrote_behind (Guest place) before ys ≡ before
 not_guests place before [] are = refl
-not_guests place before (Began (Peer n) ∷ ys) are = not_guests place before ys are.1
-not_guests place before (Began (Caller n) ∷ ys) are = not_guests place before ys are.1
-not_guests place before (Began (SeatOf n) ∷ ys) are = absurd are.0
 not_guests place before (Began (Guest n) ∷ ys) are = absurd are.0
-not_guests place before (Began (AskerAt n) ∷ ys) are = absurd are.0
-not_guests place before (Came line bytes ∷ ys) are = not_guests place before ys are.1
-not_guests place before (Wrote (Peer n) bytes ∷ ys) are = not_guests place before ys are.1
-not_guests place before (Wrote (Caller n) bytes ∷ ys) are = not_guests place before ys are.1
-not_guests place before (Wrote (SeatOf n) bytes ∷ ys) are = absurd are.0
 not_guests place before (Wrote (Guest n) bytes ∷ ys) are = absurd are.0
-not_guests place before (Wrote (AskerAt n) bytes ∷ ys) are = absurd are.0
 not_guests place before (Gave at number ∷ ys) are = absurd are.0
-not_guests place before (Logged text ∷ ys) are = absurd are.0
+not_guests place before (other ∷ ys) are = not_guests place before ys are.1
 
 -- and nothing comes of seats
 none_of_seats : (seat : ℕ) (before : List ℕ) (ys : List Passage) → AreOfPeers ys → came_behind (SeatOf seat) before ys ≡ before
 none_of_seats seat before [] are = refl
-none_of_seats seat before (Began (Peer n) ∷ ys) are = none_of_seats seat before ys are.1
-none_of_seats seat before (Began (Caller n) ∷ ys) are = none_of_seats seat before ys are.1
 none_of_seats seat before (Began (SeatOf n) ∷ ys) are = absurd are.0
-none_of_seats seat before (Began (Guest n) ∷ ys) are = absurd are.0
-none_of_seats seat before (Began (AskerAt n) ∷ ys) are = absurd are.0
-none_of_seats seat before (Came (Peer n) bytes ∷ ys) are = none_of_seats seat before ys are.1
-none_of_seats seat before (Came (Caller n) bytes ∷ ys) are = none_of_seats seat before ys are.1
 none_of_seats seat before (Came (SeatOf n) bytes ∷ ys) are = absurd are.0
-none_of_seats seat before (Came (Guest n) bytes ∷ ys) are = absurd are.0
-none_of_seats seat before (Came (AskerAt n) bytes ∷ ys) are = absurd are.0
-none_of_seats seat before (Wrote line bytes ∷ ys) are = none_of_seats seat before ys are.1
 none_of_seats seat before (Gave at number ∷ ys) are = absurd are.0
-none_of_seats seat before (Logged text ∷ ys) are = absurd are.0
+none_of_seats seat before (other ∷ ys) are = none_of_seats seat before ys are.1
 
 -- ---- where nothing changes but what is said of it
 
@@ -171,7 +147,7 @@ come_there place other at askers now comes = elim (eqb_tells other place) as (λ
 pub none_given : (at : ℕ) (places : List ℕ) (askers now : List Asker) (old new : List Passage) → Arrivals at places askers now old new → GivesOnly IsNoLine askers now
 none_given at [] askers now old new came = λ place within. inl (ap (λ (all : List Asker). line_given all place) came.1)
 none_given at (there ∷ more) askers now old new came =
-    gives_alike IsNoLine askers came.0 now (λ place within. come_there there place at askers came.0 came.1.0) (none_given at more came.0 now (old ++ Began (AskerAt there) ∷ []) new came.1.1)
+    gives_alike IsNoLine askers came.0 now (λ place within. come_there there place at askers came.0 came.1.0) (none_given at more came.0 now (old ++ arrived askers there) new came.1.1)
 
 line_or : (is_waiting : Bool) (line : List ℕ) (g : Given) → waits g ≡ is_waiting → ((with_line line g).line ≡ g.line) ⊎ ((with_line line g).line ≡ line)
 line_or true line g e = inr (ap (λ (b : Bool). (if b then record { is_here = true; since = g.since; line = line; written = 0 } else g).line) e)
@@ -188,31 +164,63 @@ given_or line (Err refused) before after (inr has) = with_or line before after h
 pub line_alone : (line : List ℕ) (result : Result Unit AllocError) (askers now : List Asker) → status.Answers line result askers now → GivesOnly (λ given. given ≡ line) askers now
 line_alone line result askers now answers place within = given_or line result (given_at askers place) (given_at now place) (answers.given place within)
 
+-- ---- what moves nothing
+
+rests_by : (p : Passage) (old new : List Passage) → ((line : Line) (before : List ℕ) → wrote_by line before p ≡ before) → ((line : Line) (before : List ℕ) → came_by line before p ≡ before) → seats_in (p ∷ []) ≡ [] → logged_in (p ∷ []) ≡ []
+    → new ≡ old ++ p ∷ [] → seats.Rests old new
+rests_by p old new wrote came seat text e = record {
+  wrote = λ line. ap (λ (ps : List Passage). wrote_over ps line) e ∙ (wrote_both line [] old (p ∷ []) ∙ wrote line (wrote_over old line));
+  came = λ line. ap (λ (ps : List Passage). came_over ps line) e ∙ (came_both line [] old (p ∷ []) ∙ came line (came_over old line));
+  seats = ap seats_in e ∙ (seats_of_both old (p ∷ []) ∙ (ap (λ (ps : List Passage). seats_in old ++ ps) seat ∙ append-nil (seats_in old)));
+  log = ap logged_in e ∙ (log_of_both old (p ∷ []) ∙ (ap (λ (t : List ℕ). logged_in old ++ t) text ∙ append-nil (logged_in old)));
+}
+
+pub rests_same : (old new : List Passage) → new ≡ old → seats.Rests old new
+rests_same old new e = record { wrote = λ line. ap (λ (ps : List Passage). wrote_over ps line) e; came = λ line. ap (λ (ps : List Passage). came_over ps line) e; seats = ap seats_in e; log = ap logged_in e }
+
+pub rests_saw : (old new : List Passage) (moment : ℕ) → new ≡ old ++ Saw moment ∷ [] → seats.Rests old new
+rests_saw old new moment e = rests_by (Saw moment) old new (λ line before. refl) (λ line before. refl) refl refl e
+
+pub rests_waited : (old new : List Passage) (most : ℕ) → new ≡ old ++ Waited most ∷ [] → seats.Rests old new
+rests_waited old new most e = rests_by (Waited most) old new (λ line before. refl) (λ line before. refl) refl refl e
+
+pub rests_called : (given : Bool) (old new : List Passage) → new ≡ old ++ called_if given → seats.Rests old new
+rests_called true old new e = rests_by Called old new (λ line before. refl) (λ line before. refl) refl refl e
+rests_called false old new e = rests_same old new (e ∙ append-nil old)
+
 -- ---- the log
 
 pub lines_same : (old new : List Passage) → new ≡ old → KeepsLines old new
-lines_same old new e = record { wrote = λ line. ap (λ (ps : List Passage). wrote_over ps line) e; came = λ line. ap (λ (ps : List Passage). came_over ps line) e }
+lines_same old new e = record { wrote = λ line. ap (λ (ps : List Passage). wrote_over ps line) e; came = λ line. ap (λ (ps : List Passage). came_over ps line) e; calls = ap calls_in e }
+
+pub lines_saw : (old new : List Passage) (moment : ℕ) → new ≡ old ++ Saw moment ∷ [] → KeepsLines old new
+lines_saw old new moment e = let rests = rests_saw old new moment e in record { wrote = rests.wrote; came = rests.came; calls = calls_kept old new (Saw moment ∷ []) e refl }
 
 pub lines_logged : (old new : List Passage) (text : List ℕ) → new ≡ old ++ Logged text ∷ [] → KeepsLines old new
 lines_logged old new text e = record {
   wrote = λ line. ap (λ (ps : List Passage). wrote_over ps line) e ∙ wrote_both line [] old (Logged text ∷ []);
   came = λ line. ap (λ (ps : List Passage). came_over ps line) e ∙ came_both line [] old (Logged text ∷ []);
+  calls = calls_kept old new (Logged text ∷ []) e refl;
 }
 
 pub lines_on : (a b c : List Passage) → KeepsLines a b → KeepsLines b c → KeepsLines a c
-lines_on a b c one two = record { wrote = λ line. two.wrote line ∙ one.wrote line; came = λ line. two.came line ∙ one.came line }
+lines_on a b c one two = record { wrote = λ line. two.wrote line ∙ one.wrote line; came = λ line. two.came line ∙ one.came line; calls = two.calls ∙ one.calls }
 
 pub said_along : (old new : List Passage) (bots : List Seat) → KeepsLines old new → AreSaid old bots → AreSaid new bots
 said_along old new bots keeps are = said_alike old new bots (λ seat. keeps.wrote (SeatOf seat)) (λ seat. keeps.came (SeatOf seat)) are
 
-pub carried_shown : (old new lines : List Passage) (bots now : List Seat) (askers : List Asker) → KeepsLines old new → (AreSaid old bots → AreSaid new now) → IsCarried old lines bots askers
-    → IsCarried new lines now askers
-carried_shown old new lines bots now askers keeps said is = record {
-  peers = λ line of_peers. (keeps.wrote line ∙ (is.peers line of_peers).0, keeps.came line ∙ (is.peers line of_peers).1);
+pub carried_shown : (old new lines : List Passage) (bots now : List Seat) (askers : List Asker) → ((line : Line) → wrote_over new line ≡ wrote_over old line) → ((line : Line) → came_over new line ≡ came_over old line)
+    → (AreSaid old bots → AreSaid new now) → IsCarried old lines bots askers → IsCarried new lines now askers
+carried_shown old new lines bots now askers wrote came said is = record {
+  peers = λ line of_peers. (wrote line ∙ (is.peers line of_peers).0, came line ∙ (is.peers line of_peers).1);
   said = said is.said;
-  guests = λ place. keeps.wrote (Guest place) ∙ is.guests place;
-  answered = λ place. keeps.wrote (AskerAt place) ∙ is.answered place;
+  guests = λ place. wrote (Guest place) ∙ is.guests place;
+  answered = λ place. wrote (AskerAt place) ∙ is.answered place;
 }
+
+pub carried_rested : (old new lines : List Passage) (bots : List Seat) (askers : List Asker) → seats.Rests old new → IsCarried old lines bots askers → IsCarried new lines bots askers
+carried_rested old new lines bots askers rests is =
+    carried_shown old new lines bots bots askers rests.wrote rests.came (said_alike old new bots (λ seat. rests.wrote (SeatOf seat)) (λ seat. rests.came (SeatOf seat))) is
 
 -- ---- what was told of peers
 
@@ -269,29 +277,20 @@ heard_now own lines (Some notice) is = heard_notice own lines notice is
 pub no_life_both : (xs ys : List Passage) → HasNoLife xs → HasNoLife ys → HasNoLife (xs ++ ys)
 no_life_both [] ys none others = others
 no_life_both (Began line ∷ xs) ys none others = absurd none
-no_life_both (Came line bytes ∷ xs) ys none others = no_life_both xs ys none others
-no_life_both (Wrote line bytes ∷ xs) ys none others = no_life_both xs ys none others
-no_life_both (Gave place seat ∷ xs) ys none others = no_life_both xs ys none others
-no_life_both (Logged text ∷ xs) ys none others = no_life_both xs ys none others
+no_life_both (other ∷ xs) ys none others = no_life_both xs ys none others
 
 pub ends_both : (xs ys : List Passage) → HasNoLife xs → EndsAtLife ys → EndsAtLife (xs ++ ys)
 ends_both [] ys none ends = ends
 ends_both (Began line ∷ xs) ys none ends = absurd none
-ends_both (Came line bytes ∷ xs) ys none ends = ends_both xs ys none ends
-ends_both (Wrote line bytes ∷ xs) ys none ends = ends_both xs ys none ends
-ends_both (Gave place seat ∷ xs) ys none ends = ends_both xs ys none ends
-ends_both (Logged text ∷ xs) ys none ends = ends_both xs ys none ends
+ends_both (other ∷ xs) ys none ends = ends_both xs ys none ends
 
 pub no_life_ends : (xs : List Passage) → HasNoLife xs → EndsAtLife xs
 no_life_ends [] none = tt
 no_life_ends (Began line ∷ xs) none = absurd none
-no_life_ends (Came line bytes ∷ xs) none = no_life_ends xs none
-no_life_ends (Wrote line bytes ∷ xs) none = no_life_ends xs none
-no_life_ends (Gave place seat ∷ xs) none = no_life_ends xs none
-no_life_ends (Logged text ∷ xs) none = no_life_ends xs none
+no_life_ends (other ∷ xs) none = no_life_ends xs none
 
 pub others_same : (passed : List Passage) → status.KeepsOthers passed passed
-others_same passed = record { wrote = λ line off. refl; came = λ line off. refl; seats = refl; log = refl }
+others_same passed = record { more = []; passed = sym (append-nil passed); of_askers = tt; wrote = λ line off. refl; came = λ line off. refl; seats = refl; log = refl }
 
 pub none_unsaid : (old new : List Passage) → new ≡ old → seats.TellsNoGuest old new
 none_unsaid old new same place none = ap (λ (ps : List Passage). wrote_over ps (Guest place)) same ∙ none

@@ -1,8 +1,8 @@
 -- Definitions on values, each beside a near miss.
-use Rattle.std.proofs.Common.{◌≡◌, ℕ, ◌+◌, ◌≤◌, ◌==◌, if◌then◌else◌, Bool, true, false, List, [], ◌∷◌, ◌++◌, Some, None, inl, inr, refl, sym, ap, ◌∙◌, subst, arith}
+use Rattle.std.proofs.Common.{◌≡◌, ℕ, ◌+◌, ◌≤◌, ◌==◌, if◌then◌else◌, Bool, true, false, List, [], ◌∷◌, ◌++◌, length, Some, None, inl, inr, refl, sym, ap, ◌∙◌, subst, arith}
 use Rattle.protocol_model.specs.Dealers.{Seat, Log}
 use Rattle.node_wires.specs.declared.line.Line.TheVariants as line
-use Rattle.node_wires.specs.Passages.{Began, Came as PieceCame, Wrote}
+use Rattle.node_wires.specs.Passages.{Began, Came as PieceCame, Wrote, Called, calls_in}
 use Rattle.dealer_world.specs.Records.{Delivered, Came, Connected}
 use Rattle.stations.specs.Deeds.{Deed}
 use Rattle.node_service.specs.Parts.{IsPartOf}
@@ -11,7 +11,12 @@ use Rattle.node_service.specs.Logging.{HasNoStart, StartedOnce}
 use Rattle.node_service.specs.Handed.{frames_by}
 use Rattle.node_seats.specs.declared.seat.Seat.{Seat as Place}
 use Rattle.node_seats.specs.Seating.{newcomer, nobody as empty_seat}
-use Rattle.node_service.specs.Arriving.{Incoming, OfSeat, OfPeer, incoming_in, came_by}
+use Rattle.node_service.specs.Arriving.{Incoming, OfSeat, OfPeer, incoming_in, incoming_of, came_by}
+use Rattle.node_service.specs.Calling.{called_if}
+use Rattle.node_service.specs.Going.{GoesOn}
+use Rattle.node_service.specs.Served.{Served}
+use Rattle.node_service.specs.Timing.{with_callers}
+use Rattle.node_seats.specs.declared.seat_notice.SeatNotice.TheVariants as seat_notices
 use Rattle.node_service.specs.Turns.{ComeOfSeats, IsOneAt}
 use Rattle.node_service.specs.Sessions.{Without, With, Astray, session_of, IsBeginning, AreGiven}
 use Rattle.node_service.specs.Fitting.{FitsAt}
@@ -364,3 +369,36 @@ seats_were_not_read = refl
 -- nor one before a sleep
 read_before_it_slept : may_be_read false (read_in true (slept_in (record { turns = 64 }) 100001)) ≡ false
 read_before_it_slept = refl
+
+-- ---- what those took who came to ports
+
+-- it isn't sleep, nor what wasn't before, up to 25 ms
+all_of_it : with_callers 7000 25000 ≡ 32000
+all_of_it = refl
+
+no_more_of_it : with_callers 7000 90000 ≡ 32000
+no_more_of_it = refl
+
+-- ---- calls that are put down
+
+one_call : calls_in (called_if true) ≡ 1
+one_call = refl
+
+-- none for which there was no memory
+no_call : calls_in (called_if false) ≡ 0
+no_call = refl
+
+module _ {D : Type 0} (g : Ghosts D) where
+  -- nor one by which nothing was done
+  called_in_vain : (old new : Served (Node D)) (goes : GoesOn g [] old new) → old.passed ≡ [] → new.passed ≡ Called ∷ [] → goes.since ≡ [] → ⊥
+  called_in_vain old new goes none one nothing =
+      let calls = goes.calls in
+      let before = ap calls_in none in
+      let after = ap calls_in one in
+      let deeds = ap (λ (m : List Deed). length m) nothing in
+      omega (arith, calls, before, after, deeds)
+
+-- ---- a seat that couldn't be read
+
+nothing_is_told : incoming_of (seat_notices.Unread 1) ≡ []
+nothing_is_told = refl

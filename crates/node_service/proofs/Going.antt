@@ -1,10 +1,10 @@
 -- How what a process does in turn comes together.
-use Rattle.std.proofs.Common.{◌≡◌, inl, ℕ, Bool, List, [], ◌++◌, refl, sym, ◌∙◌, ap, subst, append_assoc}
+use Rattle.std.proofs.Common.{◌≡◌, ◌+◌, inl, ℕ, Bool, List, [], ◌++◌, length, refl, sym, ◌∙◌, ap, subst, append_assoc}
 use Rattle.std.proofs.lemmas.List.{append-nil}
 use Rattle.promise_store.specs.declared.disk.Disk.{Ghosts}
 use Rattle.dealer_node.specs.Nodes.{Node}
 use Rattle.dealer_node.specs.Seeing.{begun_of}
-use Rattle.node_wires.specs.Passages.{Passage, logged_in, seats_in}
+use Rattle.node_wires.specs.Passages.{Passage, logged_in, seats_in, calls_in}
 use Rattle.stations.specs.Deeds.{Deed}
 use Rattle.stations.specs.Stations.{Look}
 use Rattle.node_service.specs.Parts.{IsPartOf}
@@ -31,6 +31,7 @@ use Rattle.node_service.specs.declared.taking.Taken.{Taken}
 use Rattle.node_service.specs.declared.taking.Taken.TheVariants as kind
 use Rattle.node_service.proofs.Asking.{gives_on, none_gives_on}
 use Rattle.node_service.proofs.Bots.{LooksOn, as_before, keep_on, bots_still}
+use Rattle.node_service.proofs.Calls.{and_none, calls_on}
 use Rattle.node_service.proofs.Crossing.{heard_both, heard_further}
 use Rattle.node_service.proofs.Turns.{no_frames}
 use Rattle.node_service.proofs.Hearing.{hears_none, hears_on}
@@ -74,15 +75,16 @@ module _ {D : Type 0} {g : Ghosts D} where
   looks_on goes = record { config = goes.config; number = goes.number; begun = goes.begun; since = goes.since; deeds = goes.deeds }
 
   -- where nothing is done
-  unfoldable pub still : (old new : Served (Node D)) → new.look ≡ old.look → new.log_failed ≡ old.log_failed → new.sent ≡ old.sent → KeepBots g old.look new.look old.bots new.bots → new.heard ≡ old.heard → logged_in new.passed ≡ logged_in old.passed → seats_in new.passed ≡ seats_in old.passed
+  unfoldable pub still : (old new : Served (Node D)) → new.look ≡ old.look → new.log_failed ≡ old.log_failed → new.sent ≡ old.sent → KeepBots g old.look new.look old.bots new.bots → new.heard ≡ old.heard → logged_in new.passed ≡ logged_in old.passed → seats_in new.passed ≡ seats_in old.passed → calls_in new.passed ≡ calls_in old.passed
       → Loosens old.sittings new.sittings → Hears old.own new.own old.lines new.lines → GivesOnly (IsReply new.look) old.askers new.askers → (Carries old → Carries new) → new.started ≡ old.started → new.terms ≡ old.terms → new.guests ≡ old.guests → PutsOffApart old.apart new.apart old.bots new.bots → SatBefore old.bots new.bots → GoesOn g [] old new
-  still old new look log_failed sent bots heard log seats loosened hears asked carried started terms guests waits sat = record {
+  still old new look log_failed sent bots heard log seats calls loosened hears asked carried started terms guests waits sat = record {
     config = ap (λ (l : Look (Node D)). l.config) look;
     number = ap (λ (l : Look (Node D)). l.number) look;
     begun = ap (λ (l : Look (Node D)). begun_of g l.node) look;
     terms = terms;
     since = [];
     deeds = ap (λ (l : Look (Node D)). l.deeds) look;
+    calls = and_none (calls_in old.passed) (calls_in new.passed) calls;
     log = subst (λ (b : Bool). LogGains old.log_failed b [] (logged_in old.passed) (logged_in new.passed)) (sym log_failed)
         (subst (λ (m : List ℕ). LogGains old.log_failed old.log_failed [] (logged_in old.passed) m) (sym log) (nothing_shown old.log_failed (logged_in old.passed)));
     sent = sent ∙ sym (append-nil old.sent);
@@ -112,6 +114,7 @@ module _ {D : Type 0} {g : Ghosts D} where
     terms = then_on.terms ∙ first.terms;
     since = then_on.since ++ first.since;
     deeds = then_on.deeds ∙ (ap (λ (m : List Deed). then_on.since ++ m) first.deeds ∙ sym (append_assoc then_on.since first.since one.look.deeds));
+    calls = calls_on (calls_in one.passed) (calls_in two.passed) (calls_in three.passed) first.since then_on.since first.calls then_on.calls;
     log = subst (λ (m : List ℕ). LogGains one.log_failed three.log_failed m (logged_in one.passed) (logged_in three.passed)) (sym (shown_by_both then_on.since first.since))
         (shown_on one.log_failed two.log_failed three.log_failed (shown_log first.since) (shown_log then_on.since) (logged_in one.passed) (logged_in two.passed) (logged_in three.passed)
         first.log then_on.log);
@@ -147,6 +150,7 @@ module _ {D : Type 0} {g : Ghosts D} where
     terms = then_on.terms ∙ takes.terms;
     since = then_on.since;
     deeds = then_on.deeds ∙ ap (λ (l : Look (Node D)). then_on.since ++ l.deeds) takes.look;
+    calls = then_on.calls ∙ ap (λ (n : ℕ). n + length then_on.since) takes.calls;
     log = subst (λ (b : Bool). LogGains b three.log_failed (shown_log then_on.since) (logged_in one.passed) (logged_in three.passed)) takes.log_failed
         (subst (λ (m : List ℕ). LogGains two.log_failed three.log_failed (shown_log then_on.since) m (logged_in three.passed)) takes.log then_on.log);
     sent = then_on.sent ∙ ap (λ (m : List Passage). m ++ frames_by then_on.since) takes.sent;
@@ -178,6 +182,7 @@ module _ {D : Type 0} {g : Ghosts D} where
     terms = goes.terms;
     since = goes.since;
     deeds = goes.deeds;
+    calls = goes.calls;
     log = goes.log;
     sent = goes.sent;
     bots = goes.bots;
@@ -199,7 +204,7 @@ module _ {D : Type 0} {g : Ghosts D} where
 
   -- nothing happens
   unfoldable pub nothing_done : (here : Served (Node D)) → GoesOn g [] here here
-  nothing_done here = still here here refl refl refl (bots_still here.look here.bots) refl refl refl (λ seat. inl refl) (hears_none here.own here.own here.lines here.lines refl refl) (λ place within. inl refl) (λ is. is) refl refl refl (waits_same here.apart here.bots) (sat_still here.bots)
+  nothing_done here = still here here refl refl refl (bots_still here.look here.bots) refl refl refl refl (λ seat. inl refl) (hears_none here.own here.own here.lines here.lines refl refl) (λ place within. inl refl) (λ is. is) refl refl refl (waits_same here.apart here.bots) (sat_still here.bots)
 
   -- what was taken and isn't given
   pub not_given : {taken : List Incoming} {one two : Served (Node D)} → seats_of taken ≡ [] → Takes g taken one two → GoesOn g [] one two

@@ -14,20 +14,15 @@ use Rattle.node_service.specs.Telling.{incoming_by}
 pub passed_is_incoming : (notice : Option SeatNotice) → seats_in (passed_by notice) ≡ seats_of (incoming_by notice)
 passed_is_incoming None = refl
 passed_is_incoming (Some (notices.Came seat)) = refl
-passed_is_incoming (Some (notices.Piece seat bytes)) = refl
-passed_is_incoming (Some (notices.Gone seat)) = refl
-passed_is_incoming (Some (notices.Refused seat source)) = refl
+passed_is_incoming (Some other) = refl
 
 pub no_peer_told : (notice : Option SeatNotice) → peers_of (incoming_by notice) ≡ []
 no_peer_told None = refl
 no_peer_told (Some (notices.Came seat)) = refl
-no_peer_told (Some (notices.Piece seat bytes)) = refl
-no_peer_told (Some (notices.Gone seat)) = refl
-no_peer_told (Some (notices.Refused seat source)) = refl
+no_peer_told (Some other) = refl
 
 pub none_of_peers : (own : Own) (lines : List Passage) (notice : Option SeatNotice) → AreHeard own lines (incoming_by notice)
 none_of_peers own lines None = tt
 none_of_peers own lines (Some (notices.Came seat)) = (tt, tt)
 none_of_peers own lines (Some (notices.Piece seat bytes)) = (tt, tt)
-none_of_peers own lines (Some (notices.Gone seat)) = tt
-none_of_peers own lines (Some (notices.Refused seat source)) = tt
+none_of_peers own lines (Some other) = tt

@@ -1,10 +1,10 @@
 -- What calls leave that call no node.
-use Rattle.std.proofs.Common.{◌≡◌, ◌⊎◌, inl, inr, ℕ, Bool, true, false, List, [], ◌++◌, map, refl, ap, sym, ◌∙◌, subst}
+use Rattle.std.proofs.Common.{◌≡◌, ◌⊎◌, ◌+◌, inl, inr, ℕ, Bool, true, false, List, [], ◌++◌, length, map, refl, ap, sym, ◌∙◌, subst}
 use Rattle.std.proofs.lemmas.List.{append-nil}
 use Rattle.std.specs.Prelude.{Option, Result, IfSome, IsNone}
 use Rattle.promise_store.specs.declared.disk.Disk.{Ghosts}
 use Rattle.node_wires.specs.declared.wire.Wire.{Ghosts as OfWire}
-use Rattle.node_wires.specs.Passages.{Passage, logged_in, seats_in, wrote_over, came_over}
+use Rattle.node_wires.specs.Passages.{Passage, logged_in, seats_in, calls_in, wrote_over}
 use Rattle.dealer_node.specs.Nodes.{Node}
 use Rattle.dealer_node.specs.Seeing.{begun_of}
 use Rattle.dealer_node.specs.Outs.{Told, nothing_told}
@@ -33,20 +33,22 @@ use Rattle.node_peers.specs.Peering.{own_of, passed_of, frames_of, heard_of, Gre
 use Rattle.node_wires.specs.declared.line.Line.TheVariants.{Seat as SeatOf}
 use Rattle.node_wires.specs.declared.passages.Passages.{Passages}
 use Rattle.node_seats.specs.declared.seats.Seats.{Seats}
-use Rattle.node_seats.specs.Others.{KeepsOthers, TellsNoGuest}
+use Rattle.node_seats.specs.Others.{KeepsOthers, Rests, TellsNoGuest}
+use Rattle.node_seats.proofs.Others.{keeps_same}
 use Rattle.node_seats.specs.Telling.{AreSaid}
 use Rattle.node_status.specs.declared.askers.Askers.{Askers}
 use Rattle.node_status.specs.Asking.{AreAnswered, KeepsOthers as OthersKept}
 use Rattle.node_service.specs.declared.company.Company.{Company}
 use Rattle.node_service.specs.Asking.{line_given, GivesOnly, IsNoLine, IsReply, IsStatusLine}
-use Rattle.node_service.specs.Apartness.{MovesOn, PutsOff, PutsOffApart}
-use Rattle.node_service.specs.declared.apart.Apart.{Apart}
-use Rattle.node_service.proofs.Apartness.{waits_same, waits_still, waits_by, waits_on}
+use Rattle.node_service.specs.Apartness.{PutsOffApart}
+use Rattle.node_service.proofs.Apartness.{waits_same, waits_still, waits_on}
+use Rattle.node_service.specs.Calling.{called_if}
 use Rattle.node_service.specs.Crossing.{IsCarried, Carries}
 use Rattle.node_service.specs.Handing.{HandsOn}
 use Rattle.node_service.proofs.Bots.{LooksOn, as_before, keep_on, bots_still}
 use Rattle.node_service.proofs.Asking.{gives_alike, gives_weaker, none_gives_on}
-use Rattle.node_service.proofs.Crossing.{carried_grown, carried_seated, carried_asked, none_unsaid}
+use Rattle.node_service.proofs.Calls.{by_peers, by_bots, by_askers, and_none, calls_put}
+use Rattle.node_service.proofs.Crossing.{carried_grown, carried_seated, carried_asked, carried_rested, none_unsaid, rests_called}
 use Rattle.node_service.specs.Company.{HearsOn}
 use Rattle.node_service.proofs.Hearing.{hears_none, hears_on, heard_on}
 use Rattle.node_service.proofs.Fitting.{fits_moved}
@@ -88,6 +90,7 @@ module _ {D W : Type 0} {disk : Ghosts D} (wire : OfWire W) where
   pub kept_on : {such : List ℕ → Type 0} {one two three : Desk D W disk} → IsKeptWith wire such one two → IsKeptWith wire such two three → IsKeptWith wire such one three
   kept_on {such} {one} {two} {three} first then_on = record {
     member = then_on.member ∙ first.member;
+    calls = then_on.calls ∙ first.calls;
     log_failed = then_on.log_failed ∙ first.log_failed;
     sent = then_on.sent ∙ first.sent;
     bots = keep_on (members_on one two first.member) (members_on two three then_on.member) first.bots then_on.bots;
@@ -107,6 +110,7 @@ module _ {D W : Type 0} {disk : Ghosts D} (wire : OfWire W) where
   pub as_it_was : {such : List ℕ → Type 0} {old new : Desk D W disk} → new ≡ old → IsKeptWith wire such old new
   as_it_was {such} {old} {new} is = record {
     member = ap (λ (d : Desk D W disk). d.member) is;
+    calls = ap (λ (d : Desk D W disk). calls_in (wire.passed d.wire)) is;
     log_failed = ap (λ (d : Desk D W disk). d.log_failed) is;
     sent = ap (λ (d : Desk D W disk). frames_of d.company.peers) is;
     bots = subst (λ (d : Desk D W disk). KeepBots disk (look_of old.member.station) (look_of d.member.station) old.seats.seats.items d.seats.seats.items) (sym is) (bots_still (look_of old.member.station) old.seats.seats.items);
@@ -147,6 +151,7 @@ module _ {D W : Type 0} {disk : Ghosts D} (wire : OfWire W) where
     sat = sat_kept old new seats;
     guests = ap (λ (s : Seats). s.guests) seats;
     heard = ap (λ (p : Passages). p.items) stays.1.1.1;
+    calls = ap calls_in passed;
     log = ap logged_in passed;
     seats = ap seats_in passed;
     sittings = λ seat. inl (ap (λ (s : Sittings). sitting_at s seat) sittings);
@@ -169,6 +174,7 @@ module _ {D W : Type 0} {disk : Ghosts D} (wire : OfWire W) where
     sat = sat_kept old new seats;
     guests = ap (λ (s : Seats). s.guests) seats;
     heard = ap (λ (p : Passages). p.items) grew.1.1.1;
+    calls = by_peers (passed_of old.company.peers) (passed_of new.company.peers) (wire.passed old.wire) (wire.passed new.wire) grew.1.0;
     log = log;
     seats = of_seats;
     sittings = λ seat. inl (ap (λ (s : Sittings). sitting_at s seat) sittings);
@@ -179,6 +185,26 @@ module _ {D W : Type 0} {disk : Ghosts D} (wire : OfWire W) where
         subst (λ (s : Seats). IsCarried (wire.passed new.wire) (passed_of new.company.peers) s.seats.items new.askers.askers.items) (sym seats)
         (subst (λ (a : Askers). IsCarried (wire.passed new.wire) (passed_of new.company.peers) old.seats.seats.items a.askers.items) (sym askers)
         (carried_grown (passed_of old.company.peers) (passed_of new.company.peers) (wire.passed old.wire) (wire.passed new.wire) old.seats.seats.items old.askers.askers.items grew.1.0 writing is)));
+  }
+
+  -- the clock was looked at, or something was waited for
+  pub kept_rested : (old : Desk D W disk) (after : W) → Rests (wire.passed old.wire) (wire.passed after) → calls_in (wire.passed after) ≡ calls_in (wire.passed old.wire) → IsKept wire old (record old { wire = after })
+  kept_rested old after rests calls = record {
+    member = refl;
+    log_failed = refl;
+    sent = refl;
+    bots = bots_still (look_of old.member.station) old.seats.seats.items;
+    sat = sat_still old.seats.seats.items;
+    guests = refl;
+    heard = refl;
+    calls = calls;
+    log = rests.log;
+    seats = rests.seats;
+    sittings = λ seat. inl refl;
+    hears = inl refl;
+    asked = λ place within. inl refl;
+    waits = waits_same old.apart old.seats.seats.items;
+    carried = inr (carried_rested (wire.passed old.wire) (wire.passed after) (passed_of old.company.peers) old.seats.seats.items old.askers.askers.items rests);
   }
 
   -- something was written to seats, or one was let go of
@@ -194,6 +220,7 @@ module _ {D W : Type 0} {disk : Ghosts D} (wire : OfWire W) where
     sat = sat;
     guests = guests;
     heard = ap (λ (c : Company). heard_of c.peers) company;
+    calls = by_bots (wire.passed old.wire) (wire.passed new.wire) others;
     log = log;
     seats = seats;
     sittings = loosened;
@@ -213,7 +240,7 @@ module _ {D W : Type 0} {disk : Ghosts D} (wire : OfWire W) where
   kept_told {old} {new} waits member log_failed company askers sittings same bots guests said sat =
       let passed : wire.passed new.wire ≡ wire.passed old.wire = ap wire.passed same in
       kept_seated waits member log_failed company askers (λ seat. inl (ap (λ (s : Sittings). sitting_at s seat) sittings)) bots guests (ap logged_in passed) (ap seats_in passed)
-      (record { wrote = λ line off. ap (λ (ps : List Passage). wrote_over ps line) passed; came = λ line off. ap (λ (ps : List Passage). came_over ps line) passed })
+      (keeps_same (wire.passed old.wire) (wire.passed new.wire) passed)
       (none_unsaid (wire.passed old.wire) (wire.passed new.wire) passed)
       (λ are. subst (λ (ps : List Passage). AreSaid ps new.seats.seats.items) (sym passed) (said (wire.passed old.wire) are)) sat
 
@@ -229,6 +256,7 @@ module _ {D W : Type 0} {disk : Ghosts D} (wire : OfWire W) where
     sat = sat_kept old new seats;
     guests = ap (λ (s : Seats). s.guests) seats;
     heard = ap (λ (c : Company). heard_of c.peers) company;
+    calls = by_askers (wire.passed old.wire) (wire.passed new.wire) others;
     log = others.log;
     seats = others.seats;
     sittings = λ seat. inl (ap (λ (s : Sittings). sitting_at s seat) sittings);
@@ -247,7 +275,7 @@ module _ {D W : Type 0} {disk : Ghosts D} (wire : OfWire W) where
       → Does disk [] (served_by wire old) (served_by wire new)
   unfolding still
   goes_with {such} {old} {new} replies is = (
-    still (served_by wire old) (served_by wire new) (ap (λ (m : LocalNode D disk). look_of m.station) is.member) is.log_failed is.sent is.bots is.heard is.log is.seats is.sittings
+    still (served_by wire old) (served_by wire new) (ap (λ (m : LocalNode D disk). look_of m.station) is.member) is.log_failed is.sent is.bots is.heard is.log is.seats is.calls is.sittings
         (heard_either old.company.peers new.company.peers is.hears)
         (gives_weaker such (IsReply (look_of new.member.station)) old.askers.askers.items new.askers.askers.items replies is.asked) (carries is)
         (ap (λ (m : LocalNode D disk). m.is_started) is.member) (ap (λ (m : LocalNode D disk). m.terms) is.member) is.guests is.waits is.sat,
@@ -285,6 +313,7 @@ module _ {D W : Type 0} {disk : Ghosts D} (wire : OfWire W) where
     terms = goes.terms ∙ ap (λ (m : LocalNode D disk). m.terms) is.member;
     since = goes.since;
     deeds = goes.deeds ∙ ap (λ (m : LocalNode D disk). goes.since ++ (look_of m.station).deeds) is.member;
+    calls = goes.calls ∙ ap (λ (n : ℕ). n + length goes.since) is.calls;
     log = subst (λ (b : Bool). LogGains b three.log_failed (shown_log goes.since) (logged_in (wire.passed one.wire)) (logged_in three.passed)) is.log_failed
         (subst (λ (m : List ℕ). LogGains two.log_failed three.log_failed (shown_log goes.since) m (logged_in three.passed)) is.log goes.log);
     sent = goes.sent ∙ ap (λ (m : List Passage). m ++ frames_by goes.since) is.sent;
@@ -320,8 +349,9 @@ module _ {D W : Type 0} {disk : Ghosts D} (wire : OfWire W) where
   kept_only none is = let_go_so none (goes_kept is)
 
   -- what a call made was handed on, and then it was kept
-  pub hands_kept : {told : Told} {one : Served (Node D)} {two three : Desk D W disk} → HandsOn disk told one (served_by wire two) → IsKept wire two three → HandsOn disk told one (served_by wire three)
-  hands_kept {told} {one} {two} {three} hands is = record {
+  pub hands_kept : {count : ℕ} {told : Told} {one : Served (Node D)} {two three : Desk D W disk} → HandsOn disk count told one (served_by wire two) → IsKept wire two three → HandsOn disk count told one (served_by wire three)
+  hands_kept {count} {told} {one} {two} {three} hands is = record {
+    calls = is.calls ∙ hands.calls;
     log = subst (λ (b : Bool). LogGains one.log_failed b (added (map text_by told.shown)) (logged_in one.passed) (logged_in (wire.passed three.wire))) (sym is.log_failed)
         (subst (λ (m : List ℕ). LogGains one.log_failed two.log_failed (added (map text_by told.shown)) (logged_in one.passed) m) (sym is.log) hands.log);
     sent = is.sent ∙ hands.sent;
@@ -339,17 +369,35 @@ module _ {D W : Type 0} {disk : Ghosts D} (wire : OfWire W) where
   }
 
   -- how bots are is of no account for that
-  pub settled : {told : Told} {one : Served (Node D)} (two : Desk D W disk) (sittings : Sittings) → HandsOn disk told one (served_by wire two) → HandsOn disk told one (served_by wire (record two { sittings = sittings }))
-  settled two sittings hands = record { log = hands.log; sent = hands.sent; bots = hands.bots; sat = hands.sat; seats = hands.seats; heard = hands.heard; guests = hands.guests; hears = hands.hears; asked = hands.asked; waits = hands.waits; carried = hands.carried }
+  pub settled : {count : ℕ} {told : Told} {one : Served (Node D)} (two : Desk D W disk) (sittings : Sittings) → HandsOn disk count told one (served_by wire two) → HandsOn disk count told one (served_by wire (record two { sittings = sittings }))
+  settled two sittings hands = record { calls = hands.calls; log = hands.log; sent = hands.sent; bots = hands.bots; sat = hands.sat; seats = hands.seats; heard = hands.heard; guests = hands.guests; hears = hands.hears; asked = hands.asked; waits = hands.waits; carried = hands.carried }
 
-  -- nor is the node that was called
-  pub of_any : {told : Told} {three : Served (Node D)} (one : Desk D W disk) (member : LocalNode D disk) → HandsOn disk told (served_by wire (record one { member = member })) three → HandsOn disk told (served_by wire one) three
-  of_any one member hands = record { log = hands.log; sent = hands.sent; bots = hands.bots; sat = hands.sat; seats = hands.seats; heard = hands.heard; guests = hands.guests; hears = hands.hears; asked = hands.asked; waits = hands.waits; carried = hands.carried }
+  -- nor is the node that was called, which was put down
+  pub of_called : {told : Told} {three : Served (Node D)} (given : Bool) (one : Desk D W disk) (member : LocalNode D disk) (called : W) → wire.passed called ≡ wire.passed one.wire ++ called_if given
+      → HandsOn disk 0 told (served_by wire (record one { member = member; wire = called })) three → HandsOn disk (calls_in (called_if given)) told (served_by wire one) three
+  of_called {told} {three} given one member called put hands =
+      let before = wire.passed one.wire in
+      let rests = rests_called given before (wire.passed called) put in
+      record {
+        calls = calls_put before (wire.passed called) (called_if given) three.passed put hands.calls;
+        log = subst (λ (m : List ℕ). LogGains one.log_failed three.log_failed (added (map text_by told.shown)) m (logged_in three.passed)) rests.log hands.log;
+        sent = hands.sent;
+        bots = hands.bots;
+        sat = hands.sat;
+        seats = hands.seats ∙ rests.seats;
+        heard = hands.heard;
+        guests = hands.guests;
+        hears = hands.hears;
+        asked = hands.asked;
+        waits = hands.waits;
+        carried = λ is. hands.carried (carried_rested before (wire.passed called) (passed_of one.company.peers) one.seats.seats.items one.askers.askers.items rests is);
+      }
 
   -- nothing was made
-  hands_nothing : {old new : Desk D W disk} → IsKept wire old new → HandsOn disk nothing_told (served_by wire old) (served_by wire new)
+  hands_nothing : {old new : Desk D W disk} → IsKept wire old new → HandsOn disk 0 nothing_told (served_by wire old) (served_by wire new)
   hands_nothing {old} {new} is =
       hands_kept (record {
+        calls = and_none (calls_in (wire.passed old.wire)) (calls_in (wire.passed old.wire)) refl;
         log = nothing_shown old.log_failed (logged_in (wire.passed old.wire));
         sent = sym (append-nil (frames_of old.company.peers));
         bots = bots_still (look_of old.member.station) old.seats.seats.items;
@@ -375,7 +423,7 @@ module _ {D W : Type 0} {disk : Ghosts D} (wire : OfWire W) where
   -- the node was called, but not given what the event is made of, and then its bot was let go of
   pub unstepped_then : (e : Event) (told : Told) (result : Option (Result (Unit {0}) NodeFault)) (old : Served (Node D)) (mid new : Desk D W disk) → IsGivenBy false result
       → IfSome result (λ answer. Acts disk e told answer old.look (look_of mid.member.station)) → (IsNone result → look_of mid.member.station ≡ old.look) → (IsNone result → told ≡ nothing_told)
-      → HandsOn disk told old (served_by wire mid) → mid.sittings ≡ old.sittings → IsKept wire mid new → Refuses e mid.sittings new.sittings → IsFree (seat_in e) new.seats.seats.items → (old.started ≡ true → mid.member.is_started ≡ true)
+      → HandsOn disk 0 told old (served_by wire mid) → mid.sittings ≡ old.sittings → IsKept wire mid new → Refuses e mid.sittings new.sittings → IsFree (seat_in e) new.seats.seats.items → (old.started ≡ true → mid.member.is_started ≡ true)
       → mid.member.terms ≡ old.terms → Does disk (taken_for e) old (served_by wire new)
   unstepped_then e told result old mid new given acts same unmade hands sittings is refuses free started terms =
       let look : look_of new.member.station ≡ look_of mid.member.station = ap (λ (m : LocalNode D disk). look_of m.station) is.member in

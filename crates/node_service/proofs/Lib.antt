@@ -4,6 +4,7 @@ pub mod Apartness
 pub mod Members
 pub mod Parts
 pub mod Showing
+pub mod Calls
 pub mod Fitting
 pub mod Seated
 pub mod Asking

@@ -151,10 +151,10 @@ sat_unless_gone seat were are gone others = sat_at seat were are (λ sits. taken
 -- nobody was taken in, or he is gone
 pub sat_changed : (notice : Option SeatNotice) (were are : List Seat) → ((number : ℕ) → notice ≡ Some (notices.Came number) → ⊥) → Changes notice were are → SatBefore were are
 sat_changed None were are none is = λ seat sits. sym (ap (λ (b : Bot). b.sits) (is seat)) ∙ sits
-sat_changed (Some (notices.Refused number source)) were are none is = λ seat sits. sym (ap (λ (b : Bot). b.sits) (is seat)) ∙ sits
 sat_changed (Some (notices.Piece number bytes)) were are none is = sat_at number were are (λ sits. sym (ap (λ (b : Bot). b.sits) is.0) ∙ sits) is.1
 sat_changed (Some (notices.Gone number)) were are none is = sat_at number were are (λ sits. let never : false ≡ true = sym (ap (λ (b : Bot). b.sits) is.0) ∙ sits in absurd cc) is.1
 sat_changed (Some (notices.Came number)) were are none is = absurd (none number refl)
+sat_changed (Some other) were are none is = λ seat sits. sym (ap (λ (b : Bot). b.sits) (is seat)) ∙ sits
 
 pub sat_came : (number : ℕ) (were mid are : List Seat) → Changes (Some (notices.Came number)) were mid → sits_at are number ≡ false → KeepsOtherBots number mid are → SatBefore were are
 sat_came number were mid are came gone others =
@@ -175,12 +175,10 @@ pub coming_somebody : (notice : Option SeatNotice) (were are : List Seat) (old n
 coming_somebody (Some (notices.Came number)) were are old new changes loosened is = coming_at number (Began (SeatOf number) ∷ []) were are old new (λ sits. inr refl) changes.1.1 loosened is
 coming_somebody None were are old new changes loosened is =
     all_but_none [] are new (still_somebody were are old new (sat_changed None were are (λ number same. absurd cc) changes) loosened is)
-coming_somebody (Some (notices.Refused number source)) were are old new changes loosened is =
-    all_but_none [] are new (still_somebody were are old new (sat_changed (Some (notices.Refused number source)) were are (λ other same. absurd cc) changes) loosened is)
-coming_somebody (Some (notices.Gone number)) were are old new changes loosened is =
-    all_but_none [] are new (still_somebody were are old new (sat_changed (Some (notices.Gone number)) were are (λ other same. absurd cc) changes) loosened is)
 coming_somebody (Some (notices.Piece number bytes)) were are old new changes loosened is =
     all_but_none (PieceCame (SeatOf number) bytes.items ∷ []) are new (still_somebody were are old new (sat_changed (Some (notices.Piece number bytes)) were are (λ other same. absurd cc) changes) loosened is)
+coming_somebody (Some other) were are old new changes loosened is =
+    all_but_none [] are new (still_somebody were are old new (sat_changed (Some other) were are (λ number same. absurd cc) changes) loosened is)
 
 -- ---- a new process
 

@@ -2,7 +2,7 @@
 use Rattle.std.proofs.Common.{◌≡◌, ℕ, Bool, true, false, List, [], ◌∷◌, ◌++◌, refl, sym, ◌∙◌, ap, append_assoc}
 use Rattle.std.proofs.lemmas.List.{append-nil}
 use Rattle.stations.specs.Deeds.{Deed}
-use Rattle.node_wires.specs.Passages.{Passage, Began, Came, Wrote, Gave, Logged, logged_in, of_seat, seats_in}
+use Rattle.node_wires.specs.Passages.{Passage, Began, Came, Logged, logged_in, of_seat, seats_in}
 use Rattle.node_service.specs.Showing.{shown_log, LogGains}
 use Rattle.node_wires.specs.declared.line.Line.TheVariants.{Peer}
 use Rattle.node_service.specs.Handed.{frames_by}
@@ -57,15 +57,12 @@ shown_on false false false shown more one two three before after = after ∙ (ap
 
 -- ---- what passes over wires
 
-log_of_both : (xs ys : List Passage) → logged_in (xs ++ ys) ≡ logged_in xs ++ logged_in ys
+pub log_of_both : (xs ys : List Passage) → logged_in (xs ++ ys) ≡ logged_in xs ++ logged_in ys
 log_of_both [] ys = refl
-log_of_both (Began line ∷ xs) ys = log_of_both xs ys
-log_of_both (Came line bytes ∷ xs) ys = log_of_both xs ys
-log_of_both (Wrote line bytes ∷ xs) ys = log_of_both xs ys
-log_of_both (Gave place seat ∷ xs) ys = log_of_both xs ys
 log_of_both (Logged text ∷ xs) ys = ap (λ (m : List ℕ). text ++ m) (log_of_both xs ys) ∙ sym (append_assoc text (logged_in xs) (logged_in ys))
+log_of_both (other ∷ xs) ys = log_of_both xs ys
 
-seats_of_both : (xs ys : List Passage) → seats_in (xs ++ ys) ≡ seats_in xs ++ seats_in ys
+pub seats_of_both : (xs ys : List Passage) → seats_in (xs ++ ys) ≡ seats_in xs ++ seats_in ys
 seats_of_both [] ys = refl
 seats_of_both (p ∷ xs) ys = ap (λ (m : List Passage). of_seat p ++ m) (seats_of_both xs ys) ∙ sym (append_assoc (of_seat p) (seats_in xs) (seats_in ys))
 

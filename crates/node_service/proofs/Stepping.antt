@@ -79,7 +79,7 @@ module _ {D : Type 0} {g : Ghosts D} where
 
   -- an event was given to the node, and what it made of it was handed on
   stepped : (e : Event) (told : Told) (answer : Result (Unit {0}) NodeFault) (old new : Served (Node D)) → (answer ≡ Err OutOfMemory → ⊥) → Acts g e told answer old.look new.look
-      → HandsOn g told old new
+      → HandsOn g 1 told old new
       → Admits (runs old.look.node) e old.sittings → Settles e old.sittings new.sittings → MayBeGiven old.started e → (old.started ≡ true → new.started ≡ true) → new.terms ≡ old.terms → IsFree (seat_left e) new.bots → Does g (taken_for e) old new
   stepped e told answer old new was_given acts hands admitted settled may started terms left =
       elim acts.gains as (λ _. Does g (taken_for e) old new) [
@@ -92,6 +92,7 @@ module _ {D : Type 0} {g : Ghosts D} where
             terms = terms;
             since = deed_by (runs old.look.node) (front_in old.look.node) e told answer ∷ [];
             deeds = is;
+            calls = hands.calls;
             log = hands.log;
             sent = hands.sent ∙ ap (λ (m : List Passage). old.sent ++ m) (sym (same_frames _ told.frames));
             bots = then_handed old new (record {
@@ -131,7 +132,7 @@ module _ {D : Type 0} {g : Ghosts D} where
   -- none was given, and nothing made
   pub unstepped : (e : Event) (told : Told) (old new : Served (Node D)) → new.look.config ≡ old.look.config → new.look.number ≡ old.look.number
       → begun_of g new.look.node ≡ begun_of g old.look.node → new.look.deeds ≡ old.look.deeds → told ≡ nothing_told
-      → HandsOn g told old new
+      → HandsOn g 0 told old new
       → Refuses e old.sittings new.sittings → IsFree (seat_in e) new.bots → (old.started ≡ true → new.started ≡ true) → new.terms ≡ old.terms → Does g (taken_for e) old new
   unstepped e told old new config number begun deeds unmade hands refused free started terms = (
     record {
@@ -141,6 +142,7 @@ module _ {D : Type 0} {g : Ghosts D} where
       terms = terms;
       since = [];
       deeds = deeds;
+      calls = hands.calls;
       log = subst (λ (t : Told). LogGains old.log_failed new.log_failed (added (map text_by t.shown)) (logged_in old.passed) (logged_in new.passed)) unmade hands.log;
       sent = subst (λ (t : Told). new.sent ≡ old.sent ++ map mark_handed t.frames) unmade hands.sent;
       bots = then_handed old new (record { config = config; number = number; begun = begun; since = []; deeds = deeds }) hands.bots;
@@ -168,7 +170,7 @@ module _ {D : Type 0} {g : Ghosts D} where
   -- by whether it was
   pub stepped_if_given : (e : Event) (told : Told) (result : Option (Result (Unit {0}) NodeFault)) (old new : Served (Node D)) → IsGivenBy true result
       → IfSome result (λ answer. Acts g e told answer old.look new.look)
-      → HandsOn g told old new
+      → HandsOn g 1 told old new
       → Admits (runs old.look.node) e old.sittings → Settles e old.sittings new.sittings → MayBeGiven old.started e → (old.started ≡ true → new.started ≡ true) → new.terms ≡ old.terms → IsFree (seat_left e) new.bots → Does g (taken_for e) old new
   stepped_if_given e told None old new given acts hands admitted settled may started terms left = absurd given
   stepped_if_given e told (Some answer) old new given acts hands admitted settled may started terms left =
@@ -176,7 +178,7 @@ module _ {D : Type 0} {g : Ghosts D} where
 
   pub unstepped_if_not : (e : Event) (told : Told) (result : Option (Result (Unit {0}) NodeFault)) (old new : Served (Node D)) → IsGivenBy false result
       → IfSome result (λ answer. Acts g e told answer old.look new.look) → (IsNone result → new.look ≡ old.look) → (IsNone result → told ≡ nothing_told)
-      → HandsOn g told old new
+      → HandsOn g 0 told old new
       → Refuses e old.sittings new.sittings → IsFree (seat_in e) new.bots → (old.started ≡ true → new.started ≡ true) → new.terms ≡ old.terms → Does g (taken_for e) old new
   unstepped_if_not e told None old new given acts same unmade hands refused free started terms =
       let look : new.look ≡ old.look = same refl in

@@ -6,7 +6,7 @@ use Rattle.std.proofs.lemmas.Bool.{cases_lt, lt-ltb, le-ltb}
 use Rattle.std.proofs.lemmas.List.{length-append}
 use Rattle.std.proofs.lemmas.Nat.Bits.{bit_at-lt, bit_at_or, bit_at_set_same, bit_at_set_other, shr_and_one}
 use Rattle.std.proofs.lemmas.Bool.Decides.{eqb_tells}
-use Rattle.node_wires.specs.Passages.{Passage, Began, Came, Wrote, Gave, Logged}
+use Rattle.node_wires.specs.Passages.{Passage, Began, Came, Gave}
 use Rattle.node_wires.specs.declared.line.Line.TheVariants.{Seat}
 use Rattle.node_seats.specs.declared.limits.TheConstants.{PIECE}
 use Rattle.node_seats.specs.declared.seat.Seat.{Seat as Place}
@@ -60,10 +60,7 @@ frames_are xs are = record { seats = are.seats; lives = no_life_ends (peers_of x
 pieces_both : (seat : ℕ) (xs ys : List Passage) → pieces_of seat (xs ++ ys) ≡ pieces_of seat xs ++ pieces_of seat ys
 pieces_both seat [] ys = refl
 pieces_both seat (Came line bytes ∷ xs) ys = ap (λ (m : List (List ℕ)). piece_over seat line bytes ++ m) (pieces_both seat xs ys) ∙ sym (append_assoc (piece_over seat line bytes) (pieces_of seat xs) (pieces_of seat ys))
-pieces_both seat (Began line ∷ xs) ys = pieces_both seat xs ys
-pieces_both seat (Wrote line bytes ∷ xs) ys = pieces_both seat xs ys
-pieces_both seat (Gave place number ∷ xs) ys = pieces_both seat xs ys
-pieces_both seat (Logged text ∷ xs) ys = pieces_both seat xs ys
+pieces_both seat (other ∷ xs) ys = pieces_both seat xs ys
 
 -- a seat of which a piece may have been taken, or none
 abbrev IsTaken : Bool → List (List ℕ) → Type 0
@@ -123,12 +120,11 @@ no_piece_more at seat pieces is = subst (λ (m : List (List ℕ)). IsTaken (nat_
 below_by : (at : ℕ) (xs : List Incoming) (notice : Option SeatNotice) → IsPieceOf at PIECE notice → ComeOfSeatsBelow at xs → ComeOfSeatsBelow (at + 1) (xs ++ incoming_by notice)
 below_by at xs None is = more_below at xs [] refl (λ seat. no_piece_more at seat (pieces_of seat (seats_of xs)))
 below_by at xs (Some (notices.Came number)) is = more_below at xs (incoming_by (Some (notices.Came number))) refl (λ seat. no_piece_more at seat (pieces_of seat (seats_of xs)))
-below_by at xs (Some (notices.Gone number)) is = more_below at xs [] refl (λ seat. no_piece_more at seat (pieces_of seat (seats_of xs)))
-below_by at xs (Some (notices.Refused number source)) is = more_below at xs [] refl (λ seat. no_piece_more at seat (pieces_of seat (seats_of xs)))
 below_by at xs (Some (notices.Piece number bytes)) is =
     more_below at xs (incoming_by (Some (notices.Piece number bytes))) refl
     (λ seat so_far. subst (λ (n : ℕ). IsTaken (nat_lt seat (at + 1)) (pieces_of seat (seats_of xs) ++ ((if n == seat then bytes.items ∷ [] else []) ++ []))) (sym is.0)
     (piece_at at seat (pieces_of seat (seats_of xs)) bytes.items is.1 so_far (eqb_tells at seat)))
+below_by at xs (Some other) is = more_below at xs [] refl (λ seat. no_piece_more at seat (pieces_of seat (seats_of xs)))
 
 pub below_on : (at : ℕ) (xs ys : List Incoming) → ComeOfSeatsBelow at xs → IsNextOf at ys → ComeOfSeatsBelow (at + 1) (xs ++ ys)
 below_on at xs ys below next = subst (λ (m : List Incoming). ComeOfSeatsBelow (at + 1) (xs ++ m)) (sym next.1.0) (below_by at xs next.0 next.1.1 below)
@@ -139,9 +135,7 @@ begins_both : (seat : ℕ) (xs ys : List Passage) → begins_at seat (xs ++ ys) 
 begins_both seat [] ys = omega arith
 begins_both seat (Began line ∷ xs) ys = let e = begins_both seat xs ys in omega (arith, e)
 begins_both seat (Gave place number ∷ xs) ys = let e = begins_both seat xs ys in omega (arith, e)
-begins_both seat (Came line bytes ∷ xs) ys = begins_both seat xs ys
-begins_both seat (Wrote line bytes ∷ xs) ys = begins_both seat xs ys
-begins_both seat (Logged text ∷ xs) ys = begins_both seat xs ys
+begins_both seat (other ∷ xs) ys = begins_both seat xs ys
 
 begin_both : (seat : ℕ) (xs ys : List Incoming) → begins_at seat (seats_of (xs ++ ys)) ≡ begins_at seat (seats_of xs) + begins_at seat (seats_of ys)
 begin_both seat xs ys = ap (λ (m : List Passage). begins_at seat m) (seats_of_more xs ys) ∙ begins_both seat (seats_of xs) (seats_of ys)
@@ -211,8 +205,7 @@ none_of_both closed taken number none =
 pub first_of : (closed taken at : ℕ) (notice : SeatNotice) → (at < SEATS → bit_at taken at ≡ 0) → KeepsClosed (bit_or closed taken) (Some notice) → IsPieceOf at PIECE (Some notice) → IsFirstOf taken notice
 first_of closed taken at (notices.Came number) none free piece = λ within. (none_of_both closed taken number free).1
 first_of closed taken at (notices.Piece number bytes) none free piece = subst (λ (n : ℕ). n < SEATS → bit_at taken n ≡ 0) (sym piece.0) none
-first_of closed taken at (notices.Gone number) none free piece = tt
-first_of closed taken at (notices.Refused number source) none free piece = tt
+first_of closed taken at other none free piece = tt
 
 spared_at : (closed number seat : ℕ) → bit_at closed number ≡ 0 → bit_at closed seat ≡ 1 → ((eqb number seat ≡ true) × (number ≡ seat)) ⊎ ((eqb number seat ≡ false) × (number ≢ seat)) → (if number == seat then 1 else 0) + 0 ≡ 0
 spared_at closed number seat free shut (inl same) = absurd (let at : bit_at closed seat ≡ 0 = subst (λ (n : ℕ). bit_at closed n ≡ 0) same.1 free in omega (arith, at, shut))
@@ -220,9 +213,7 @@ spared_at closed number seat free shut (inr differs) = subst (λ (b : Bool). (if
 
 pub spares_of : (closed taken : ℕ) (notice : SeatNotice) → KeepsClosed (bit_or closed taken) (Some notice) → Spares closed (incoming_by (Some notice))
 spares_of closed taken (notices.Came number) free seat within shut = spared_at closed number seat (none_of_both closed taken number free).0 shut (eqb_tells number seat)
-spares_of closed taken (notices.Piece number bytes) free seat within shut = refl
-spares_of closed taken (notices.Gone number) free seat within shut = refl
-spares_of closed taken (notices.Refused number source) free seat within shut = refl
+spares_of closed taken other free seat within shut = refl
 
 spares_on : (closed : ℕ) (xs ys : List Incoming) → Spares closed xs → Spares closed ys → Spares closed (xs ++ ys)
 spares_on closed xs ys first then_on seat within shut =
@@ -292,14 +283,11 @@ callers_first closed taken xs are = record {
 pub caller_first : (closed taken : ℕ) (notice : SeatNotice) → KeepsClosed (bit_or closed taken) (Some notice) → ((number most : ℕ) → IsPieceOf number most (Some notice)) → IsFirstOf taken notice
 caller_first closed taken (notices.Came number) free piece = λ within. (none_of_both closed taken number free).1
 caller_first closed taken (notices.Piece number bytes) free piece = let one = (piece 0 0).0 in let two = (piece 1 0).0 in absurd (omega (arith, one, two))
-caller_first closed taken (notices.Gone number) free piece = tt
-caller_first closed taken (notices.Refused number source) free piece = tt
+caller_first closed taken other free piece = tt
 
 no_piece_by : (notice : SeatNotice) → ((number most : ℕ) → IsPieceOf number most (Some notice)) → (seat : ℕ) → pieces_of seat (seats_of (incoming_by (Some notice))) ≡ []
-no_piece_by (notices.Came number) piece seat = refl
 no_piece_by (notices.Piece number bytes) piece seat = let one = (piece 0 0).0 in let two = (piece 1 0).0 in absurd (omega (arith, one, two))
-no_piece_by (notices.Gone number) piece seat = refl
-no_piece_by (notices.Refused number source) piece seat = refl
+no_piece_by other piece seat = refl
 
 pub caller_but : (closed before after : ℕ) (notice : SeatNotice) → KeepsClosed (bit_or closed before) (Some notice) → ((number most : ℕ) → IsPieceOf number most (Some notice)) → Counts before after (incoming_by (Some notice))
     → AreCallersBut closed before after (incoming_by (Some notice))

@@ -3,7 +3,7 @@ use Rattle.std.proofs.Common.{◌≡◌, ℕ, List, [], ◌∷◌, ◌++◌, app
 use Rattle.std.specs.Prelude.{Option, Some, None}
 use Rattle.node_wires.specs.declared.line.Line.{Line}
 use Rattle.node_wires.specs.declared.line.Line.TheVariants.{Peer, Caller, Seat, Guest, Asker}
-use Rattle.node_wires.specs.Passages.{Passage, Began, Came, Wrote, Gave, Logged}
+use Rattle.node_wires.specs.Passages.{Passage, Began, Came, Gave}
 use Rattle.node_seats.specs.declared.guests.Guests.{Guests}
 use Rattle.node_seats.specs.declared.seat_notice.SeatNotice.{SeatNotice}
 use Rattle.node_seats.specs.declared.seat_notice.SeatNotice.TheVariants as notices
@@ -44,10 +44,7 @@ line_on tokens old new more (Asker place) e is = tt
 
 passage_on : (tokens : List TokenDigest) (old new more : List Passage) (passage : Passage) → new ≡ old ++ more → IsLetInBy tokens old passage → IsLetInBy tokens new passage
 passage_on tokens old new more (Began line) e is = line_on tokens old new more line e is
-passage_on tokens old new more (Came line bytes) e is = tt
-passage_on tokens old new more (Wrote line bytes) e is = tt
-passage_on tokens old new more (Gave place seat) e is = tt
-passage_on tokens old new more (Logged text) e is = tt
+passage_on tokens old new more other e is = tt
 
 thing_on : (tokens : Option (List TokenDigest)) (old new more : List Passage) (thing : Incoming) → new ≡ old ++ more → IsLetIn tokens old thing → IsLetIn tokens new thing
 thing_on None old new more thing e is = tt
@@ -95,8 +92,7 @@ let_in_coming (Some (notices.Came seat)) old new wired_old wired_new comes = (
   tt,
 )
 let_in_coming (Some (notices.Piece seat bytes)) old new wired_old wired_new comes = (no_seat (tokens_in new.guests) (passed_in new.guests) seat bytes.items, tt)
-let_in_coming (Some (notices.Gone seat)) old new wired_old wired_new comes = tt
-let_in_coming (Some (notices.Refused seat source)) old new wired_old wired_new comes = tt
+let_in_coming (Some other) old new wired_old wired_new comes = tt
 
 -- ---- what is told of peers
 

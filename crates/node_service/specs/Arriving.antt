@@ -60,5 +60,4 @@ taken_for (event.Start node) = []
 abbrev pub incoming_of : SeatNotice → List Incoming
 incoming_of (notices.Came seat) = OfSeat (Began (Seat seat)) ∷ []
 incoming_of (notices.Piece seat bytes) = OfSeat (PieceCame (Seat seat) bytes.items) ∷ []
-incoming_of (notices.Gone seat) = []
-incoming_of (notices.Refused seat source) = []
+incoming_of other = []

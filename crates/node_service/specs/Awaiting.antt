@@ -1,5 +1,5 @@
 -- How long a bot waits for the line that it named.
-use Rattle.std.specs.Prelude.{ℕ, ◌+◌, ◌-◌, min, nat_lt, nat_le, ◌&&◌, ◌||◌, Bool, true, false, if◌then◌else◌, List, slice_index_or, Option, Some, None}
+use Rattle.std.specs.Prelude.{ℕ, ◌+◌, ◌-◌, min, nat_lt, nat_le, ◌&&◌, ◌||◌, Bool, if◌then◌else◌, List, slice_index_or, Option, Some, None}
 use Rattle.node_service.specs.declared.limits.TheConstants.{LINE_WAIT, LINE_AHEAD, SETTLED}
 use Rattle.node_service.specs.declared.awaited_lines.Applied.{Applied}
 use Rattle.node_service.specs.declared.awaited_lines.AwaitedLine.{AwaitedLine}

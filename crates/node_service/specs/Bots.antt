@@ -1,5 +1,5 @@
 -- What the bots of a process's seats are told: the lines of their seats, off the tables that its node had.
-use Rattle.std.specs.Prelude.{◌≡◌, ◌⊎◌, ℕ, ◌<◌, Bool, true, List, [], ◌∷◌, ◌++◌, length, Option, Some, None, IfSome, IsSome, IsSomeAnd}
+use Rattle.std.specs.Prelude.{◌≡◌, ◌⊎◌, ℕ, ◌<◌, true, List, [], ◌∷◌, ◌++◌, length, Option, Some, None, IfSome, IsSome, IsSomeAnd}
 use Rattle.promise_store.specs.declared.disk.Disk.{Ghosts}
 use Rattle.slot_log.specs.Hand.{Hand, Match}
 use Rattle.slot_log.specs.Dealer.{is_match_over}

@@ -1,5 +1,6 @@
 -- What a process gives to its node.
-use Rattle.std.specs.Prelude.{◌≡◌, Bool, true, false, Option, Some, None, Result}
+use Rattle.std.specs.Prelude.{◌≡◌, Bool, true, false, List, [], ◌∷◌, Option, Some, None, Result}
+use Rattle.node_wires.specs.Passages.{Passage, Called}
 use Rattle.dealer_node.specs.declared.fault.NodeFault.{NodeFault}
 use Rattle.dealer_world.specs.declared.event.Event.{Event}
 use Rattle.dealer_world.specs.declared.event.Event.TheVariants as event
@@ -30,3 +31,8 @@ started_by (event.Drop node seat) started = started
 abbrev pub started_after : Event → Option (Result (Unit {0}) NodeFault) → Bool → Bool
 started_after e None started = started
 started_after e (Some answer) started = started_by e started
+
+-- what a call leaves at the wires, by whether it was given what it brought
+abbrev pub called_if : Bool → List Passage
+called_if true = Called ∷ []
+called_if false = []

@@ -2,7 +2,7 @@
 use Rattle.std.specs.Prelude.{◌≡◌, ℕ, List, [], ◌∷◌}
 use Rattle.node_wires.specs.declared.line.Line.{Line}
 use Rattle.node_wires.specs.declared.line.Line.TheVariants.{Guest}
-use Rattle.node_wires.specs.Passages.{Passage, Began, Came, Wrote, Gave, Logged, came_over, wrote_over}
+use Rattle.node_wires.specs.Passages.{Passage, Began, came_over, wrote_over, calls_in}
 use Rattle.peer_codes.specs.declared.frame.Frame.{Frame}
 use Rattle.peer_codes.specs.declared.hello.Life.{Life}
 use Rattle.std.specs.Prelude.{Some}
@@ -37,10 +37,11 @@ Carries served = IsCarried served.passed served.lines served.bots served.askers
 abbrev pub NewWiresCarry : Type 0
 NewWiresCarry = (bots : List Seat) (askers : List Asker) → AreSaid [] bots → AreAnswered [] askers → IsCarried [] [] bots askers
 
--- over all lines the same came and was written
+-- over all lines the same came and was written, and the node was called as often
 pub record KeepsLines (old new : List Passage) : Type 0 where
   pub wrote : (line : Line) → wrote_over new line ≡ wrote_over old line
   pub came : (line : Line) → came_over new line ≡ came_over old line
+  pub calls : calls_in new ≡ calls_in old
 
 -- ---- what was told of peers
 
@@ -58,16 +59,10 @@ AreHeard own lines (thing ∷ more) = IsHeard own lines thing × AreHeard own li
 abbrev pub HasNoLife : List Passage → Type 0
 HasNoLife [] = Unit {0}
 HasNoLife (Began line ∷ more) = ⊥
-HasNoLife (Came line bytes ∷ more) = HasNoLife more
-HasNoLife (Wrote line bytes ∷ more) = HasNoLife more
-HasNoLife (Gave place seat ∷ more) = HasNoLife more
-HasNoLife (Logged text ∷ more) = HasNoLife more
+HasNoLife (other ∷ more) = HasNoLife more
 
 -- behind a node whose life is to be kept nothing stands
 abbrev pub EndsAtLife : List Passage → Type 0
 EndsAtLife [] = Unit {0}
 EndsAtLife (Began line ∷ more) = more ≡ []
-EndsAtLife (Came line bytes ∷ more) = EndsAtLife more
-EndsAtLife (Wrote line bytes ∷ more) = EndsAtLife more
-EndsAtLife (Gave place seat ∷ more) = EndsAtLife more
-EndsAtLife (Logged text ∷ more) = EndsAtLife more
+EndsAtLife (other ∷ more) = EndsAtLife more

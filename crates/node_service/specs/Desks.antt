@@ -2,7 +2,7 @@
 use Rattle.std.specs.Prelude.{◌≡◌, ◌⊎◌, ℕ, List}
 use Rattle.promise_store.specs.declared.disk.Disk.{Ghosts}
 use Rattle.node_wires.specs.declared.wire.Wire.{Ghosts as OfWire}
-use Rattle.node_wires.specs.Passages.{logged_in, seats_in}
+use Rattle.node_wires.specs.Passages.{logged_in, seats_in, calls_in}
 use Rattle.dealer_node.specs.Nodes.{Node}
 use Rattle.stations.specs.Looking.{look_of}
 use Rattle.node_service.specs.declared.desk.Desk.{Desk}
@@ -49,6 +49,7 @@ module _ {D W : Type 0} {disk : Ghosts D} (wire : OfWire W) where
     pub sat : SatBefore old.seats.seats.items new.seats.seats.items
     pub guests : new.seats.guests ≡ old.seats.guests
     pub heard : heard_of new.company.peers ≡ heard_of old.company.peers
+    pub calls : calls_in (wire.passed new.wire) ≡ calls_in (wire.passed old.wire)
     pub log : logged_in (wire.passed new.wire) ≡ logged_in (wire.passed old.wire)
     pub seats : seats_in (wire.passed new.wire) ≡ seats_in (wire.passed old.wire)
     pub sittings : Loosens old.sittings new.sittings

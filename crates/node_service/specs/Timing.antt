@@ -1,5 +1,5 @@
 -- How what a process knows of time and of its seats is kept: since when it has a quorum, whether it slept, and how it looks at seats.
-use Rattle.std.specs.Prelude.{◌≡◌, ℕ, zero, suc, ◌+◌, ◌-◌, ◌*◌, ◌^◌, ◌<◌, min, Bool, true, false, not, ◌&&◌, if◌then◌else◌, Option, Some, None, unwrap_or}
+use Rattle.std.specs.Prelude.{◌≡◌, ℕ, zero, suc, ◌+◌, ◌-◌, ◌^◌, ◌<◌, min, Bool, false, not, ◌&&◌, if◌then◌else◌, Some, None, unwrap_or}
 use Rattle.promise_store.specs.declared.disk.Disk.{Ghosts}
 use Rattle.node_wires.specs.declared.wire.Wire.{Ghosts as OfWire}
 use Rattle.dealer_world.specs.declared.event.Event.{Event}
@@ -18,7 +18,7 @@ use Rattle.clockwork.specs.declared.watch.Watch.{Watch}
 use Rattle.node_service.specs.Acts.{acts_at}
 use Rattle.node_service.specs.Knowing.{moment_of, seen_at, stood_of, players_of}
 use Rattle.node_service.specs.Serving.{nodes_of}
-use Rattle.node_service.specs.declared.limits.TheConstants.{CALLER}
+use Rattle.node_service.specs.declared.limits.TheConstants.{CALLERS}
 use Rattle.node_service.specs.Unread.{slept_in}
 use Rattle.node_service.specs.declared.unread.Unread.{Unread}
 use Rattle.node_service.specs.Watching.{watch_at, was_taken, seen_at_node, have_come_below}
@@ -40,13 +40,9 @@ stood_at timer quorate now = record {
 
 -- ---- its sleep
 
--- what so many took who came to ports isn't sleep, up to half a millisecond each
-abbrev pub busy_with : (callers took : ℕ) → ℕ
-busy_with callers took = min took (callers * CALLER)
-
--- nor is so much that wasn't before
-abbrev pub with_callers : (in_calls callers took : ℕ) → ℕ
-with_callers in_calls callers took = min (in_calls + busy_with callers took) (2 ^ 64 - 1)
+-- of what those took who dialled, and of what those took who came to seats, up to 25 ms isn't sleep, as calls aren't
+abbrev pub with_callers : (in_calls took : ℕ) → ℕ
+with_callers in_calls took = min (in_calls + min took CALLERS) (2 ^ 64 - 1)
 
 module _ {D W : Type 0} {disk : Ghosts D} {wire : OfWire W} where
   -- what went by until now beyond calls and a wait of so long was slept through, of the time for which the table has stood

@@ -3,7 +3,7 @@ use Rattle.std.specs.Prelude.{◌≡◌, ℕ, ◌+◌, ◌<◌, ◌≤◌, ◌==
 use Rattle.std.specs.Int.{bit_at}
 use Rattle.node_wires.specs.declared.line.Line.{Line}
 use Rattle.node_wires.specs.declared.line.Line.TheVariants.{Peer, Caller, Seat, Guest, Asker}
-use Rattle.node_wires.specs.Passages.{Passage, Began, Came, Wrote, Gave, Logged}
+use Rattle.node_wires.specs.Passages.{Passage, Began, Came, Gave}
 use Rattle.node_seats.specs.declared.limits.TheConstants.{PIECE}
 use Rattle.node_seats.specs.declared.seat.Seat.{Seat as Place}
 use Rattle.node_seats.specs.declared.seat_notice.SeatNotice.{SeatNotice}
@@ -28,10 +28,7 @@ piece_over seat (Asker place) bytes = []
 abbrev pub pieces_of : ℕ → List Passage → List (List ℕ)
 pieces_of seat [] = []
 pieces_of seat (Came line bytes ∷ more) = piece_over seat line bytes ++ pieces_of seat more
-pieces_of seat (Began line ∷ more) = pieces_of seat more
-pieces_of seat (Wrote line bytes ∷ more) = pieces_of seat more
-pieces_of seat (Gave place number ∷ more) = pieces_of seat more
-pieces_of seat (Logged text ∷ more) = pieces_of seat more
+pieces_of seat (other ∷ more) = pieces_of seat more
 
 -- there is one at most, no longer than a piece may be
 abbrev pub IsOnePiece : List (List ℕ) → Type 0
@@ -52,9 +49,7 @@ abbrev pub begins_at : ℕ → List Passage → ℕ
 begins_at seat [] = 0
 begins_at seat (Began line ∷ more) = begins_over seat line + begins_at seat more
 begins_at seat (Gave place number ∷ more) = begins_over seat (Seat number) + begins_at seat more
-begins_at seat (Came line bytes ∷ more) = begins_at seat more
-begins_at seat (Wrote line bytes ∷ more) = begins_at seat more
-begins_at seat (Logged text ∷ more) = begins_at seat more
+begins_at seat (other ∷ more) = begins_at seat more
 
 -- what came of a seat: connections that began at it, and pieces
 abbrev pub things_at : ℕ → List Incoming → ℕ
@@ -68,8 +63,7 @@ Counts before after things = (seat : ℕ) → seat < SEATS → bit_at after seat
 abbrev pub IsFirstOf : ℕ → SeatNotice → Type 0
 IsFirstOf before (notices.Came number) = number < SEATS → bit_at before number ≡ 0
 IsFirstOf before (notices.Piece number bytes) = number < SEATS → bit_at before number ≡ 0
-IsFirstOf before (notices.Gone number) = Unit {0}
-IsFirstOf before (notices.Refused number source) = Unit {0}
+IsFirstOf before other = Unit {0}
 
 -- no connection began at a closed seat, one whose bit is set
 abbrev pub Spares : ℕ → List Incoming → Type 0

@@ -2,7 +2,7 @@
 use Rattle.std.specs.Prelude.{◌≡◌, ℕ, List, [], ◌∷◌, ◌++◌, Option, Some, None}
 use Rattle.node_wires.specs.declared.line.Line.{Line}
 use Rattle.node_wires.specs.declared.line.Line.TheVariants.{Peer, Caller, Seat, Guest, Asker}
-use Rattle.node_wires.specs.Passages.{Passage, Began, Came, Wrote, Gave, Logged, came_over}
+use Rattle.node_wires.specs.Passages.{Passage, Began, Gave, came_over}
 use Rattle.node_seats.specs.declared.guests.Guests.{Guests}
 use Rattle.node_seats.specs.declared.token_digest.TokenDigest.{TokenDigest}
 use Rattle.node_seats.specs.Coming.{tokens_in, passed_in}
@@ -32,10 +32,7 @@ IsLetInAt tokens passed (Asker place) = Unit {0}
 
 abbrev pub IsLetInBy : List TokenDigest → List Passage → Passage → Type 0
 IsLetInBy tokens passed (Began line) = IsLetInAt tokens passed line
-IsLetInBy tokens passed (Came line bytes) = Unit {0}
-IsLetInBy tokens passed (Wrote line bytes) = Unit {0}
-IsLetInBy tokens passed (Gave place seat) = Unit {0}
-IsLetInBy tokens passed (Logged text) = Unit {0}
+IsLetInBy tokens passed other = Unit {0}
 
 -- where a bot was taken in at a seat that was so, or seats have no tokens
 abbrev pub IsLetIn : Option (List TokenDigest) → List Passage → Incoming → Type 0

@@ -215,6 +215,19 @@ impl Company {
         self.peers.hear(wire, now);
     }
 
+    /// Takes in the next one who dialled. False where the wires give none, or too much waits to be told.
+    #[tactic(auto, using(crate::proofs::Hearing::heard_more, crate::proofs::Hearing::shown_more))]
+    pub(crate) fn take_caller<W: Wire>(&mut self, wire: &mut W, now: u64) -> bool
+        ensures hears { HearsOn self.old.peers self.new.peers }
+        ensures grew { Grew self.old.peers self.new.peers (W.passed wire.old) (W.passed wire.new) }
+        ensures flags { KeepsFlags self.old self.new }
+        ensures writing { (seat : ℕ) → wrote_over (W.passed wire.new) (Seat seat) ≡ wrote_over (W.passed wire.old) (Seat seat) }
+        ensures seats { seats_in (W.passed wire.new) ≡ seats_in (W.passed wire.old) }
+        ensures log { logged_in (W.passed wire.new) ≡ logged_in (W.passed wire.old) }
+    {
+        self.peers.take_caller(wire, now)
+    }
+
     /// Writes what waits for peers, and first tells them how the node is, where that is due.
     #[tactic(auto, using(crate::proofs::Hearing::heard_later, crate::proofs::Hearing::shown_later, crate::proofs::Hearing::grew_later))]
     pub(crate) fn speak<W: Wire>(&mut self, beat: OwnReport, wire: &mut W, now: u64)

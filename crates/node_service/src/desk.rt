@@ -13,7 +13,7 @@ ghost use Rattle.node_seats.specs.declared.limits.TheConstants.{PIECE};
 ghost use Rattle.node_seats.specs.Seating.{bot_at, waits_at, sits_at, KeepsOtherBots, KeepsClosed};
 ghost use Rattle.stations.specs.Looking.{look_of};
 ghost use Rattle.node_wires.specs.declared.line.Line.TheVariants.{Peer};
-ghost use Rattle.node_wires.specs.Passages.{Wrote, logged_in, seats_in};
+ghost use Rattle.node_wires.specs.Passages.{Wrote, Saw, Waited, logged_in, seats_in};
 ghost use Rattle.node_service.specs.Showing.{added, LogGains};
 ghost use Rattle.node_service.specs.Telling.{told_by, incoming_by};
 ghost use Rattle.node_service.specs.Company.{HearsOn};
@@ -227,7 +227,7 @@ impl<D: Disk + Drop, W: Wire + Drop> Desk<D, W> {
     pub(crate) fn hand_on(&mut self) -> u16
         ensures member { self.new.member ≡ self.old.member }
         ensures sittings { self.new.sittings ≡ self.old.sittings }
-        ensures hands { HandsOn D.Disk self.old.member.made (served_by W.Wire self.old) (served_by W.Wire self.new) }
+        ensures hands { HandsOn D.Disk 0 self.old.member.made (served_by W.Wire self.old) (served_by W.Wire self.new) }
     {
         let now = self.wire.now();
         send_all(self.member.made(), &mut self.company, now);
@@ -245,14 +245,16 @@ impl<D: Disk + Drop, W: Wire + Drop> Desk<D, W> {
 
     /// The present moment.
     pub(crate) fn now(&mut self) -> u64
-        ensures { IsKept W.Wire self.old self.new }
+        ensures kept { IsKept W.Wire self.old self.new }
+        ensures saw { W.passed self.new.wire ≡ W.passed self.old.wire ++ Saw result ∷ [] }
     {
         self.wire.now()
     }
 
     /// Waits for so many microseconds at most.
     pub(crate) fn wait(&mut self, most: u64)
-        ensures { IsKept W.Wire self.old self.new }
+        ensures kept { IsKept W.Wire self.old self.new }
+        ensures waited { W.passed self.new.wire ≡ W.passed self.old.wire ++ Waited most ∷ [] }
     {
         self.wire.wait(most);
     }
@@ -279,6 +281,13 @@ impl<D: Disk + Drop, W: Wire + Drop> Desk<D, W> {
         ensures { IsKept W.Wire self.old self.new }
     {
         self.company.hear(&mut self.wire, now);
+    }
+
+    /// Takes in the next one who dialled. False where the wires give none, or too much waits to be told.
+    pub(crate) fn take_caller(&mut self, now: u64) -> bool
+        ensures { IsKept W.Wire self.old self.new }
+    {
+        self.company.take_caller(&mut self.wire, now)
     }
 
     /// What is told next of peers.
@@ -429,6 +438,7 @@ impl<D: Disk + Drop, W: Wire + Drop> Desk<D, W> {
             }
             Some(SeatNotice::Piece { .. }) => false,
             Some(SeatNotice::Refused { .. }) => false,
+            Some(SeatNotice::Unread { .. }) => false,
             None => false,
         }
     }

@@ -12,8 +12,9 @@ pub const LEAST_TAKEN: u64 = 4;
 /// all who wait at a port.
 pub const LOOKS: u8 = 64;
 
-/// So long one who came to a seat's port, or who dialled, takes at most until it counts as sleep of the process.
-pub const CALLER: u64 = 500;
+/// Those who dialled are taken in for so many microseconds in a turn, and as long those who came to the ports of seats with tokens; what is
+/// begun by then is ended. As much of what each took isn't sleep of the process.
+pub const CALLERS: u64 = 25_000;
 
 /// What a call, or a wait beyond what was asked for, takes longer than this isn't counted as the peers' silence.
 pub const LONG: u64 = 50_000;

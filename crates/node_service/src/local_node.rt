@@ -1,6 +1,6 @@
 //! The node of a process, and what its last call made.
 
-ghost use Rattle.std.specs.Prelude.{◌≡◌, ◌<◌, ◌≤◌, true, false, Some, None, IfSome, IsSome, IsNone};
+ghost use Rattle.std.specs.Prelude.{◌≡◌, ◌<◌, ◌≤◌, ◌++◌, true, false, Some, None, IfSome, IsSome, IsNone};
 ghost use Rattle.dealer_node.specs.Outs.{nothing_told};
 ghost use Rattle.dealer_node.specs.Seeing.{IsSeen, member_in};
 ghost use Rattle.node_rules.specs.Standings.{Standing};
@@ -9,7 +9,7 @@ ghost use Rattle.node_rules.specs.Seats.{session_at};
 ghost use Rattle.stations.specs.Stations.{Acts};
 ghost use Rattle.node_service.specs.Bots.{OfTable};
 ghost use Rattle.node_service.specs.declared.limits.TheConstants.{SEATS as COUNT};
-ghost use Rattle.node_service.specs.Calling.{MayBeGiven, started_by, started_after};
+ghost use Rattle.node_service.specs.Calling.{MayBeGiven, started_by, started_after, called_if};
 ghost use Rattle.node_service.specs.Sittings.{IsGivenBy};
 ghost use Rattle.dealer_node.specs.Taking.{TakesDown};
 ghost use Rattle.node_service.specs.Ending.{is_needed, takes_down, is_meant, EndsBy, IsNeededAfter, IsRefusal, IsFaultAfter, IsOverAt};
@@ -62,6 +62,15 @@ fn is_given(answer: Option<Result<(), NodeFault>>) -> bool
         Some(Ok(())) => true,
         Some(Err(NodeFault::OutOfMemory)) => false,
         Some(Err(_)) => true,
+    }
+}
+
+/// A call of the node that was given what it brought is put down at the wires.
+fn put_down<W: Wire>(wire: &mut W, is_given: bool)
+    ensures { W.passed wire.new ≡ W.passed wire.old ++ called_if is_given }
+{
+    if is_given {
+        wire.called();
     }
 }
 
@@ -307,8 +316,9 @@ impl<D: Disk + Drop, W: Wire + Drop> Desk<D, W> {
     ghost use Rattle.node_service.specs.Desks.{served_by};
     ghost use Rattle.node_service.specs.Going.{Does};
 
-    /// Gives an event to the node: none that isn't its own, and nothing of a seat whose bot isn't here. What it made is handed
-    /// on. A bot of which something is lost is let go of. Nobody calls it but `NodeServer::step`, below.
+    /// Gives an event to the node: none that isn't its own, and nothing of a seat whose bot isn't here. The call is put down at the
+    /// wires, and then what it made is handed on. A bot of which something is lost is let go of. Nobody calls it but
+    /// `NodeServer::step`, below.
     fn step(&mut self, event: &Event) -> Option<Result<(), NodeFault>>
         requires { MayBeGiven self.old.member.is_started event.now }
         ensures goes { Does D.Disk (taken_for event.now) (served_by W.Wire self.old) (served_by W.Wire self.new) }
@@ -319,9 +329,11 @@ impl<D: Disk + Drop, W: Wire + Drop> Desk<D, W> {
             return None;
         }
         let answer = self.member.step(event);
+        let is_given = is_given(answer);
+        put_down(&mut self.wire, is_given);
         let deaf = self.hand_on();
         self.note_promised();
-        if !is_given(answer) {
+        if !is_given {
             self.refuse(event);
             return answer;
         }

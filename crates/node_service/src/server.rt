@@ -1,12 +1,13 @@
 //! The turns of a node's process.
 
-ghost use Rattle.std.specs.Prelude.{◌≡◌, ◌≤◌, ◌∷◌, ℕ, [], true, false, None, IfSome, IsNone};
+ghost use Rattle.std.specs.Prelude.{◌≡◌, ◌≤◌, ◌∷◌, ◌++◌, ℕ, [], true, false, None, IfSome, IsNone};
 ghost use Rattle.dealer_node.specs.Seeing.{runs};
 ghost use Rattle.clockwork.specs.declared.limits.TheConstants.{MOST_SILENT as MOST};
 ghost use Rattle.node_links.specs.declared.limits.TheConstants.{LOOK};
 ghost use Rattle.node_service.specs.Arriving.{taken_for};
 ghost use Rattle.node_service.specs.declared.limits.TheConstants.{SEATS as COUNT};
 ghost use Rattle.node_peers.specs.Peering.{own_of, passed_of, frames_of, heard_of};
+ghost use Rattle.node_wires.specs.Passages.{Saw};
 ghost use Rattle.node_seats.specs.Seating.{bot_at, no_bot};
 ghost use Rattle.node_service.specs.Crossing.{IsCarried, Carries};
 ghost use Rattle.node_service.specs.Bots.{AreBotsOf, AreServed};
@@ -24,7 +25,7 @@ use crate::company::Company;
 use crate::deals::read_deals;
 use crate::desk::Desk;
 use crate::lasting::Lasting;
-use crate::limits::{CALLER, NODES};
+use crate::limits::{CALLERS, NODES};
 use crate::local_node::LocalNode;
 use crate::noting::seen_of;
 use crate::outcome::Outcome;
@@ -48,6 +49,7 @@ use node_peers::Peers;
 use node_seats::Seats;
 use node_status::Askers;
 use node_wires::Wire;
+use node_wires::limits::TAKEN_AT_ONCE;
 use paxos_wire::Ballot;
 use promise_store::Disk;
 use slot_log::laws::{fronts_go_on, hands_come_of_commands};
@@ -161,7 +163,7 @@ impl<D: Disk + Drop, W: Wire + Drop> NodeServer<D, W> {
     ) -> NodeServer<D, W>
         ensures station { station_of result ≡ member.station }
         ensures terms { (served_of result).terms ≡ terms }
-        ensures passed { (served_of result).passed ≡ W.passed wire }
+        ensures passed { (served_of result).passed ≡ W.passed wire ++ Saw result.left ∷ [] }
         ensures log { (served_of result).log_failed ≡ false }
         ensures told { told_in result ≡ [] }
         ensures own { (served_of result).own ≡ own_of peers }
@@ -473,31 +475,40 @@ impl<D: Disk + Drop, W: Wire + Drop> NodeServer<D, W> {
         now
     }
 
-    /// How many dialled so far, whoever they are: turned away or taken in.
-    fn callers(&self) -> u64 {
-        let turned_away = self.desk.wire.turned_away();
-        turned_away.saturating_add(self.desk.company.peers.callers())
-    }
-
-    /// What so many took who came to ports isn't sleep, up to `CALLER` each; nor is so much that wasn't before.
-    pub(crate) fn note_busy(&mut self, in_calls: u64, callers: u64, took: u64)
+    /// What those took who came to ports isn't sleep, up to `CALLERS`.
+    pub(crate) fn note_busy(&mut self, took: u64)
         ensures kept { self.new.desk ≡ self.old.desk }
-        ensures in_calls { self.new.in_calls ≡ with_callers in_calls callers took }
+        ensures in_calls { self.new.in_calls ≡ with_callers self.old.in_calls took }
     {
-        let busy = took.min(callers.saturating_mul(CALLER));
-        self.in_calls = in_calls.saturating_add(busy);
+        self.in_calls = self.in_calls.saturating_add(took.min(CALLERS));
     }
 
-    /// Takes what peers sent, and dials those that are to be dialled. What it took since that moment isn't sleep, up to `CALLER` for
-    /// each who dialled meanwhile.
-    fn hear_peers(&mut self, begun: u64)
+    /// Takes in those who dialled, one after another, in a turn of this moment, until they have taken their time: one call in any case.
+    /// It answers when that was.
+    fn take_dialled(&mut self, turn: u64, begun: u64) -> u64
         ensures { IsKept W.Wire self.old.desk self.new.desk }
     {
-        let before = self.callers();
-        self.desk.hear(begun);
-        let came = self.callers().saturating_sub(before);
-        let now = self.desk.now();
-        self.note_busy(self.in_calls, came, now.saturating_sub(begun));
+        let mut now = begun;
+        for _ in 0..TAKEN_AT_ONCE {
+            if !self.desk.take_caller(turn) {
+                return now;
+            }
+            now = self.desk.now();
+            if now.saturating_sub(begun) >= CALLERS {
+                return now;
+            }
+        }
+        now
+    }
+
+    /// Takes what peers sent, dials those that are to be dialled, and takes in those who dialled. What these took isn't sleep.
+    fn hear_peers(&mut self, turn: u64)
+        ensures { IsKept W.Wire self.old.desk self.new.desk }
+    {
+        self.desk.hear(turn);
+        let begun = self.desk.now();
+        let now = self.take_dialled(turn, begun);
+        self.note_busy(now.saturating_sub(begun));
     }
 
     /// How long the next turn may wait, where that is how long it is until a tick may be due. Not at all where something is
@@ -538,6 +549,8 @@ impl<D: Disk + Drop, W: Wire + Drop> NodeServer<D, W> {
     ///
     /// What peers told is taken first, and then of each seat one thing at most: a bot that comes, or a piece of 512 bytes at most. Behind
     /// what is due, where all of peers was taken, one frame of a peer at most that was set aside: it may cost syncs.
+    /// Those who dialled, and those who came to the ports of seats with tokens, are taken for some 25 ms each: one call for
+    /// the former and one of each port in any case.
     /// Nobody comes to a seat at which somebody sat when the turn began: who is there meanwhile waits. Where such a seat is free
     /// at the end of the turn, the next one doesn't rest.
     ///
@@ -598,12 +611,13 @@ impl<D: Disk + Drop, W: Wire + Drop> NodeServer<D, W> {
         self.note_behind(now);
         self.look_at_lines(now);
         let is_asked = self.answer_askers(alloc, now);
-        let over = self.finish(is_all, now);
+        let is_all_read = is_all & self.has_read_seats;
+        let over = self.finish(is_all_read, now);
         self.speak(now);
         // Whoever was behind has room for more now.
         let owes_lines = self.owes_lines();
         self.desk.tell_seats();
-        self.note_read(is_read, is_all, now);
+        self.note_read(self.has_read_seats, is_all_read, now);
         self.left = now;
         let is_over = self.is_done(over, now);
         // Behind a frame that was set aside something else may be due.

@@ -1,8 +1,9 @@
 //! What came of peers and seats, taken one thing after another: each is one call of the node.
 
-ghost use Rattle.std.specs.Prelude.{◌≡◌, ◌≢◌, ◌<◌, ℕ, ◌∷◌, []};
+ghost use Rattle.std.specs.Prelude.{◌≡◌, ◌≢◌, ◌<◌, ℕ, ◌∷◌, [], false};
 ghost use Rattle.std.specs.Int.{bit_at};
 ghost use Rattle.node_seats.specs.Seating.{bit_of};
+ghost use Rattle.node_seats.specs.declared.seat_notice.SeatNotice.TheVariants.{Unread};
 ghost use Rattle.node_wires.specs.Passages.{Began, Came};
 ghost use Rattle.node_wires.specs.declared.line.Line.TheVariants.{Seat};
 ghost use Rattle.node_service.specs.Arriving.{OfSeat, OfPeer, incoming_of};
@@ -15,7 +16,7 @@ ghost use Rattle.node_peers.specs.Hearing.{IsTold};
 ghost use Rattle.node_peers.specs.Peering.{own_of, passed_of};
 ghost use Rattle.node_peers.specs.declared.notice.Notice.TheVariants.{Joined};
 
-use crate::limits::{CALLS, LEAST_TAKEN, SEATS};
+use crate::limits::{CALLERS, CALLS, LEAST_TAKEN, SEATS};
 use crate::outcome::Outcome;
 use crate::seat_lines::bit_of;
 use crate::server::NodeServer;
@@ -59,7 +60,7 @@ fn with_thing(taken: u16, notice: &SeatNotice) -> u16
 {
     match notice {
         SeatNotice::Came { seat } | SeatNotice::Piece { seat, .. } => with_bit(taken, *seat),
-        SeatNotice::Gone { .. } | SeatNotice::Refused { .. } => taken,
+        SeatNotice::Gone { .. } | SeatNotice::Refused { .. } | SeatNotice::Unread { .. } => taken,
     }
 }
 
@@ -78,23 +79,34 @@ fn is_enough(taken: u64, costs_no_sync: bool, begun: u64, now: u64) -> bool
     taken >= least_of(costs_no_sync) && now.saturating_sub(begun) >= CALLS
 }
 
-/// Whether something more of a seat may be there behind this. Behind one who is refused there is nothing.
+/// Whether something more of a seat may be there behind this. Behind one who is refused there is nothing, and a seat that couldn't be
+/// read is asked again by the next turn, whenever that comes.
 fn has_more(notice: &SeatNotice) -> bool {
     match notice {
-        SeatNotice::Refused { .. } => false,
+        SeatNotice::Refused { .. } | SeatNotice::Unread { .. } => false,
         SeatNotice::Came { .. } | SeatNotice::Piece { .. } | SeatNotice::Gone { .. } => {
             notice.may_have_more()
         }
     }
 }
 
-/// What was taken of those who came to a seat's port.
+/// What was taken of those who came to seats' ports.
 #[derive(Clone, Copy)]
 pub(crate) enum Taker {
     /// Nobody was there.
     Nobody,
-    /// One was, and whether something more of the seat may be there now.
+    /// Somebody was, and whether something more of a seat may be there now.
     One { has_more: bool },
+}
+
+/// What was taken at this port, and at others before.
+fn with_taker(before: Taker, taker: Taker) -> Taker {
+    match (before, taker) {
+        (Taker::Nobody, other) | (other, Taker::Nobody) => other,
+        (Taker::One { has_more: one }, Taker::One { has_more: other }) => Taker::One {
+            has_more: one || other,
+        },
+    }
 }
 
 /// What was taken of what came.
@@ -221,48 +233,97 @@ impl<D: Disk + Drop, W: Wire + Drop> NodeServer<D, W> {
         if takes_in { 0 } else { u16::MAX }
     }
 
-    /// Takes those who came to the ports of all seats with tokens, as many of each as are taken in a turn. What time that takes isn't
-    /// sleep. It says whether nothing is left of those who were taken in.
-    fn take_callers(&mut self, closed: u16, taken: &mut u16, now: u64) -> bool
+    /// Takes those who came to the ports of seats with tokens. What time that takes beyond calls of the node isn't sleep. It says
+    /// whether nothing is left of those who were taken in.
+    fn take_callers(&mut self, closed: u16, taken: &mut u16, begun: u64) -> bool
         ensures { GoesOnWith D.Disk (AreCallersBut closed taken.old taken.new) (served_of self.old) (served_of self.new) }
     {
         let in_calls = self.in_calls;
-        let mut is_all = true;
-        let mut count = 0u64;
-        self.has_callers = false;
-        for seat in 0..SEATS {
-            is_all &= self.take_callers_of(seat, closed, taken, &mut count, now);
-        }
-        let took = self.desk.now().saturating_sub(now);
-        self.note_busy(in_calls, count, took);
+        let mut empty = 0u16;
+        let (is_all, now) = self.take_rounds(closed, taken, &mut empty, begun);
+        self.note_crowds(empty, now);
+        let called = self.in_calls.saturating_sub(in_calls);
+        self.note_busy(now.saturating_sub(begun).saturating_sub(called));
         is_all
     }
 
-    /// The same of one seat. Where more are there that is noted.
-    fn take_callers_of(
+    /// The same, in rounds, until all ports were found empty or rounds have taken their time: of each port one is taken in any
+    /// case. It answers when that was too, and which were empty, a bit each.
+    fn take_rounds(
+        &mut self,
+        closed: u16,
+        taken: &mut u16,
+        empty: &mut u16,
+        begun: u64,
+    ) -> (bool, u64)
+        ensures { GoesOnWith D.Disk (AreCallersBut closed taken.old taken.new) (served_of self.old) (served_of self.new) }
+    {
+        let mut is_all = true;
+        let mut now = begun;
+        for _ in 0..TAKEN_AT_ONCE {
+            match self.take_round(closed, taken, empty, begun) {
+                Taker::Nobody => return (is_all, now),
+                Taker::One { has_more } => is_all &= !has_more,
+            }
+            now = self.desk.now();
+            if now.saturating_sub(begun) >= CALLERS {
+                return (is_all, now);
+            }
+        }
+        (is_all, now)
+    }
+
+    /// Takes one at each port that wasn't found empty.
+    fn take_round(&mut self, closed: u16, taken: &mut u16, empty: &mut u16, now: u64) -> Taker
+        ensures { GoesOnWith D.Disk (AreCallersBut closed taken.old taken.new) (served_of self.old) (served_of self.new) }
+    {
+        let mut round = Taker::Nobody;
+        for seat in 0..SEATS {
+            let taker = self.take_caller_of(seat, closed, taken, empty, now);
+            round = with_taker(round, taker);
+        }
+        round
+    }
+
+    /// The same of one seat.
+    fn take_caller_of(
         &mut self,
         seat: u8,
         closed: u16,
         taken: &mut u16,
-        count: &mut u64,
+        empty: &mut u16,
         now: u64,
-    ) -> bool
+    ) -> Taker
         ensures { GoesOnWith D.Disk (AreCallersBut closed taken.old taken.new) (served_of self.old) (served_of self.new) }
     {
-        let mut is_all = true;
-        for _ in 0..TAKEN_AT_ONCE {
-            if self.ending() != Outcome::GoesOn {
-                return false;
-            }
-            match self.take_caller(seat, closed, taken, now) {
-                Taker::Nobody => return is_all,
-                Taker::One { has_more } => is_all &= !has_more,
-            }
-            *count = count.saturating_add(1);
+        if has_bit(*empty, seat) || self.ending() != Outcome::GoesOn {
+            return Taker::Nobody;
         }
-        self.desk.crowd(seat, now);
-        self.has_callers = true;
-        is_all
+        let taker = self.take_caller(seat, closed, taken, now);
+        if let Taker::Nobody = taker {
+            *empty = with_bit(*empty, seat);
+        }
+        taker
+    }
+
+    /// At each port that wasn't found empty more may be: that is noted, and the next turn doesn't rest.
+    fn note_crowds(&mut self, empty: u16, now: u64)
+        ensures { IsKept W.Wire self.old.desk self.new.desk }
+    {
+        self.has_callers = false;
+        for seat in 0..SEATS {
+            self.note_crowd(seat, empty, now);
+        }
+    }
+
+    /// The same of one seat.
+    fn note_crowd(&mut self, seat: u8, empty: u16, now: u64)
+        ensures { IsKept W.Wire self.old.desk self.new.desk }
+    {
+        if !has_bit(empty, seat) {
+            self.desk.crowd(seat, now);
+            self.has_callers = true;
+        }
     }
 
     /// Takes the next one who came to a seat's port. Where something was taken of the seat before, nobody is taken in there, as at a
@@ -442,15 +503,17 @@ impl<D: Disk + Drop, W: Wire + Drop> NodeServer<D, W> {
         let _ = self.call(&Event::Frame { from, to, bytes });
     }
 
-    /// One thing that came of a seat.
+    /// One thing that came of a seat. By one that couldn't be read seats count as not read in this turn.
     pub(crate) fn take_seat_notice(&mut self, notice: SeatNotice)
-        ensures { Does D.Disk (incoming_of notice) (served_of self.old) (served_of self.new) }
+        ensures goes { Does D.Disk (incoming_of notice) (served_of self.old) (served_of self.new) }
+        ensures unread { (seat : ℕ) → notice ≡ Unread seat → self.new.has_read_seats ≡ false }
     {
         match notice {
             SeatNotice::Came { seat } => self.seat_bot(seat),
             SeatNotice::Piece { seat, bytes } => self.take_piece(seat, bytes),
             SeatNotice::Gone { seat } => self.leave(seat),
             SeatNotice::Refused { seat, source } => self.wrong_tokens.count(seat, source),
+            SeatNotice::Unread { .. } => self.has_read_seats = false,
         }
     }
 

@@ -1,6 +1,5 @@
 use Rattle.std.proofs.Common.{Bool, sym, subst}
 use Rattle.node_service.specs.Apartness.{PutsOff}
-use Rattle.node_service.proofs.Apartness.{none_in_any}
 use Rattle.node_service.proofs.seat_lines.tell_bot.Goals as goal
 
 pub returns-then-is_apart-clause-waits : goal.returns-then-is_apart-clause-waits

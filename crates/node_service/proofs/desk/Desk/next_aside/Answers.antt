@@ -22,6 +22,7 @@ returns-clause-takes g c =
       log_failed = refl;
       sent = c.next_aside.ensures.frames;
       bots = bots_still (look_of old.member.station) old.seats.seats.items;
+      calls = refl;
       log = refl;
       seats = sym (ap (λ (m : List Passage). seats_in (g.W.Wire.passed old.wire) ++ m) (no_seat_told c.next_aside.result) ∙ append-nil (seats_in (g.W.Wire.passed old.wire)));
       heard = c.next_aside.ensures.heard ∙ ap (λ (m : List Passage). heard_of old.company.peers ++ m) (told_is_heard c.next_aside.result);

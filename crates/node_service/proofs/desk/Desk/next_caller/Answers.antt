@@ -5,6 +5,7 @@ use Rattle.stations.specs.Looking.{look_of}
 use Rattle.node_service.proofs.Apartness.{waits_changed}
 use Rattle.node_service.proofs.Bots.{bots_changed}
 use Rattle.node_service.proofs.Hearing.{hears_none}
+use Rattle.node_service.proofs.Calls.{by_bots}
 use Rattle.node_service.proofs.Crossing.{carried_seated}
 use Rattle.node_service.proofs.Seated.{coming_somebody}
 use Rattle.node_service.proofs.Incoming.{passed_is_incoming, no_peer_told, none_of_peers}
@@ -21,6 +22,7 @@ returns-clause-takes g c =
       log_failed = refl;
       sent = refl;
       bots = bots_changed (look_of old.member.station) c.next_caller-called.result.notice old.seats.seats.items c.next_caller-called.new.self.seats.items c.next_caller-called.ensures.comes.sits;
+      calls = by_bots (g.W.Wire.passed old.wire) (g.W.Wire.passed c.next_caller-called.new.wire) c.next_caller-called.ensures.others;
       log = c.next_caller-called.ensures.log;
       seats = c.next_caller-called.ensures.seats ∙ ap (λ (m : List Passage). seats_in (g.W.Wire.passed old.wire) ++ m) (passed_is_incoming c.next_caller-called.result.notice);
       heard = sym (ap (λ (m : List Passage). heard_of old.company.peers ++ m) (no_peer_told c.next_caller-called.result.notice) ∙ append-nil (heard_of old.company.peers));

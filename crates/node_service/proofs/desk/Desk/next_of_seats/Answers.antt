@@ -5,6 +5,7 @@ use Rattle.stations.specs.Looking.{look_of}
 use Rattle.node_service.proofs.Apartness.{waits_changed}
 use Rattle.node_service.proofs.Bots.{bots_changed}
 use Rattle.node_service.proofs.Hearing.{hears_none}
+use Rattle.node_service.proofs.Calls.{by_bots}
 use Rattle.node_service.proofs.Crossing.{carried_seated}
 use Rattle.node_service.proofs.Seated.{coming_somebody}
 use Rattle.node_service.proofs.Incoming.{passed_is_incoming, no_peer_told, none_of_peers}
@@ -21,6 +22,7 @@ returns-clause-takes g c =
       log_failed = refl;
       sent = refl;
       bots = bots_changed (look_of old.member.station) c.next-notice.result old.seats.seats.items c.next-notice.new.self.seats.items c.next-notice.ensures.comes.sits;
+      calls = by_bots (g.W.Wire.passed old.wire) (g.W.Wire.passed c.next-notice.new.wire) c.next-notice.ensures.others;
       log = c.next-notice.ensures.log;
       seats = c.next-notice.ensures.seats ∙ ap (λ (m : List Passage). seats_in (g.W.Wire.passed old.wire) ++ m) (passed_is_incoming c.next-notice.result);
       heard = sym (ap (λ (m : List Passage). heard_of old.company.peers ++ m) (no_peer_told c.next-notice.result) ∙ append-nil (heard_of old.company.peers));

@@ -4,7 +4,7 @@ use Rattle.node_service.proofs.Keeping.{kept_on, as_it_was}
 use Rattle.node_service.proofs.server.NodeServer.answer_replaced.Goals as goal
 
 pub returns-then-is_replaced : goal.returns-then-is_replaced
-returns-then-is_replaced g c = kept_on g.W.Wire c.now-now.ensures c.speak.ensures
+returns-then-is_replaced g c = kept_on g.W.Wire c.now-now.ensures.kept c.speak.ensures
 
 pub returns-else-is_replaced : goal.returns-else-is_replaced
 returns-else-is_replaced g c =

@@ -1,6 +1,3 @@
-use Rattle.std.proofs.Common.{ap, ◌∙◌, arith}
-use Rattle.node_service.specs.Watching.{watch_at}
-use Rattle.node_service.specs.declared.seat_watches.SeatWatches.{SeatWatches}
 use Rattle.node_service.proofs.Timing.{kept_at_all, kept_further, looks_at_none, looks_at_one}
 use Rattle.node_service.proofs.server.NodeServer.look_at_each.Goals as goal
 

@@ -13,16 +13,16 @@ loop-taken-init g c =
     frame_does (goes_kept g.W.Wire kept)
 
 pub returns-in-Nothing : goal.returns-in-Nothing
-returns-in-Nothing g c = with_so AreFrames (AreRead true) all_read (with_on AreFrames AreFrames AreFrames frames_on (with_does AreFrames c.loop-taken.invariant (goes_kept g.W.Wire c.now-now.ensures)) c.in-Nothing.ensures)
+returns-in-Nothing g c = with_so AreFrames (AreRead true) all_read (with_on AreFrames AreFrames AreFrames frames_on (with_does AreFrames c.loop-taken.invariant (goes_kept g.W.Wire c.now-now.ensures.kept)) c.in-Nothing.ensures)
 
 pub returns-in-Last : goal.returns-in-Last
-returns-in-Last g c = with_on AreFrames ComeOfPeers (AreRead false) (λ xs ys first then_on. some_read (xs ++ ys) (frames_to_life xs ys first then_on)) (with_does AreFrames c.loop-taken.invariant (goes_kept g.W.Wire c.now-now.ensures)) c.in-Last.ensures
+returns-in-Last g c = with_on AreFrames ComeOfPeers (AreRead false) (λ xs ys first then_on. some_read (xs ++ ys) (frames_to_life xs ys first then_on)) (with_does AreFrames c.loop-taken.invariant (goes_kept g.W.Wire c.now-now.ensures.kept)) c.in-Last.ensures
 
 pub loop-taken-preserved : goal.loop-taken-preserved
-loop-taken-preserved g c = with_on AreFrames AreFrames AreFrames frames_on (with_does AreFrames c.loop-taken.invariant (goes_kept g.W.Wire c.now-now.ensures)) c.in-One.ensures
+loop-taken-preserved g c = with_on AreFrames AreFrames AreFrames frames_on (with_does AreFrames c.loop-taken.invariant (goes_kept g.W.Wire c.now-now.ensures.kept)) c.in-One.ensures
 
 pub returns-then-ne : goal.returns-then-ne
-returns-then-ne g c = with_so AreFrames (AreRead false) (read_by false) (with_does AreFrames c.loop-taken.invariant (goes_kept g.W.Wire c.now-now.ensures))
+returns-then-ne g c = with_so AreFrames (AreRead false) (read_by false) (with_does AreFrames c.loop-taken.invariant (goes_kept g.W.Wire c.now-now.ensures.kept))
 
 pub returns : goal.returns
 returns g c = with_so AreFrames (AreRead false) (read_by false) c.loop-taken.invariant

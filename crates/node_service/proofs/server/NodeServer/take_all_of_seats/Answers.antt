@@ -9,7 +9,7 @@ pub loop-at-init : goal.loop-at-init
 loop-at-init g c =
     let shut = bit_or c.args.closed c.shut.result in
     let taken = c.take_callers-is_all.new.taken in
-    with_so (AreCallersBut shut 0 taken) (ComeBelow 0 shut taken) (callers_first shut taken) (does_with (AreCallersBut shut 0 taken) (goes_kept g.W.Wire c.now-now.ensures) c.take_callers-is_all.ensures)
+    with_so (AreCallersBut shut 0 taken) (ComeBelow 0 shut taken) (callers_first shut taken) (does_with (AreCallersBut shut 0 taken) (goes_kept g.W.Wire c.now-now.ensures.kept) c.take_callers-is_all.ensures)
 
 pub loop-at-preserved : goal.loop-at-preserved
 loop-at-preserved g c =

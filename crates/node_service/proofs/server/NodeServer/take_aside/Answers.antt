@@ -1,5 +1,4 @@
 use Rattle.std.proofs.Common.{refl}
-use Rattle.std.specs.Prelude.{Some}
 use Rattle.node_service.specs.Desks.{IsKept}
 use Rattle.node_service.specs.Turns.{IsLate}
 use Rattle.node_service.proofs.Going.{does_such, does_with, taken_with, nothing_taken}
@@ -20,9 +19,9 @@ returns-then-ne g c =
     does_such (IsLate c.args.is_read) (nothing_late c.args.is_read) (goes_kept g.W.Wire kept)
 
 pub returns-in-None : goal.returns-in-None
-returns-in-None g c = does_with (IsLate c.args.is_read) (goes_kept g.W.Wire c.now-now.ensures) (nothing_taken (IsLate c.args.is_read) (nothing_late c.args.is_read) c.in-None.ensures.takes)
+returns-in-None g c = does_with (IsLate c.args.is_read) (goes_kept g.W.Wire c.now-now.ensures.kept) (nothing_taken (IsLate c.args.is_read) (nothing_late c.args.is_read) c.in-None.ensures.takes)
 
 pub returns-in-Some : goal.returns-in-Some
 returns-in-Some g c =
-    does_with (IsLate c.args.is_read) (goes_kept g.W.Wire c.now-now.ensures)
+    does_with (IsLate c.args.is_read) (goes_kept g.W.Wire c.now-now.ensures.kept)
     (taken_with (IsLate c.args.is_read) c.in-Some.ensures.takes c.take_notice.ensures.goes (one_late c.args.is_read c.in-Some.notice c.if-not-is_read.false c.in-Some.ensures.frame))

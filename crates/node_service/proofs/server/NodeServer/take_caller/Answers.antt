@@ -1,4 +1,4 @@
-use Rattle.std.proofs.Common.{ℕ, bit_or, refl, subst}
+use Rattle.std.proofs.Common.{ℕ, bit_or, subst}
 use Rattle.std.specs.Prelude.{Option, Some, None}
 use Rattle.node_seats.specs.declared.seat_notice.SeatNotice.{SeatNotice}
 use Rattle.node_seats.specs.Pieces.{IsPieceOf}
@@ -21,7 +21,7 @@ returns-in-Some g c =
     let takes : Takes g.D.Disk (incoming_by (Some told)) (served_by g.W.Wire c.args.self.now.desk) (served_by g.W.Wire c.next_caller-was_there.new.self) =
     subst (λ (n : Option SeatNotice). Takes g.D.Disk (incoming_by n) (served_by g.W.Wire c.args.self.now.desk) (served_by g.W.Wire c.next_caller-was_there.new.self)) c.in-Some.is c.next_caller-was_there.ensures.takes in
     let first = caller_first closed taken told free piece in
-    taken_with (AreCallersBut closed taken c.with_thing.result) takes (does_on c.take_seat_notice.ensures c.leave_all.ensures) (caller_but closed taken c.with_thing.result told free piece (c.with_thing.ensures first))
+    taken_with (AreCallersBut closed taken c.with_thing.result) takes (does_on c.take_seat_notice.ensures.goes c.leave_all.ensures) (caller_but closed taken c.with_thing.result told free piece (c.with_thing.ensures first))
 
 pub returns-in-None : goal.returns-in-None
 returns-in-None g c =

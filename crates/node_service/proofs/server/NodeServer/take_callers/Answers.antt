@@ -1,25 +1,9 @@
-use Rattle.std.proofs.Common.{refl}
-use Rattle.node_service.specs.Desks.{IsKept}
 use Rattle.node_service.specs.Turns.{AreCallersBut}
-use Rattle.node_service.proofs.Going.{does_such, with_does, with_on}
+use Rattle.node_service.proofs.Going.{with_does}
 use Rattle.node_service.proofs.Keeping.{goes_kept, kept_on, as_it_was}
-use Rattle.node_service.proofs.Turns.{no_callers, callers_on}
 use Rattle.node_service.proofs.server.NodeServer.take_callers.Goals as goal
 
-pub loop-seat-init : goal.loop-seat-init
-loop-seat-init g c =
-    let desk = c.args.self.now.desk in
-    let kept : IsKept g.W.Wire desk desk = as_it_was g.W.Wire refl in
-    let taken = c.args.taken.now in
-    does_such (AreCallersBut c.args.closed taken taken) (no_callers c.args.closed taken) (goes_kept g.W.Wire kept)
-
-pub loop-seat-preserved : goal.loop-seat-preserved
-loop-seat-preserved g c =
-    let closed = c.args.closed in
-    let first = c.args.taken.now in
-    let before = c.loop-seat.taken in
-    let after = c.take_callers_of-is_all.new.taken in
-    with_on (AreCallersBut closed first before) (AreCallersBut closed before after) (AreCallersBut closed first after) (callers_on closed first before after) c.loop-seat.invariant c.take_callers_of-is_all.ensures
-
 pub returns : goal.returns
-returns g c = with_does (AreCallersBut c.args.closed c.args.taken.now c.loop-seat.taken) c.loop-seat.invariant (goes_kept g.W.Wire (kept_on g.W.Wire c.now.ensures (as_it_was g.W.Wire c.note_busy.ensures.kept)))
+returns g c =
+    with_does (AreCallersBut c.args.closed c.args.taken.now c.take_rounds-is_all.new.taken) c.take_rounds-is_all.ensures
+    (goes_kept g.W.Wire (kept_on g.W.Wire c.note_crowds.ensures (as_it_was g.W.Wire c.note_busy.ensures.kept)))

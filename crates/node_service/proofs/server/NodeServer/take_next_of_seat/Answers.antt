@@ -21,7 +21,7 @@ returns-in-Some g c =
     let taken = c.args.taken.now in
     let notice = c.in-Some.notice in
     let first = first_of closed taken at notice c.if-has_bit.ensures c.in-Some.ensures.closed c.in-Some.ensures.piece in
-    taken_with (IsNextBut at closed taken c.with_thing.result) c.in-Some.ensures.takes (does_on c.take_seat_notice.ensures c.leave_all.ensures)
+    taken_with (IsNextBut at closed taken c.with_thing.result) c.in-Some.ensures.takes (does_on c.take_seat_notice.ensures.goes c.leave_all.ensures)
     (record { next = (Some notice, (refl, c.in-Some.ensures.piece)); counts = c.with_thing.ensures first; spares = spares_of closed taken notice c.in-Some.ensures.closed })
 
 pub returns-in-None : goal.returns-in-None

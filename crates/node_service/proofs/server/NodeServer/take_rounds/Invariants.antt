@@ -1,7 +1,7 @@
 use Rattle.node_service.specs.Going.{GoesOnWith}
 use Rattle.node_service.specs.Serving.{served_of}
 use Rattle.node_service.specs.Turns.{AreCallersBut}
-use Rattle.node_service.proofs.server.NodeServer.take_callers_of.Given as goal
+use Rattle.node_service.proofs.server.NodeServer.take_rounds.Given as goal
 
 abbrev pub invariant-loop : goal.invariant-loop
 invariant-loop g l = GoesOnWith g.D.Disk (AreCallersBut l.initial.closed l.initial.taken l.taken) (served_of l.initial.self) (served_of l.self)
