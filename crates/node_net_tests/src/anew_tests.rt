@@ -223,6 +223,27 @@ fn who_says_no_hello_is_counted(rt: HostRuntime) -> Result<(), Fail> {
     Ok(counts(&rt, &mut side)?)
 }
 
+/// Two dialled: neither is taken in as what came is heard; then one at a time is, and no third.
+fn takes_one_at_a_time(rt: &impl Abort, side: &mut Side) {
+    side.wire.call();
+    side.wire.call();
+    side.peers.hear(&mut side.wire, 1_000);
+    assert_number(rt, side.peers.callers(), 0);
+    for count in 1..3 {
+        assert_that(rt, side.peers.take_caller(&mut side.wire, 1_000));
+        assert_number(rt, side.peers.callers(), count);
+    }
+    assert_that(rt, !side.peers.take_caller(&mut side.wire, 1_000));
+    assert_number(rt, side.peers.callers(), 2);
+}
+
+#[test]
+fn callers_are_taken_in_one_by_one(rt: HostRuntime) -> Result<(), Fail> {
+    let mut side = node_0(rt.alloc())?;
+    takes_one_at_a_time(&rt, &mut side);
+    Ok(())
+}
+
 /// It is 27 commands behind, and nothing was measured of it; others aren't there.
 fn lags(rt: &impl Abort, side: &mut Side) -> Result<(), AllocError> {
     assert_that(

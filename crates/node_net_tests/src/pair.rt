@@ -3,6 +3,7 @@
 use crate::samples::{TOLD, own};
 use node_links::Own;
 use node_peers::{Notice, Peers};
+use node_wires::limits::TAKEN_AT_ONCE;
 use node_wires::{Line, MemoryWire};
 use peer_codes::Life;
 use std::alloc::{AllocError, Global};
@@ -190,9 +191,14 @@ impl Side {
         self.say(now);
     }
 
-    /// Takes what came.
+    /// Takes what came, and then those who dialled, as many as in a turn at most.
     pub(crate) fn hear(&mut self, now: u64) {
         self.peers.hear(&mut self.wire, now);
+        for _ in 0..TAKEN_AT_ONCE {
+            if !self.peers.take_caller(&mut self.wire, now) {
+                break;
+            }
+        }
     }
 
     /// Whether something is told, which is then counted: what came, and then what was set aside.

@@ -73,12 +73,13 @@ fn open_seats(alloc: Global) -> Result<Table, AllocError> {
 }
 
 /// The number that stands for what came: 1 a bot at seat 0 and 2 one at seat 1, 3 the end of one, 4 a refusal with its address,
-/// the length of a piece, 0 nothing.
+/// 6 a seat that wasn't read, the length of a piece, 0 nothing.
 fn number_of(notice: Option<SeatNotice>) -> u64 {
     match notice {
         Some(SeatNotice::Came { seat }) => seat as u64 + 1,
         Some(SeatNotice::Gone { seat: _ }) => 3,
         Some(SeatNotice::Refused { seat: _, source }) => if is_of_memory(source) { 4 } else { 5 },
+        Some(SeatNotice::Unread { seat: _ }) => 6,
         Some(SeatNotice::Piece { seat: _, bytes }) => bytes.len() as u64,
         None => 0,
     }

@@ -1,6 +1,6 @@
 //! Wires in memory whose bot may be deaf, and whose nodes may be down.
 
-ghost use Rattle.node_wires.specs.MemoryPassed.{passed_of};
+ghost use Rattle.node_wires.specs.MemoryPassed.{passed_of, moments_in_order};
 
 use node_wires::{Halt, Line, MemoryWire, Wire, WireFault};
 use std::net::IpAddr;
@@ -34,6 +34,10 @@ impl Wire for TestWire {
 
     fn wait(&mut self, most: u64) {
         self.inner.wait(most);
+    }
+
+    fn called(&mut self) {
+        self.inner.called();
     }
 
     fn draw(&mut self) -> Option<[u8; 32]> {
@@ -76,8 +80,8 @@ impl Wire for TestWire {
     }
 
     fn write(&mut self, line: Line, bytes: &[u8]) -> Result<usize, Halt> {
-        if self.is_deaf && line == Line::Seat(0) {
-            return Err(Halt::Later);
+        if line == Line::Seat(0) {
+            self.inner.set_deaf(line, self.is_deaf);
         }
         self.inner.write(line, bytes)
     }
@@ -97,4 +101,6 @@ impl Wire for TestWire {
     fn add_to_log(&mut self, text: &[u8]) -> Result<(), WireFault> {
         self.inner.add_to_log(text)
     }
+
+    ghost in_order = { λ wire. moments_in_order wire.inner };
 }

@@ -1,6 +1,6 @@
 //! The ends of all connections of a process, and who waits to be taken in.
 
-ghost use Rattle.std.specs.Prelude.{◌≡◌, ◌≤◌, length, IfOk};
+ghost use Rattle.std.specs.Prelude.{◌≡◌, ◌≤◌, ◌<◌, length, IfOk, OnErr};
 
 use crate::act::{Act, What};
 use crate::clock::Clock;
@@ -560,10 +560,14 @@ impl<'a> Ends<'a> {
         }
     }
 
-    /// Reads what came over a line.
+    /// Reads what came over a line; 0 bytes where the buffer has no room.
     pub fn read(&mut self, line: Line, piece: &mut [u8]) -> Result<usize, Halt>
-        ensures { IfOk result (λ count. count ≤ length piece.new) }
+        ensures within { IfOk result (λ count. count ≤ length piece.new) }
+        ensures room { OnErr result (0 < length piece.new) }
     {
+        if piece.is_empty() {
+            return Ok(0);
+        }
         if self.clock.is_dead() {
             return Err(Halt::Ended);
         }
