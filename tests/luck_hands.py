@@ -75,9 +75,9 @@ class Play:
             self.begin(self.round + 1)
 
 
-# ---- styles: from the play, the hole cards of who acts and chance to an action
+# ---- styles: from the play, the hole cards of who acts, the board so far and chance to an action
 
-def wild(play, hole, chance):
+def wild(play, hole, board, chance):
     ends, pick = play.raise_ends(), chance.random()
     if ends and pick < 0.22:
         low, high = ends
@@ -85,12 +85,22 @@ def wild(play, hole, chance):
     return ("f",) if play.faces() and pick > 0.75 else ("c",)
 
 
-def keeps_high_cards(play, hole, chance):
+def bets_pairs(play, hole, board, chance):
+    """Bets and raises a pair, of the board's cards too, half of the time; folds to a bet what has none."""
+    ends, ranks = play.raise_ends(), {c // 4 for c in board}
+    has_pair = hole[0] // 4 == hole[1] // 4 or any(c // 4 in ranks for c in hole)
+    if has_pair and ends and chance.random() < 0.5:
+        low, high = ends
+        return "r", min(high, 3 * low)
+    return ("c",) if has_pair or not play.faces() else ("f",)
+
+
+def keeps_high_cards(play, hole, board, chance):
     """Plays only what has an ace or a king, and only calls."""
     return ("c",) if not play.faces() or any(c // 4 > 10 for c in hole) else ("f",)
 
 
-def calls(play, hole, chance):
+def calls(play, hole, board, chance):
     return ("c",)
 
 
@@ -108,7 +118,7 @@ def log_of(game, hands, styles, seed):
         seat = [(p + number) % game.players for p in range(game.players)]
         play = Play(game)
         while not play.over:
-            play.act(*styles[seat[play.who]](play, holes[play.who], chance))
+            play.act(*styles[seat[play.who]](play, holes[play.who], board[:BOARD_CARDS[play.round]], chance))
         worths = [worth(hole + board) for hole in holes]
         values = settle(play.spent, play.folded, worths)
         cards = "|".join(text_of(hole) for hole in holes)
