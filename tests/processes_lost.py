@@ -6,6 +6,7 @@ answer at once, so that many more than 64 commands are chosen in a call of a slo
 """
 from processes_batch import batch, both
 from processes_slow import PATIENT, TEN_MINUTES, leaders
+from processes_starved import Processors
 
 CALLS_KILLED, CALLS_SILENT, CALLS_BEHIND, BESIDE = 5, 7, 2, 5000.0
 # Each LOOK it is looked how far slow nodes are behind, once the match goes on.
@@ -44,20 +45,20 @@ class Slow:
         self.reached[front] = self.world.now
 
     def look(self):
-        """Since when the slow nodes that run are behind."""
+        """Since when the slow nodes that run are behind. What they write into files of stores that they meet doesn't count."""
         world = self.world
         for number in self.numbers:
-            front = world.processes[number].node.front
-            if world.processes[number].up and front < world.applied:
-                first = min((at for reached, at in self.reached.items() if reached > front), default=world.now)
-                self.longest_behind = max(self.longest_behind, world.now - max(first, BEGUN))
+            process = world.processes[number]
+            if process.up and process.node.front < world.applied:
+                first = min((at for reached, at in self.reached.items() if reached > process.node.front), default=world.now)
+                self.longest_behind = max(self.longest_behind, world.now - max(first, BEGUN, process.kept_until))
         oldest = min((world.processes[number].node.front for number in self.numbers), default=0)
         self.reached = {front: at for front, at in self.reached.items() if front > oldest}
         world.after(LOOK, self.look)
 
-    def why_behind(self):
-        """What is wrong with how far they fell behind, if anything."""
-        most = CALLS_BEHIND * self.call + LITTLE
+    def why_behind(self, more=0.0):
+        """What is wrong with how far they fell behind, if anything; they may be so much further."""
+        most = CALLS_BEHIND * self.call + LITTLE + more
         return f"a slow node {self.longest_behind:.0f} ms behind" if self.longest_behind > most else None
 
 
@@ -272,12 +273,11 @@ def a_slot_that_the_only_other_one_left_knows(world):
     setup_lacking(world, 300.0)
 
 
-# A slow node doesn't campaign while a quick one leads; in each start with a slow disk it may in the first second alone.
-FIRST = 1000.0
+# A slow node doesn't campaign while a quick one leads, from its start on.
 
 
-def setup_calm(world, slow, until):
-    """For so long a quick node leads, and a slow one doesn't tick behind its start."""
+def setup_calm(world, slow, until, more=0.0):
+    """For so long a quick node leads, and a slow one doesn't tick behind its start; it may be so much further behind."""
     world.ticked = []
     for number in slow.numbers:
         process = world.processes[number]
@@ -290,12 +290,29 @@ def setup_calm(world, slow, until):
         process.call = call
     world.on_progress = slow.progressed
     world.is_enough = lambda: world.now >= until
-    world.why_not = lambda: f"slow nodes campaigned while a quick one led: {world.ticked[:5]}" if world.ticked else slow.why_behind()
+    world.why_not = lambda: f"slow nodes campaigned while a quick one led: {world.ticked[:5]}" if world.ticked else slow.why_behind(more)
 
 
 @batch(10, **{**PATIENT, "hands": 100_000, "stays": True, "think": 5.0})
 def starts_with_one_of_3_slow_by_0_3_s(world):
     setup_calm(world, Slow(world, 1, 300.0), 10_000.0)
+
+
+# So much later than the others a slow one begins, on machines on which a turn and a call take so much of a processor: what comes while it keeps
+# files is read turn by turn, and what answers its question lies behind that.
+LATER, BUSY, FILES_SYNCS = 500.0, (0.5, 3.0), 8
+
+
+@batch(10, **{**PATIENT, "hands": 100_000, "stays": True, "think": 60.0})
+def late_starts_of_one_of_3_slow_by_0_3_s(world):
+    """Between its first turns it keeps the lives of both stores that it meets, and what they promised, by two syncs each: it reads nothing
+    meanwhile, and doesn't campaign for it."""
+    slow = Slow(world, 1, 300.0)
+    world.processors = Processors(world)
+    world.turn_ms, world.call_ms = BUSY
+    setup_calm(world, slow, 8000.0, FILES_SYNCS * slow.sync)
+    for number in slow.numbers:
+        world.at(0.0, world.kill, number, LATER)
 
 
 @batch(1, is_long=True, **{**PATIENT, "hands": 100_000, "stays": True, "think": 20.0})

@@ -1,14 +1,15 @@
 """A node in a process of its own, in simulated time, and its connections to the others.
 
-The node is one of tests/nodes. Times are in milliseconds here, and in whole microseconds for the program that says when
+The node is one of second_nodes.py. Times are in milliseconds here, and in whole microseconds for the program that says when
 the node ticks.
 
 A process does one thing at a time: it reads all that came, calls its node for at most 20 ms, with beats between, asks
 what is due, and waits. A connection is as TCP's: in order, nothing lost while it stands, what a cut holds up comes once it
 heals, and what is under way when it ends is lost.
 """
+import second_nodes as nodes
 from processes_aside import Aside
-from processes_nodes import TOP, nodes
+from processes_kept import Files, promised_in
 from processes_seats import Seating
 
 # What a process does and waits for, in milliseconds.
@@ -25,6 +26,8 @@ ASK_FOR_IT = 1000.0
 PART = 30_000.0
 # How many frames wait for a connection.
 WAITING_FRAMES = 16
+# A process slept where it lost more than so long, as the crate has it.
+LEAP = 100.0
 
 
 def micros(moment):
@@ -212,6 +215,7 @@ class Process:
         self.node = Node(world.match, number)
         self.node.accepted = Stored()
         self.up, self.life, self.ended, self.logs = False, 0, False, []
+        self.files = Files()
 
     # A life.
 
@@ -220,8 +224,16 @@ class Process:
             return
         now = self.world.now
         self.up, self.life = True, self.life + 1
+        self.log = []
+        self.logs.append(self.log)
+        # It has its ports before it reads its store, behind a sync.
+        self.world.after(self.world.sync(self.number), self.open_store, self.life)
+        self.begin(now)
+
+    def begin(self, now):
+        """The process knows nothing but its store, and serves nobody yet."""
         self.peers = {j: Peer(j, now, self.world.limits) for j in range(self.world.count) if j != self.number}
-        self.inbox, self.backlog, self.busy, self.paused = [], [], False, False
+        self.inbox, self.backlog, self.busy, self.paused = [], [], True, False
         self.wake, self.moved, self.promised_since, self.began = None, now, now, now
         self.work_since = self.behind_since = None
         self.ticked, self.in_vain, self.calls = None, 0, Longest()
@@ -231,12 +243,24 @@ class Process:
         self.next_beat, self.turn_began, self.aside = now, now, Aside(self)
         # Until when its last turn was to wait, and by how much turns came later than that, as the program keeps it.
         self.left, self.late, self.in_calls = now, [0, 0, 0], 0.0
+        # It writes files between two turns, and has read nothing until then.
+        self.is_between, self.kept_until = False, now
+        self.files.begin()
         # Since when its turn takes what came, and how many things it took.
         self.taking, self.taken = now, 0
         self.has_kept_time = self.has_taken_aside = False
-        self.log = []
-        self.logs.append(self.log)
         self.until = now
+
+    def open_store(self, life):
+        """It has read its store, and starts."""
+        if not self.up or life != self.life:
+            return
+        if self.paused:
+            self.world.after(1.0, self.open_store, life)
+            return
+        came = self.inbox
+        self.begin(self.world.now)
+        self.inbox = came
         self.tend()
         self.call(self.node.start)
 
@@ -269,9 +293,20 @@ class Process:
     def go_on(self, life, length):
         if self.up and life == self.life:
             self.paused = False
-            self.discount(length)
-            self.seating.pass_by(length)
+            if self.busy and not self.is_between:
+                self.discount(length)
+                self.lose(length)
+                self.in_calls += length
             self.turn(life)
+
+    def lose(self, length):
+        """So much went by beyond what the process asked to wait and its calls took. Where it is a sleep, a node that is behind doesn't
+        wait meanwhile."""
+        self.note_late(length)
+        if length > LEAP:
+            self.seating.pass_by(length)
+            if self.behind_since is not None:
+                self.behind_since = min(self.world.now, max(self.behind_since, self.moved) + length)
 
     def discount(self, length):
         """What went by isn't counted as silence."""
@@ -301,7 +336,7 @@ class Process:
         if late > 0:
             # That is no silence of others.
             self.discount(late)
-        self.note_late(late)
+        self.lose(late)
         self.world.began(self.number)
         self.turn_began, self.has_kept_time, self.has_taken_aside = self.world.now, False, False
         self.in_calls = 0.0
@@ -325,7 +360,7 @@ class Process:
     def note_late(self, late):
         """A turn comes so much later than it was to, or takes so much beyond its calls: where that is so again and again it counts as
         calls do."""
-        late = micros(late) if self.world.processors is not None else 0
+        late = micros(late)
         if late or any(self.late):
             *self.late, counted = map(int, self.world.clock.answer(["late", *self.late, late, micros(self.world.now)])[1:])
             if counted:
@@ -382,14 +417,38 @@ class Process:
 
     def rest(self):
         """Waits for what comes, or until a moment."""
-        self.note_late(self.world.now - self.turn_began - self.in_calls)
+        self.lose(max(0.0, self.world.now - self.turn_began - self.in_calls))
         if self.backlog or self.inbox or self.has_taken_aside:
-            self.wake = self.left = self.world.now
-            self.world.at(self.world.now, self.turn, self.life)
+            most = 0.0
         else:
             self.seating.read_all()
-            self.wake = self.left = max(min(self.until, self.next_beat, self.next_forward(), self.aside.until()), self.world.now + 0.05)
+            most = max(min(self.until, self.next_beat, self.next_forward(), self.aside.until()) - self.world.now, 0.05)
+        self.left = self.world.now + most
+        syncs = self.files.keep(self.world.now)
+        if syncs:
+            self.busy = self.is_between = True
+            self.kept_until = self.world.now + syncs * self.world.sync(self.number)
+            self.world.at(self.kept_until, self.go_on_behind_files, self.life, most)
+        else:
+            self.wait(most)
+
+    def wait(self, most):
+        """Waits for so long, or not at all where something came."""
+        if most == 0.0 or self.inbox:
+            self.wake = self.world.now
+            self.world.at(self.world.now, self.turn, self.life)
+        else:
+            self.wake = self.world.now + most
             self.world.at(self.wake, self.awake, self.life, self.wake)
+
+    def go_on_behind_files(self, life, most):
+        if not self.up or life != self.life:
+            return
+        if self.paused:
+            self.world.after(1.0, self.go_on_behind_files, life, most)
+            return
+        self.busy = self.is_between = False
+        self.wait(most)
 
     def awake(self, life, when):
         if self.up and life == self.life and self.wake == when:
@@ -533,7 +592,7 @@ class Process:
         wire = Wire(self.world, self.number, j)
         self.world.wires.append(wire)
         peer.dialled = wire
-        wire.send(self.number, ("hello", self.life))
+        wire.send(self.number, ("hello", self.life, self.node.promised))
         self.world.after(self.world.limits.greet, self.give_up, j, life, wire)
         other = self.world.processes[j]
         self.world.after(self.world.limits.stranger, other.let_go, self.number, other.life, wire)
@@ -549,13 +608,13 @@ class Process:
         if self.up and life == self.life and self.number not in wire.closed and self.peers[j].wire is not wire and not self.busy and not self.paused:
             wire.close(self.number)
 
-    def on_hello(self, peer, wire, life):
+    def on_hello(self, peer, wire, life, promised):
         if self.number in wire.closed:
             return
         if peer.number < self.number:
             if peer.dialled is wire:
                 peer.dialled = None
-                self.open(peer, wire)
+                self.open(peer, wire, promised)
             return
         if peer.wire is not None and self.world.now - peer.heard < self.silence:
             wire.send(self.number, ("refused",))
@@ -563,16 +622,17 @@ class Process:
             return
         if peer.wire is not None:
             self.close(peer)
-        wire.send(self.number, ("hello", self.life))
-        self.open(peer, wire)
+        wire.send(self.number, ("hello", self.life, self.node.promised))
+        self.open(peer, wire, promised)
 
     def on_refused(self, peer, wire):
         if peer.dialled is wire:
             wire.close(self.number)
             self.world.after(REDIAL, self.redial, peer.number, self.life, wire)
 
-    def open(self, peer, wire):
+    def open(self, peer, wire, promised):
         now = self.world.now
+        self.files.meet(peer.number, promised)
         peer.clear()
         peer.wire, peer.opened, peer.heard, peer.heard_ever = wire, now, now, now
         # What waits goes over this connection; what was asked last and doesn't wait is lost.
@@ -628,6 +688,7 @@ class Process:
         if peer.owed is not None and message[0] in (nodes.PROMISE, nodes.ACCEPTED, nodes.REFUSE):
             if message[1:3] == peer.owed[1:3]:
                 peer.owed = peer.unanswered = None
+        self.files.hear(peer.number, promised_in(message))
         self.aside.read(peer.number, message)
         self.backlog.append((peer.number, message, self.frame_body(peer.number, message)))
 
