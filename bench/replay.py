@@ -2,7 +2,7 @@
 """Times tools/replay and its page, and prints figures: bench/replay.py [HANDS].
 
 Build the program first (tools/build). For 2, 6 and 10 players a seeded match of HANDS hands (3000 by default) is dealt by
-the second dealer (tests/dealer). Printed are how long the tool takes to make the page (the least of three runs), the page's
+the second dealer (tests/second_dealer.py). Printed are how long the tool takes to make the page (the least of three runs), the page's
 size, and how long a Chromium takes from the page's address to the first hand on the table, where one is here.
 """
 import subprocess
@@ -15,8 +15,8 @@ TOP = Path(__file__).resolve().parent.parent
 sys.dont_write_bytecode = True
 sys.path.insert(0, str(TOP / "tests"))
 
+import second_dealer as dealer
 from replay_browser import Browser, program
-from serving import loaded
 
 RUNS = 3
 # Milliseconds from the beginning of the page's load until its script has run.
@@ -25,7 +25,6 @@ SHOWN = "performance.getEntriesByType('navigation')[0].domContentLoadedEventEnd"
 
 def match(folder, players, hands):
     """Writes a game and its log into a folder; their paths."""
-    dealer = loaded("tests/dealer")
     game, script = dealer.seeded_match(players, hands, 1)
     lines = dealer.play(game.encode(), script.encode(), hands, "bench.game").decode().splitlines()
     paths = folder / f"{players}.game", folder / f"{players}.log"

@@ -6,9 +6,9 @@ import sys
 
 sys.dont_write_bytecode = True
 
-from serving import TOP, Game, loaded
+from serving import Game
 
-choice = loaded("examples/bots/raiser").choice
+from raising import choice
 
 
 def main(path, seed, host, port):

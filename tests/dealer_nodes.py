@@ -103,10 +103,7 @@ def node_processes(run):
     """The processes of a run's nodes, by number."""
     found = {}
     for process, _ in children(run.process.pid):
-        try:
-            words = Path(f"/proc/{process}/cmdline").read_bytes().split(b"\0")
-        except OSError:
-            continue
+        words = words_of(process)
         if words[1:2] == [b"node"]:
             found[int(words[3])] = int(process)
     return found
@@ -116,10 +113,18 @@ def relays_of(run):
     """The processes of a run's relays, by seat."""
     found = {}
     for process, _ in children(run.process.pid):
-        words = Path(f"/proc/{process}/cmdline").read_bytes().split(b"\0")
+        words = words_of(process)
         if words[1:2] == [b"relay"]:
             found[words[words.index(b"--token-file") + 1]] = int(process)
     return [found[name] for name in sorted(found)]
+
+
+def words_of(process):
+    """A process's command line, by words; none where it has ended."""
+    try:
+        return Path(f"/proc/{process}/cmdline").read_bytes().split(b"\0")
+    except OSError:
+        return []
 
 
 def kill(process):
@@ -236,12 +241,14 @@ def a_node_that_fails_slowly_stays_out():
 
 @test
 def nobody_else_sees_the_stores():
-    """The folder and the files in it are for their owner alone; nothing is left of a match that is over."""
-    run = Run("-T", *NODES, *here(), hands=3)
-    run.play(calls(run.game), slow(run.game, 0.05))
+    """The folder and the files in it are for their owner alone; nothing is left of a match that is over. It isn't over before that is
+    looked at."""
+    run, is_seen = Run("-T", *NODES, *here(), hands=3), threading.Event()
+    run.play(calls(run.game), at_turn(run.game, 0, lambda line: is_seen.wait(WAIT) and "c"))
     waited(lambda: node_processes(run), "nodes")
     folder = memory_of(run)
     modes = {path.name: path.stat().st_mode & 0o777 for path in [MEMORY, folder, *folder.iterdir()]}
+    is_seen.set()
     for name in (MEMORY.name, folder.name, "stores", "logs"):
         want(modes.pop(name) == 0o700, f"{name} is open to others")
     want({"key", "token0", "token1", "m.toml", "game", "made"} <= set(modes), f"there are {set(modes)}")

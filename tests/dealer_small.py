@@ -134,7 +134,7 @@ def second_answers_are_passed_over():
 @rows("a match that is asked to end", [(f"by {name}", getattr(signal, name), option) for name in ("SIGTERM", "SIGHUP", "SIGINT") for option in ("-T", "-t")])
 def a_match_that_is_asked_to_end(number, option):
     """With a transaction file its stores stay, and -a -T goes on with them; without one nothing is left."""
-    run = Run(option, *NODES, *here(), hands=20)
+    run = Run(option, *NODES, *here(), hands=1000)
     run.play(calls(run.game), slow(run.game, 0.02))
     waited(lambda: len(run.log().splitlines()) > 1, "a hand")
     run.process.send_signal(number)

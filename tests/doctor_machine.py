@@ -72,7 +72,8 @@ def running(at, number):
     """The process of a node, once it has its ports; with its notes where `run` puts them."""
     with (at / "notes").open("a") as notes, subprocess.Popen([PROGRAM, "node", "--times", "match.toml", str(number)], cwd=at, stdout=subprocess.DEVNULL, stderr=notes) as node:
         try:
-            runs = lambda: any("this node runs" in text for _, text in rows(ask(at, None, ("match.toml", str(number))))["address"])
+            # (of its ports it has one after another)
+            runs = lambda: all("this node runs" in text for _, text in rows(ask(at, None, ("match.toml", str(number))))["address"])
             waited(runs, f"the ports of node {number}")
             yield node
         finally:

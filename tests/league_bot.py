@@ -15,6 +15,7 @@
             there, it makes a file in it at its first turn of every fourth hand, whose name is the number of its process, and
             waits until that is taken away
 """
+import contextlib
 import os
 import signal
 import socket
@@ -51,7 +52,8 @@ def varied(number):
 def wait_for_test(folder):
     """Tells a test that this bot waits, until it is told that it may go on."""
     file, until = Path(folder, str(os.getpid())), time.monotonic() + MOST
-    if file.parent.exists():
+    # (where the folder isn't there, or goes in this moment, no test waits)
+    with contextlib.suppress(FileNotFoundError):
         file.touch()
     while file.exists() and time.monotonic() < until:
         time.sleep(0.002)

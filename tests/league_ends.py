@@ -6,13 +6,17 @@ import subprocess
 import sys
 import time
 from types import SimpleNamespace
+from unittest import mock
 
 sys.dont_write_bytecode = True
 
 from dealer_runs import are_ended
 from league_runs import OPTIONS, WAIT, Bots, League, awaited, command, descendants, kill, test
 from measuring import communicate
-from serving import TOP, loaded, want
+from serving import TOP, want
+
+sys.path.insert(0, str(TOP / "tools"))
+from league_parts import bots
 
 SEED = 67
 # tools/league as it is where an interrupt comes in the midst of a look at a process, once the file `interrupt` is beside the league's.
@@ -213,16 +217,15 @@ def an_interrupt_at_the_start_of_a_bot_ends_it_too():
 
 
 def with_signals(signalled, call):
-    """Calls something in a copy of league_parts/bots.py whose signals to groups are kept too, each with its group."""
-    module = loaded("tools/league_parts/bots.py")
+    """Calls something while what league_parts/bots.py sends to groups is kept too, each signal with its group."""
 
     def killpg(group, number):
         if number:
             signalled.append((group, number))
         os.killpg(group, number)
 
-    module.os = SimpleNamespace(**{**vars(os), "killpg": killpg})
-    return call(module)
+    with mock.patch.object(bots, "os", SimpleNamespace(**{**vars(os), "killpg": killpg})):
+        return call()
 
 
 @test
@@ -231,18 +234,18 @@ def a_number_that_may_be_anothers_gets_no_signal():
     and another one is killed two seconds later."""
     signalled = []
 
-    def ended_before(module):
+    def ended_before():
         keeper = SimpleNamespace(begun=lambda group: None, ended=lambda group: None)
-        bot = module.Bot(SimpleNamespace(words=lambda *_: ["true"], folder="/"), "127.0.0.1", 1, os.devnull, keeper)
+        bot = bots.Bot(SimpleNamespace(words=lambda *_: ["true"], folder="/"), "127.0.0.1", 1, os.devnull, keeper)
         awaited(lambda: not bot.is_running(), "the end of true")
-        module.end_all([bot])
+        bots.end_all([bot])
 
     with_signals(signalled, ended_before)
     want(signalled == [], f"signals {signalled}")
     words = (["sleep", str(WAIT)], ["sh", "-c", f"trap '' TERM; echo; sleep {WAIT}"])
     quick, slow = (subprocess.Popen(it, stdout=subprocess.PIPE, preexec_fn=lambda: os.setpgid(0, 0)) for it in words)
     slow.stdout.readline()
-    with_signals(signalled, lambda module: module.end([quick.pid, slow.pid], quick.poll))
+    with_signals(signalled, lambda: bots.end([quick.pid, slow.pid], quick.poll))
     slow.wait(WAIT)
     want(signalled == [(quick.pid, signal.SIGTERM), (slow.pid, signal.SIGTERM), (slow.pid, signal.SIGKILL)], f"signals {signalled}")
 

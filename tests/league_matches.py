@@ -12,7 +12,8 @@ from unittest import mock
 sys.dont_write_bytecode = True
 
 from dealer_runs import NOLIMIT_3P
-from league_runs import Bots, League, command, test
+from league_runs import Bots, League, awaited, command, test
+from measuring import in_time
 from serving import TOP, want
 
 sys.path.insert(0, str(TOP / "tools"))
@@ -72,7 +73,7 @@ def a_bot_that_cannot_be_started_costs_little_time():
     league.does("run")
     for name in league.logs():
         result = league.result(name)
-        want(result["ended"] - result["began"] < 30, f"{name} took {result['ended'] - result['began']} s")
+        in_time(result["ended"] - result["began"] < 30, f"{name} took {result['ended'] - result['began']} s")
         for it, restarts, defaults in zip(result["seats"], result["restarts"], result["defaults"]):
             want((restarts, defaults > 0) == ((0, False) if it == "calls" else (1, True)), f"{name}: {it} has {restarts}, {defaults}")
 
@@ -106,8 +107,9 @@ def one_who_never_comes_costs_the_other_nothing():
     result = league.result("quick.stubborn.1.1")
     want(result["seats"] == ["stubborn", "quick"] and result["restarts"] == [1, 0], f"it is {result}")
     want(result["defaults"][0] > 0 == result["defaults"][1], f"it is {result}")
-    left = [number for number in os.listdir("/proc") if number.isdigit() and str(league.folder) in folder_of(number)]
-    want(not left, f"processes {left} are left")
+    # (one that was killed may need a processor to end)
+    left = lambda: [number for number in os.listdir("/proc") if number.isdigit() and str(league.folder) in folder_of(number)]
+    awaited(lambda: not left(), "the end of its processes")
 
 
 def folder_of(process):

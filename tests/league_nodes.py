@@ -273,7 +273,8 @@ def three_hosts_of_which_one_is_lost():
         run = league.start("run", "--jobs", "2", path=league.folder)
         awaited(lambda: run.poll() is not None or any(folder.iterdir()), "c, who waits in the midst of a match")
         want(hosts.lose(2), "nothing ran at the host")
-        shutil.rmtree(folder)
+        # (at once, since other bots may come to wait there meanwhile)
+        folder.rename(folder.with_name("waited"))
         said = communicate(run, 5 * WAIT)[1]
         want(run.returncode == 0, f"status {run.returncode}: {said}")
         are_alike(plain, league, 6 * meetings)

@@ -1,8 +1,10 @@
 """Rows of tests/new_match on other machines: what `run` types there, for each of its words."""
 import re
 import shutil
+import subprocess
 import time
 
+import measuring
 from measuring import in_time, want
 from new_match_made import Machines, at_last, mode, new, run, started, test
 from serving import waited
@@ -106,8 +108,10 @@ def notes_logs_and_doctors_of_all_machines(room):
         notes = run([room / "m/run", "notes"]).stdout
         want(all(f"run: notes machine {i} (127.0.0.1)\n" in notes and f", node {i}: started" in notes for i in range(3)), notes)
         want(run([room / "m/run", "notes", "2"]).stdout.count("run: ") == 1, "more than one machine")
-        doctor = run([room / "m/run", "doctor", "0"]).stdout
-        want(re.search(r"^ok    process   \d+ runs as this node$", doctor, re.M), doctor)
+        # (on a busy machine another node may take longer than the tool waits)
+        all_well = lambda: measuring.run([room / "m/run", "doctor", "0"], stdout=subprocess.PIPE, stderr=subprocess.STDOUT, text=True)
+        doctor = waited(lambda: (lambda done: done if done.returncode == 0 else None)(all_well()), "a doctor that finds nothing", lambda: all_well().stdout)
+        want(re.search(r"^ok    process   \d+ runs as this node$", doctor.stdout, re.M), doctor.stdout)
         (machines[1] / "key").chmod(0o640)
         found = run([room / "m/run", "doctor"], 1)
         want(found.stdout.count("look  key ") == 1 and "failed" not in found.stderr, found.stdout + found.stderr)

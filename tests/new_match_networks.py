@@ -13,7 +13,10 @@ import measuring
 from measuring import NotMeasured, in_time, want
 from new_match_made import Machines, new, run, test
 from processes_ways import Hosts, NoHosts, ip
-from serving import TOP, free_ports, loaded
+from serving import TOP, free_ports
+
+sys.path.insert(0, str(TOP / "tools"))
+import status_table
 
 STATUS = TOP / "tools/status"
 LINE = "node 0 front 3 hand 0 over no replaying no promised 1.0 leads yes quorum yes peers 1:3,2:3 seats alice:seated,bob:seated pending no backlog 0,0 commands 0/s\n"
@@ -158,11 +161,13 @@ def a_status_is_asked_for_again(room):
     thread.start()
     found = asked(port)
     thread.join()
-    want(found[0] == 0 and found[1].split()[:2] == ["0", "3"], f"{found}")
+    # (on a busy machine it may answer only when three seconds are over)
+    in_time(found[0] == 0, f"{found}")
+    want(found[1].split()[1:] == ["not", "reached"] if found[0] else found[1].split()[:2] == ["0", "3"], f"{found}")
     with socket.create_server(("127.0.0.1", port)):
         begun = time.monotonic()
         want(asked(port) == (1, "0     not reached"), "a process that hangs is reached")
-        want(time.monotonic() - begun >= loaded("tools/status").IN_ALL - 1, "it isn't asked again")
+        want(time.monotonic() - begun >= status_table.IN_ALL - 1, "it isn't asked again")
 
 
 @test

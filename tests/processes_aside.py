@@ -3,7 +3,7 @@
 Of each peer only the newest that was read counts, by ballot and then slot. Where it can't be of use yet it is set aside, one of each
 peer at most, and is taken last in a turn. Times are in milliseconds.
 """
-from processes_nodes import nodes
+import second_nodes as nodes
 
 # An Accept that is set aside waits for its slot for so long behind the last command at most.
 HOLD = 200.0

@@ -171,7 +171,7 @@ def started_with_a_slow_disk(seed, is_long):
     match = SlowLeague(slow=(slow,), sync=ONE_SYNC, hands=10_000).begin()
     waited(lambda: quick_leaders(match), "a quick node that leads", match.last_notes)
     campaigns = lambda: sum("campaigns" in note for note in match.notes(slow))
-    waited(lambda: told(match, f"peer {slow}: connected") == match.count - 1, "the slow node to meet both others", match.last_notes)
+    match.await_meeting()
     time.sleep(MET)
     before = campaigns()
     time.sleep(BEHIND_START)

@@ -5,16 +5,19 @@ import re
 import shutil
 import socket
 import subprocess
+import sys
 import threading
 import time
 
 from measuring import Watch, in_time, pause, want
-from serving import NAMES, TOP, loaded, patience, reached, waited
+from serving import NAMES, TOP, patience, reached, waited
 
 from processes_match import PACE, Bot, Match, at_random, test
 from table import Game, turn_of
 
-status = loaded("tools/status")
+sys.path.insert(0, str(TOP / "tools"))
+import status_table as status
+
 # A fault of a connection to another node in a note.
 FAULT = re.compile(r": 12[0-8] [A-Z]")
 
@@ -160,7 +163,7 @@ def wrong_tokens(seed, is_long):
     waited(lambda: told_times(match.notes(0), "seat 0 (alice) at node 0: wrong token") == 7, "a count of all who were refused", match.last_notes)
     for end in (b"\n", b"\r\n"):
         got, _ = came(match.seats[0], b"#TOKEN " + right + end + version, patience(), most=len(b"MATCHSTATE:"))
-        want(got.startswith(b"MATCHSTATE:"), f"with the right token and {end!r} comes {got[:80]!r}: {match.last_notes()}")
+        match.calmly(got.startswith(b"MATCHSTATE:"), f"with the right token and {end!r} comes {got[:80]!r}: {match.last_notes()}")
     match.may_act.set()
     match.goes_on(20)
     match.ends()
@@ -253,7 +256,9 @@ def told_statuses(seed, is_long):
         want((told["node"], told["over"]) == (str(node), "no") and len(told["seats"].split(",")) == 2, f"node {node} tells {told}")
     # (on a busy machine a node may take longer than the tool waits)
     ran = waited(lambda: (lambda ran: ran if ran.returncode == 0 else None)(tool()), "all rows of tools/status", match.last_notes)
-    want(len(ran.stdout.splitlines()) == 4, f"tools/status says {ran.stdout!r} {ran.stderr!r}")
+    # (on a busy machine a node may be far behind, which stands behind the table)
+    table = [line for line in ran.stdout.splitlines() if not line.endswith(" commands behind")]
+    want(len(table) == 4, f"tools/status says {ran.stdout!r} {ran.stderr!r}")
     match.kill(2)
     match.await_told(0, "peers", "2:gone")
     fronts = []

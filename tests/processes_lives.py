@@ -51,7 +51,7 @@ def told_by_another(seed, is_long):
     Node 2 reaches node 3, which did, before it meets the new one or behind that: so it refuses node 0, and the match goes on
     with what was played."""
     match = Match(count=5, proxied=True, pace=PACE)
-    match.begin(0, 3, 4)
+    match.begin(0, 3, 4, have_met=True)
     match.goes_on(20)
     match.kill(0, 3, 4)
     for folder in ("stores", "logs"):

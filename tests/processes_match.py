@@ -13,14 +13,13 @@ sys.dont_write_bytecode = True
 sys.path.insert(0, str(Path(__file__).resolve().parent))
 
 from measuring import in_time, pause, want
-from serving import FAST, NAMES, TOP, free_ports, loaded, patience, reached, size_of, waited
+from serving import FAST, NAMES, TOP, free_ports, patience, reached, size_of, waited
 
+import raising
+from log_lines import lines_of
 from player import batches, dial, send
 from processes_ways import Hosts, Ways
 from table import Game, turn_of
-
-raiser = loaded("examples/bots/raiser")
-serve = loaded("tests/serve")
 
 # How long a bot thinks where a test needs time to do something to its match, in seconds.
 PACE = 0.02
@@ -117,7 +116,7 @@ class Match:
         # Bots think for so long, and act while they may; in the last hand only when all else was done.
         self.pace, self.may_act, self.may_end = pace, threading.Event(), threading.Event()
         # The commands that lines told, when each was told first, the last hand among them, and at how many the bots stop.
-        self.seen, self.times, self.hand, self.stop_at = set(), [], 0, None
+        self.seen, self.times, self.hand, self.stop_at, self.looking = set(), [], 0, None, threading.Lock()
         self.may_act.set()
         self.take_ports()
         self.ways = Ways(self.ports) if proxied else self.hosts.ways_to(self.ports) if self.hosts else None
@@ -189,10 +188,12 @@ class Match:
         ran = self.run(node, "init", "m.toml", str(node))
         want(ran.returncode == 0, f"init of node {node} ended with {ran.returncode}: {ran.stderr}")
 
-    def begin(self, *nodes, choice=None):
-        """Makes all stores, starts these nodes, or all, and lets the bots come. They call, or choose by a function of seat
-        and line."""
+    def begin(self, *nodes, choice=None, have_met=False):
+        """Makes all stores, starts these nodes, or all, and lets the bots come, where that is asked for once all these have met. The bots
+        call, or choose by a function of seat and line."""
         self.set_up(*nodes)
+        if have_met:
+            self.await_meeting(*nodes)
         self.choice = choice or self.choice
         self.let_bots_come()
         return self
@@ -261,12 +262,14 @@ class Match:
     def see(self, line):
         """Takes note of the command that a line tells, whoever gets it first."""
         _, _, hand, betting, _ = line.split(":")
-        if (hand, betting) not in self.seen:
-            self.seen.add((hand, betting))
-            self.times.append(time.monotonic())
-            self.hand = max(self.hand, int(hand))
-            if len(self.seen) == self.stop_at:
-                self.may_act.clear()
+        # (one bot at a time: between a command and the look at their number another bot's could come)
+        with self.looking:
+            if (hand, betting) not in self.seen:
+                self.seen.add((hand, betting))
+                self.times.append(time.monotonic())
+                self.hand = max(self.hand, int(hand))
+                if len(self.seen) == self.stop_at:
+                    self.may_act.clear()
 
     def calmly(self, is_so, text):
         """What has to be so where nothing is lost. A node without a quorum, which a busy machine takes from it, disconnects its
@@ -293,13 +296,21 @@ class Match:
         return self.hand == self.hands - 1 and not self.may_end.is_set()
 
     def stands(self, seconds):
-        """No command comes for so long, once each bot has read what it had been told before."""
+        """No command comes for so long, once each bot has read what it had been told before: it has left each node once, also the one at
+        which it sits down now, and which may know a command that it hasn't seen."""
         sittings = [len(bot.sittings) for bot in self.bots]
-        has_read = lambda: all(len(bot.sittings) > before for bot, before in zip(self.bots, sittings))
-        waited(has_read, "each bot to dial anew", self.last_notes)
+        has_read = lambda: all(len(bot.sittings) > before + self.count for bot, before in zip(self.bots, sittings))
+        waited(has_read, "each bot to leave each node", self.last_notes)
         count = len(self.seen)
         pause(seconds)
         want(len(self.seen) == count, f"{len(self.seen) - count} commands came where none can be chosen")
+
+    def await_meeting(self, *nodes):
+        """Waits until each of these nodes, or of all, has kept whose stores the others have. A majority plays before that."""
+        nodes = nodes or range(self.count)
+        pairs = [(node, peer) for node in nodes for peer in nodes if peer != node]
+        are_kept = lambda: all((self.home(node) / f"stores/node{node}.peer{peer}.kept").exists() for node, peer in pairs)
+        waited(are_kept, f"nodes {list(nodes)} to meet", self.last_notes)
 
     def await_start(self, node, before=0):
         """Waits until a process of a node has its store and goes on, where its notes so far told of so many starts."""
@@ -357,7 +368,7 @@ class Match:
         """What a bot got are lines of the log's match, in order at each sitting."""
         bot.join(patience())
         want(not bot.is_alive(), f"the bot of seat {bot.seat} is still there")
-        places = {line: place for place, line in enumerate(serve.lines_of(self, log, bot.seat))}
+        places = {line: place for place, line in enumerate(lines_of(self, log, bot.seat))}
         for lines in bot.sittings:
             others = [line for line in lines if line not in places]
             want(not others, f"{NAMES[bot.seat]} got {others[:3]}, which no seat gets in the match of the log")
@@ -375,7 +386,7 @@ def is_beginning_of(log, file):
 def at_random(match, seed):
     """What bots choose who act at random: it depends on the seat, the seed and the line."""
     game = Game(match.game)
-    return lambda seat, line: raiser.choice(game, seed * 10 + seat, line)
+    return lambda seat, line: raising.choice(game, seed * 10 + seat, line)
 
 
 def meanwhile(match, seconds):

@@ -4,8 +4,9 @@ import socket
 import threading
 import time
 
+from log_lines import lines_of
 from measuring import pause, want
-from processes_match import Match, serve, test
+from processes_match import Match, test
 from serving import NAMES, QUIET, REACHED, patience, reached, waited
 
 VERSION = b"VERSION:2.0.0\r\n"
@@ -77,7 +78,7 @@ def lines_from_the_last(seed, is_long):
     match.ends()
     for bot in bots:
         want(not bot.faults, f"{NAMES[bot.seat]}: {bot.faults[:3]}")
-        want(bot.lines == serve.lines_of(match, match.log(0), bot.seat), f"{NAMES[bot.seat]} got {len(bot.lines)} lines, which aren't those of the match")
+        want(bot.lines == lines_of(match, match.log(0), bot.seat), f"{NAMES[bot.seat]} got {len(bot.lines)} lines, which aren't those of the match")
     return f"{kills} kills, {[bot.sittings for bot in bots]} sittings"
 
 

@@ -6,9 +6,12 @@ milliseconds.
 import heapq
 import random
 import subprocess
+from pathlib import Path
 
-from processes_process import TOP, Process, nodes
+import second_nodes as nodes
+from processes_process import Process
 
+TOP = Path(__file__).resolve().parent.parent
 # How long a line's way to a bot is, in milliseconds.
 LOCAL = 0.05
 # Where a run doesn't say otherwise: how long bots await a line; how long nothing goes on in a run that fails; and how long a

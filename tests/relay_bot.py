@@ -7,9 +7,9 @@ import time
 
 sys.dont_write_bytecode = True
 
-from serving import Game, loaded
+from serving import Game
 
-choice = loaded("examples/bots/raiser").choice
+from raising import choice
 
 
 def main(path, seed, host, port, record, pause="0"):

@@ -6,9 +6,10 @@ import subprocess
 import threading
 import time
 
+from log_lines import lines_of
 from measuring import NotMeasured, in_time, pause, want
 from processes_keys import League
-from processes_match import Match, serve
+from processes_match import Match
 from processes_ways import NoHosts
 from relay_match import GAME, Dialler, Relay, RelayMatch, StockBot, in_words, test
 from serving import TOP, free_ports, patience, waited
@@ -416,7 +417,7 @@ def tokens(folder, seed, is_long):
     for seat, relay in enumerate(relays):
         relay.ends(0)
         stock[seat].ends()
-        lines = b"".join(line.encode() + b"\r\n" for line in serve.lines_of(match, match.log(0), seat))
+        lines = b"".join(line.encode() + b"\r\n" for line in lines_of(match, match.log(0), seat))
         want(stock[seat].record() == lines, f"bot {seat} got {stock[seat].record().count(10)} lines")
     want(not [fault for fault in match.faults() if "seat 1" in fault], f"faults are told: {match.faults()[:4]}")
 

@@ -29,7 +29,8 @@ def turned_away(folder, seed, is_long):
             counts.append(count)
     # (a test that had no processor meanwhile has seen nothing)
     in_time(len(counts) >= LEAST_LOOKS, f"the nodes were looked at {len(counts)} times")
-    want(counts[:1] * len(counts) == counts, f"nodes are dialled meanwhile: {counts}")
+    # (and one that was dialled before may take the connection meanwhile)
+    in_time(counts[:1] * len(counts) == counts, f"nodes are dialled meanwhile: {counts}")
     relay.await_note("turned away: a wrong token? dials again in 10 s")
     bot.close()
     relay.ends(1)
@@ -87,11 +88,10 @@ class QuorumNode(Node):
     """A listener in place of a node that may have no quorum: then it says #WAIT to who asked for lines, and closes."""
 
     def __init__(self, said=b""):
-        self.has_quorum, self.times = False, []
+        self.has_quorum = False
         super().__init__(said)
 
     def speak(self, connection, place):
-        self.times.append(time.monotonic())
         if self.has_quorum:
             super().speak(connection, place)
             return
@@ -120,15 +120,15 @@ def nodes_without_a_quorum(folder, seed, is_long):
     line comes. So it is of a bot that sat, however soon the quorum is lost again; its answer isn't lost with it."""
     nodes = [QuorumNode(LINE + END) for _ in range(3)]
     relay = relayed(folder, nodes)
-    bot = Dialler(relay)
+    begun, bot = time.monotonic(), Dialler(relay)
     for number in range(3):
         relay.await_note(f"node {number}: it has no quorum (dialled again each half second)")
     pause(6)
     for node in nodes:
-        times = list(node.times)
-        # (who is seen late seems to come sooner behind it)
-        want((len(times) - 1) * 0.5 <= times[-1] - times[0] + 0.3, f"{len(times)} connections within {times[-1] - times[0]:.1f} s")
-        in_time(len(times) >= 9, f"only {len(times)} connections within {times[-1] - times[0]:.1f} s")
+        # (not from the first that was seen on: who is seen late seems to come sooner behind it)
+        count, passed = len(node.connections), time.monotonic() - begun
+        want((count - 1) * 0.5 <= passed, f"{count} connections within {passed:.1f} s")
+        in_time(count >= 9, f"only {count} connections within {passed:.1f} s")
     bot.gets_nothing()
     lines = [LINE] + [b"MATCHSTATE:0:%d::5d5c|" % hand for hand in range(1, 9)]
     for number, line in enumerate(lines):

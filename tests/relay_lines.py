@@ -210,9 +210,9 @@ def another_match(folder, seed, is_long):
     begun = time.monotonic()
     nodes[1].said, nodes[1].stays = b"#OTHER\r\n", False
     nodes[1].hang_up()
-    want(bot.line() == b"", "the connection ends")
-    took = time.monotonic() - begun
     relay.ends(1, "the nodes have another match: the bot's last line isn't theirs")
+    took = time.monotonic() - begun
+    want(bot.line() == b"", "the connection ends")
     want(OTHER_TIME - 0.5 <= took, f"the connection ended after {took:.1f} s")
     in_time(took < OTHER_TIME + 15, f"the connection ended after {took:.1f} s")
 

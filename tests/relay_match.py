@@ -16,9 +16,10 @@ sys.dont_write_bytecode = True
 sys.path.insert(0, str(Path(__file__).resolve().parent))
 
 import processes_match
+from log_lines import lines_of
 from measuring import in_time, pause, want
-from processes_match import Match, serve
-from serving import FAST, TOP, patience, received_by_now, waited
+from processes_match import Match
+from serving import FAST, TOP, free_ports, patience, received_by_now, waited
 
 GAME = "n2.game"
 VERSION = b"VERSION:2.0.0\r\n"
@@ -192,7 +193,7 @@ class RelayMatch(Match):
 
     def lines(self, seat):
         """The lines that one sequential dealer has for a seat over the whole log, as bytes."""
-        return [line.encode() + b"\r\n" for line in serve.lines_of(self, self.log(0), seat)]
+        return [line.encode() + b"\r\n" for line in lines_of(self, self.log(0), seat)]
 
     def missing(self, seat):
         """How many of these a bot's record lacks. None comes twice, and none is another."""
@@ -264,7 +265,10 @@ class Node(threading.Thread):
 
     def __init__(self, said=b"", stays=True, port=0):
         super().__init__(daemon=True)
-        self.listener = socket.create_server(("127.0.0.1", port))
+        # (one of those that the system gives to connections might be another's before this node is there again)
+        self.listener = socket.create_server(("127.0.0.1", port or free_ports(1)))
+        # (one that nobody dials for long is dialled later)
+        self.listener.settimeout(None)
         self.address = f"127.0.0.1:{self.listener.getsockname()[1]}"
         self.said, self.stays, self.got, self.asked, self.connections = said, stays, [], [], []
         self.made.append(self)

@@ -3,11 +3,12 @@ import base64
 import statistics
 import time
 
+import second_dealer as dealer
 from replay_browser import Browser, Refused, program
 from replay_luck import control as luck
 from replay_match import CHIPS, FIGURES, GAME, LISTS, LOG
 from replay_pages import WRONG_HEADER, run, written
-from serving import TOP, Wrong, loaded, want
+from serving import Wrong, want
 
 ORDERS = {"number": "number", "last": "number, last first", "lost": "lost most first", "won": "won most first", "pot": "largest pot first"}
 KEYS = {"ArrowLeft": 37, "ArrowRight": 39, " ": 32, "Tab": 9, "Enter": 13}
@@ -432,7 +433,6 @@ def overlaps(boxes):
 
 def largest_match(folder):
     """The game and the log of ten players with the longest names and stacks, who are all all-in in the first of thirty hands."""
-    dealer = loaded("tests/dealer")
     game, script = dealer.seeded_match(10, 30, 1)
     stacks = next(line for line in game.splitlines() if line.startswith("stack"))
     game = game.replace(stacks, "stack = " + " ".join(10 * ["2147483647"]))

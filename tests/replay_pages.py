@@ -6,10 +6,14 @@ import json
 import re
 import shutil
 import subprocess
+import sys
 
 import measuring
 from replay_match import GAME, LOG, shown_lines
-from serving import TOP, loaded, want
+from serving import TOP, want
+
+sys.path.insert(0, str(TOP / "tools"))
+import release_files
 
 TOOL = TOP / "tools/replay"
 WRONG_HEADER = "# name/game/hands twelve </script><script>document.title=1</script><!-- 12"
@@ -148,7 +152,7 @@ def written_page(folder):
 def in_a_release(folder):
     """With the files of a release alone the tool makes the same page, from any folder."""
     away = folder / "release"
-    for file in loaded("tools/release").files():
+    for file in release_files.files():
         place = away / file.relative_to(TOP)
         place.parent.mkdir(parents=True, exist_ok=True)
         shutil.copy(file, place)

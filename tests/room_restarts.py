@@ -56,8 +56,8 @@ def who_does_not_come_again_has_defaults(**entries):
     """bob waits `resume` seconds for alice, and no longer; her seat was hers before, so she pays for it."""
     room, alice, bob, before = begun(resume=4, **entries)
     room.close()
-    room.open()
     since = time.monotonic()
+    room.open()
     bob = room.dial("bob")
     bob.hears("match")
     want(time.monotonic() - since > 2, "alice wasn't awaited")

@@ -1,7 +1,5 @@
 """What tests/serve and tests/waits stand on: a match with its files in a folder of its own, its players, and clients
 that aren't any."""
-import importlib.machinery
-import importlib.util
 import os
 import random
 import resource
@@ -41,14 +39,6 @@ NAMES = ["alice", "bob", "carol", "dave", "erin", "frank", "grace", "heidi", "iv
 os.umask(0o077)
 # The players of tests go home soon after a match; those of examples/bots, run by their commands, take their time.
 player.PAUSE, player.GIVE_UP = 0.01, 0.1
-
-
-def loaded(path):
-    """A script of this tree as a module."""
-    loader = importlib.machinery.SourceFileLoader(Path(path).name, str(TOP / path))
-    module = importlib.util.module_from_spec(importlib.util.spec_from_loader(loader.name, loader))
-    loader.exec_module(module)
-    return module
 
 
 def patience():

@@ -1,6 +1,6 @@
 """The connections of nodes that share a key, opened, and the decks of seeds: ChaCha20 over many blocks at once, after docs/FORMATS.md.
 
-tests/peer_codes and tests/nodes have it once more, one block after another; `tests/simulation --wrong` compares them."""
+chacha20.py and second_frames.py have it once more, one block after another; `tests/simulation --wrong` compares them."""
 import hashlib
 import struct
 

@@ -1,9 +1,10 @@
-"""The list of commands of a simulated match, and what the sequential dealer of tests/nodes makes of each beginning of it."""
+"""The list of commands of a simulated match, and what the sequential dealer of second_nodes.py makes of each beginning of it."""
 import bisect
 import re
 
+import second_nodes as nodes
 import simulation_codes
-from simulation_trace import nodes, number
+from simulation_trace import number
 
 DEAL, ACT, AWAY = 1, 2, 3
 # Decks of so many hands are drawn at once.

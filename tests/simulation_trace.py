@@ -1,28 +1,15 @@
 """A trace of simulated processes, read: what tests/simulation checks. It has readers of its own for stores and connections, and
-the dealer of tests/nodes and tests/dealer, which were written from the pages."""
+the dealer of second_nodes.py and second_dealer.py, which were written from the pages."""
 import functools
-import importlib.machinery
-import importlib.util
 import math
 import operator
 import re
 import struct
-import sys
 from pathlib import Path
 
+import second_dealer as dealer
+
 TOP = Path(__file__).resolve().parent.parent
-
-
-def loaded(name):
-    loader = importlib.machinery.SourceFileLoader(name, str(TOP / "tests" / name))
-    module = importlib.util.module_from_spec(importlib.util.spec_from_loader(name, loader))
-    sys.dont_write_bytecode = True
-    loader.exec_module(module)
-    return module
-
-
-nodes = loaded("nodes")
-dealer = nodes.dealer
 
 
 def kept(best):

@@ -1,13 +1,15 @@
 """Wrong traces: edits of the traces of a few short scripts, each with the rule that is to refuse it. `tests/simulation --wrong` tries them all."""
 import itertools
 
+import chacha20
+import second_nodes as nodes
 import simulation_codes
 import simulation_wrong_nodes  # noqa: F401, for its wrong traces
 import simulation_wrong_seats  # noqa: F401, for its wrong traces
 import simulation_wrong_served  # noqa: F401, for its wrong traces
 from simulation_edits import SCRIPTS, WRONG, Edited, NoPlace
 from simulation_rules import RULES, Checker
-from simulation_trace import Wrong, loaded, nodes
+from simulation_trace import Wrong
 
 
 def refusal(edited):
@@ -38,9 +40,9 @@ def results(traces):
 
 
 def second_writings():
-    """The keystream and the decks are those of tests/peer_codes and tests/nodes, which compute them block by block."""
+    """The keystream and the decks are those of chacha20.py and second_frames.py, which compute them block by block."""
     key, seed = bytes(range(32)), 3 << 40
-    stream, keystream = loaded("peer_codes").Stream(key), simulation_codes.Keystream(key)
+    stream, keystream = chacha20.Stream(key), simulation_codes.Keystream(key)
     for count in (1, 5, 64, 1_100, 47, 3):
         if stream.bytes(count) != keystream.take(count):
             yield "the keystream", f"another one behind {count} bytes"

@@ -2,9 +2,11 @@
 import functools
 import re
 
+from random_scripts import game_text
+
 from .damage import DRAWN, changes, cuts, drawn
 from .faults import Fault
-from .models import GAMES, MOST_CHIPS, NAMES, dealer, scripts
+from .models import GAMES, MOST_CHIPS, NAMES, dealer
 from .running import AT_ONCE, PROGRAM, Tally, run
 
 
@@ -200,7 +202,7 @@ def rows(tally):
 def game_files(dice, folder, pool):
     """Game files, and the hands that are played by those that are read."""
     tally = Tally("game files")
-    right = lambda: scripts.game_text(dice, dice.choice([2, 2, 3, 6, 10])).encode()
+    right = lambda: game_text(dice, dice.choice([2, 2, 3, 6, 10])).encode()
     inputs = [*rows(tally)]
     inputs += [one for text in GAMES.values() for one in [*cuts(text), *long_games(text), *other_values(dice, text), *changes(dice, text)]]
     inputs += [drawn(dice, right, game_words()) for _ in range(DRAWN)]

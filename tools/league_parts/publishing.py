@@ -1,7 +1,7 @@
 """Writes a league's page with its pages of hands: in the league's own folder, or in one that may be uploaded."""
 import shutil
 
-import which_program
+import shown_logs
 
 from .faults import Wrong
 from .files import write_whole
@@ -69,18 +69,8 @@ def put_logs(standings, folder, is_revealed):
         put_all(folder, wanted)
         return
     put_all(folder, {})
-    game = replay_tool().Game(standings.league.game_path.read_text(encoding="latin-1"))
+    game = shown_logs.Game(standings.league.game_path.read_text(encoding="latin-1"))
     for name, path in wanted.items():
         with open(path, encoding="ascii") as file:
             lines = [game.without_hidden(line[:-1], None) + "\n" if line.startswith("STATE:") else line for line in file]
         (folder / name).write_text(HIDDEN + "".join(lines))
-
-
-def replay_tool():
-    """tools/replay as a module: it knows which cards the table was shown."""
-    from importlib import machinery, util
-
-    loader = machinery.SourceFileLoader("replay", str(which_program.TOP / "tools/replay"))
-    module = util.module_from_spec(util.spec_from_loader(loader.name, loader))
-    loader.exec_module(module)
-    return module

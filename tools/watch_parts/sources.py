@@ -4,7 +4,7 @@ import re
 import tomllib
 from pathlib import Path
 
-import replay_tool
+import shown_logs
 from hand_formats.played import Game
 
 from .follower import Follower
@@ -20,7 +20,7 @@ def hiding_of(text, is_revealed):
     """What takes the cards out of a hand's line that the table wasn't shown; where all are revealed, it takes none."""
     if is_revealed:
         return lambda line: line
-    game = replay_tool.loaded().Game(text)
+    game = shown_logs.Game(text)
     return lambda line: game.without_hidden(line, None)
 
 

@@ -1,21 +1,23 @@
 """A cluster of the program `workload` beside those that the rules allow; what tests/disks, step_growths and faults share.
 
 The program takes one line at a time, as of a script of `play`, makes one call of a cluster over disks that fail, and
-prints what came of it. `Run` gives it lines, and compares what it prints with the nodes of tests/nodes, which are
+prints what came of it. `Run` gives it lines, and compares what it prints with the nodes of second_nodes.py, which are
 written from docs/NODES.md, FORMATS.md and RULES.md. A call whose disk failed says so and nothing else; its node's
 store has then what it had before or what the call was to store, so `Run` goes on with both, and drops those that say
 otherwise than what is printed.
 """
 import copy
 import functools
-import importlib.machinery
-import importlib.util
 import re
 import subprocess
 import sys
 from pathlib import Path
 
 sys.dont_write_bytecode = True
+
+import printed_runs as runs
+import second_nodes as nodes
+
 TOP = Path(__file__).resolve().parent.parent
 PROGRAM = TOP / "crates/workload/out/workload"
 # A line that says nothing: what is printed for it ends the answer to the line before.
@@ -25,18 +27,6 @@ VERSION = "VERSION:2.0.0"
 FAILED = "E 91 Store 63 Disk"
 FRAME = re.compile(r"frame (\d+) (\d)>(\d) ([0-9a-f]+)")
 PREPARE, PROMISE, REFUSE, ACCEPT, ACCEPTED, CHOSEN, ASK, FORWARD = range(1, 9)
-
-
-def script_module(name):
-    """A script of this folder, to be called from another one."""
-    loader = importlib.machinery.SourceFileLoader(name, str(TOP / "tests" / name))
-    module = importlib.util.module_from_spec(importlib.util.spec_from_loader(name, loader))
-    loader.exec_module(module)
-    return module
-
-
-nodes = script_module("nodes")
-runs = script_module("runs")
 
 
 # Bytes that are no frame, each with its fault: too long by its field (of 4096 at most), of another version, of no kind,
