@@ -23,9 +23,9 @@ pub enum WireFault {
 /// status, and its log. Nodes, places and seats are counted from 0.
 ///
 /// No call waits but `wait`. Nothing is said of what comes, nor when: what is promised of a node holds whatever its wires
-/// answer. What passed is said: which connections began, which were found to have ended or were closed by `close`, the pieces that came and that were written,
-/// which reads and writes did nothing, what the log got, which moments were seen, which waits there were, and when the
-/// node was called. Another call that does nothing adds nothing to it.
+/// answer. What passed is said: which connections began, which were found to have ended or were closed by `close`, the pieces
+/// that came and that were written, which reads and writes did nothing, what the log got, which moments were seen, which waits
+/// there were, and when the node was called. Another call that does nothing adds nothing to it.
 pub trait Wire {
     /// What passed so far, in order.
     ghost passed: { Self → List Passage };
