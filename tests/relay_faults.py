@@ -477,14 +477,13 @@ def links_that_are_cut(folder, seed, is_long):
     cut = time.monotonic()
     match.hosts.cut_off(2)
     free = waited(lambda: time.monotonic() - cut if "bob:seated" not in match.asked(0).get("seats", "bob:seated") else None, "bob's seat to be free", lambda: str(match.asked(0)))
-    # (a node without a processor loses its quorum, and says so to the relay before it is cut off: no line comes over a further connection)
+    # (what a node that is cut off sends may still reach the switch itself, where its port has the address of the bridge: then it says that
+    # it has no quorum, and no line comes over a further connection)
     is_noted = lambda *texts: any(text in note for note in relays[0].notes() for text in texts)
     waited(lambda: is_noted("node 2: connection lost", "node 2: it has no quorum"), "the end of alice's connection to node 2", lambda: str(relays[0].notes()[-5:]))
     took = time.monotonic() - cut
-    if not is_noted("node 2: connection lost"):
-        in_time(False, "node 2 lost its quorum before it was cut off")
-        return f"the seat was free after {free:.1f} s"
-    for what, seconds in (("bob's seat was free", free), ("alice's connection to node 2 ended", took)):
+    ends = [("alice's connection to node 2 ended", took)] if is_noted("node 2: connection lost") else []
+    for what, seconds in [("bob's seat was free", free), *ends]:
         want(seconds > 5, f"{what} after {seconds:.1f} s")
         in_time(seconds < 45, f"{what} after {seconds:.1f} s")
     return f"the seat was free after {free:.1f} s, the relay's connection ended after {took:.1f} s"
