@@ -165,8 +165,8 @@ def quick_leaders(match):
 
 @test(seeds=2, long_seeds=10)
 def started_with_a_slow_disk(seed, is_long):
-    """Each sync of a node takes 0.3 s longer, from its start on, and a quick node leads. It may campaign once, while it keeps the stores that
-    it meets, for 2.4 s of syncs; behind that it doesn't, and a quick node leads."""
+    """Each sync of a node takes 0.3 s longer, from its start on, and a quick node leads before it has its store. So it never campaigns, also not
+    while it keeps the stores that it meets, for 2.4 s of syncs; and a quick node leads."""
     slow = (2, 0, 1)[seed % 3 - 1]
     match = SlowLeague(slow=(slow,), sync=ONE_SYNC, hands=10_000).begin()
     waited(lambda: quick_leaders(match), "a quick node that leads", match.last_notes)
@@ -177,9 +177,9 @@ def started_with_a_slow_disk(seed, is_long):
     time.sleep(BEHIND_START)
     match.goes_on(20)
     more = campaigns() - before
-    in_time(before <= 1 and more == 0, f"node {slow} campaigned {before} times and {more} times more: {match.notes(slow)}")
+    in_time(before + more == 0, f"node {slow} campaigned {before} times and {more} times more: {match.notes(slow)}")
     leader, *_ = waited(lambda: quick_leaders(match), "a quick node that leads at the end", match.last_notes)
-    return f"node {leader} led in the end, and node {slow}, which is slow, had campaigned {before} times"
+    return f"node {leader} led in the end, and node {slow}, which is slow, never campaigned"
 
 
 @test()
