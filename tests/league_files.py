@@ -4,12 +4,12 @@ import hashlib
 import hmac
 import io
 import re
-import subprocess
 import sys
 from html.parser import HTMLParser
 
 sys.dont_write_bytecode = True
 
+import measuring
 from dealer_runs import NOLIMIT_3P, NOLIMIT_6P
 from league_runs import TOOL, WAIT, Bots, League, command, test
 from serving import TOP, want
@@ -136,7 +136,7 @@ def wrong_files_are_refused_in_plain_sentences():
 @test
 def an_older_python_is_told_what_is_needed():
     text = f"import sys, runpy; sys.version_info = (3, 10, 9); runpy.run_path({str(TOOL)!r}, run_name='__main__')"
-    ran = subprocess.run([sys.executable, "-c", text], capture_output=True, text=True, timeout=WAIT)
+    ran = measuring.run([sys.executable, "-c", text], capture_output=True, text=True, timeout=WAIT)
     want(ran.returncode == 2 and ran.stderr.startswith("league: needs Python 3.11 or later"), f"{ran.returncode}: {ran.stderr}")
 
 

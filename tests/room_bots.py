@@ -8,13 +8,14 @@ import threading
 
 sys.dont_write_bytecode = True
 
+import measuring
 from room_runs import CALLER, TOOL, TOP, WAIT, Bots, Room, calls, children, test, token
 from serving import waited, want
 
 
 def ended(process, status=0):
     """What a bot behind --join printed and said, once it has ended with a status."""
-    printed, said = process.communicate(timeout=WAIT)
+    printed, said = measuring.communicate(process, WAIT)
     want(process.returncode == status, f"it ended with {process.returncode}: {printed}{said}")
     return printed, said
 
@@ -178,15 +179,15 @@ def what_join_refuses():
     path = room.folder / "wrong.token"
     path.write_text("0123456789abcdef\n")
     words = [tool, "--join", f"127.0.0.1:{room.port}", "alice", "--token-file", path]
-    ran = subprocess.run([*words, "--", *Bots.command(1)], capture_output=True, text=True, timeout=WAIT)
+    ran = measuring.run([*words, "--", *Bots.command(1)], capture_output=True, text=True, timeout=WAIT)
     want(ran.returncode == 1 and "refused: no player of this name and token" in ran.stderr, f"it said {ran.stderr}")
-    ended_words = subprocess.run([*words, "--", "true", "{port}"], capture_output=True, text=True, timeout=WAIT)
+    ended_words = measuring.run([*words, "--", "true", "{port}"], capture_output=True, text=True, timeout=WAIT)
     want(ended_words.returncode == 1 and "the bot ended with status 0 before it dialled" in ended_words.stderr, f"it said {ended_words.stderr}")
     for more in (["--", "true"], ["--matches", "x", "--", "true", "{port}"], ["--matches", "-1", "--", "true", "{port}"]):
-        want(subprocess.run([*words, *more], capture_output=True, timeout=WAIT).returncode == 2, f"{more} is taken")
+        want(measuring.run([*words, *more], capture_output=True, timeout=WAIT).returncode == 2, f"{more} is taken")
     room.close()
     words = [*words, "--give-up", "1", "--", *Bots.command(1)]
-    ran = subprocess.run(words, capture_output=True, text=True, timeout=WAIT)
+    ran = measuring.run(words, capture_output=True, text=True, timeout=WAIT)
     want(ran.returncode == 1 and "no seat was had in the room for 1 s" in ran.stderr, f"it said {ran.stderr}")
 
 

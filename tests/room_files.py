@@ -2,12 +2,12 @@
 import hashlib
 import json
 import stat
-import subprocess
 import sys
 import tomllib
 
 sys.dont_write_bytecode = True
 
+import measuring
 from room_runs import CALLER, PROGRAM, TOOL, WAIT, Room, calls, digest, test, token
 from serving import TOP, free_ports, want
 
@@ -181,9 +181,9 @@ def a_new_token():
     """The line's digest is that of the file's first line, which its owner alone may read; a file that is there stays."""
     room = Room()
     path = room.folder / "new.token"
-    ran = subprocess.run([TOOL, "--new-token", path], capture_output=True, text=True, timeout=WAIT)
+    ran = measuring.run([TOOL, "--new-token", path], capture_output=True, text=True, timeout=WAIT)
     shown = path.read_text()
     want(ran.stdout == f'token = "{hashlib.sha256(shown.strip().encode()).hexdigest()}"\n', f"it prints {ran.stdout}")
     want(len(shown) == 65 and shown.endswith("\n") and stat.S_IMODE(path.stat().st_mode) == 0o600, "another file")
-    again = subprocess.run([TOOL, "--new-token", path], capture_output=True, text=True, timeout=WAIT)
+    again = measuring.run([TOOL, "--new-token", path], capture_output=True, text=True, timeout=WAIT)
     want(again.returncode == 1 and path.read_text() == shown and again.stderr == f"room: {path}: File exists\n", f"it says {again.stderr}")

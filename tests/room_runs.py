@@ -13,6 +13,7 @@ from pathlib import Path
 
 sys.dont_write_bytecode = True
 
+import measuring
 from dealer_runs import NOLIMIT_2P, PROGRAM, children
 from measuring import Tally, result  # noqa: F401, for those who have all from here
 from serving import FAST, TOP, Game, Wrong, turn_of, waited, want
@@ -91,7 +92,7 @@ class Room:
 
     def refuses(self, status, text, *words):
         """The room isn't opened, and says why in a line."""
-        ran = subprocess.run([TOOL, self.file, *words], stdin=subprocess.DEVNULL, capture_output=True, text=True, timeout=WAIT)
+        ran = measuring.run([TOOL, self.file, *words], stdin=subprocess.DEVNULL, capture_output=True, text=True, timeout=WAIT)
         said = [line for line in ran.stderr.splitlines() if "is unproved" not in line]
         want(ran.returncode == status and len(said) == 1 and text in said[0], f"status {ran.returncode}: {ran.stderr}")
 
@@ -153,7 +154,7 @@ class Room:
         """Waits until a match is over, and sees that its log is right; the result and the log."""
         folder = self.league(hands) / "matches" / name
         waited(lambda: (folder / "result.json").exists(), f"the result of {name}", lambda: self.told(name, hands), most=WAIT)
-        ran = subprocess.run([PROGRAM, "check", self.entries["game"], folder / f"{name}.log"], capture_output=True, timeout=WAIT)
+        ran = measuring.run([PROGRAM, "check", self.entries["game"], folder / f"{name}.log"], capture_output=True, timeout=WAIT)
         want(ran.stdout == b"yes\n", f"check says {ran.stdout!r} of {name}")
         self.noted(f"{name}: over, SCORE:")
         return json.loads((folder / "result.json").read_text()), (folder / f"{name}.log").read_text()
@@ -172,7 +173,7 @@ class Room:
     def does(self, *words, hands=None, status=0):
         """What a command of tools/league prints of a room's league."""
         file = self.kept / f"hands{hands or self.entries['hands']}.toml"
-        ran = subprocess.run([LEAGUE, file, *words], stdin=subprocess.DEVNULL, capture_output=True, text=True, timeout=WAIT)
+        ran = measuring.run([LEAGUE, file, *words], stdin=subprocess.DEVNULL, capture_output=True, text=True, timeout=WAIT)
         want(ran.returncode == status, f"{words}: status {ran.returncode}: {ran.stdout[-500:]}{ran.stderr[-500:]}")
         return ran.stdout + ran.stderr
 
