@@ -68,6 +68,11 @@ class League(Match):
         has = lambda told: all(part in told.get(word, "").split(",") for part in parts)
         return waited(lambda: (lambda told: told if has(told) else None)(self.asked(node)), f"{word} {parts} of node {node}", self.last_notes)
 
+    def is_played_out(self, node):
+        """Whether a node's process has ended with its match; seats are played for whose bots a busy machine gives no processor."""
+        process = self.processes[node]
+        return self.wait is not None and process is not None and process.poll() == 0 and self.notes(node)[-1:] == ["the match is over"]
+
     def faults(self):
         """The notes of connections that were closed by a fault: its number and its name. (A peer may be 120 commands behind.)"""
         return [note for node in range(self.count) for note in self.notes(node) if FAULT.search(note)]
@@ -188,10 +193,11 @@ class HeardLeague(League):
         self.answered[place_of(line)] = Watch.here().now()
 
     def longest(self):
-        """How long it took at most from an answer to the next command of its hand, which has to be what was answered."""
+        """How long it took at most from an answer to the next command of its hand, which has to be what was answered; none where it wasn't
+        asked in time."""
         after = lambda hand, betting: min((at for (other, text), at in self.told.items() if other == hand and text.startswith(betting) and text != betting), default=None)
         times = [told - at for place, at in self.answered.items() if (told := after(*place)) is not None]
-        return max(times)
+        return max(times, default=0.0)
 
 
 def place_of(line):

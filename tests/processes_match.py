@@ -1,4 +1,5 @@
 """A match of tests/processes: its files, its processes and its bots."""
+import contextlib
 import random
 import shutil
 import signal
@@ -278,22 +279,27 @@ class Match:
         (in_time if lost else want)(is_so, text)
 
     def is_alive(self):
-        """No process has ended that the test didn't kill."""
+        """No process has ended that the test didn't kill, but with a match that came to its end by itself."""
         ended = [node for node, process in enumerate(self.processes) if process and process.poll() not in (None, -signal.SIGKILL)]
+        ended = [node for node in ended if not self.is_played_out(node)]
         want(not ended, f"processes of nodes {ended} have ended: {self.last_notes()}")
         return True
 
     def goes_on(self, more=5):
         """Waits until so many more commands were seen. On a busy machine the match may have come to its last hand before, where bots wait for
-        the test: then that is late."""
+        the test, or to its end, where bots are played for: then that is late."""
         goal = len(self.seen) + more
         has_gone_on = lambda: len(self.seen) >= goal
         waited(lambda: self.is_alive() and (has_gone_on() or self.awaits_test()), f"{more} more commands", self.last_notes, seen=lambda: len(self.seen))
-        in_time(has_gone_on(), f"the match came to its last hand before {more} more commands")
+        in_time(has_gone_on(), f"the match came to its last hand, or its end, before {more} more commands")
 
     def awaits_test(self):
-        """Whether the last hand has begun, and its bots wait until all else was done."""
-        return self.hand == self.hands - 1 and not self.may_end.is_set()
+        """Whether the last hand has begun, and its bots wait until all else was done; or the match came to its end by itself."""
+        return self.hand == self.hands - 1 and not self.may_end.is_set() or any(map(self.is_played_out, range(self.count)))
+
+    def is_played_out(self, node):
+        """Whether a node's process has ended with its match, whose last acts bots don't wait with: none where each act is a bot's."""
+        return False
 
     def stands(self, seconds):
         """No command comes for so long, once each bot has read what it had been told before: it has left each node once, also the one at
@@ -364,6 +370,17 @@ class Match:
         for bot in self.bots:
             self.are_of(log, bot)
 
+    def is_one(self):
+        """What the nodes have logged so far are beginnings of one log, but for last lines that are still written."""
+        logs = []
+        for file in self.folder.glob("machine*/logs/node*.log"):
+            # (a start may keep it under another name just now)
+            with contextlib.suppress(FileNotFoundError):
+                text = file.read_text()
+                logs.append(text[: text.rfind("\n") + 1])
+        longest = max(logs, key=len, default="")
+        want(all(longest.startswith(log) for log in logs), "the logs of the nodes are no beginnings of one")
+
     def are_of(self, log, bot):
         """What a bot got are lines of the log's match, in order at each sitting."""
         bot.join(patience())
@@ -374,6 +391,12 @@ class Match:
             want(not others, f"{NAMES[bot.seat]} got {others[:3]}, which no seat gets in the match of the log")
             order = [places[line] for line in lines]
             want(order == sorted(order), f"{NAMES[bot.seat]} got lines that go back in one sitting")
+
+
+def are_one():
+    """The logs of each match that a test made are one so far: it may have ended before its matches did."""
+    for match in Match.made:
+        match.is_one()
 
 
 def is_beginning_of(log, file):

@@ -501,6 +501,7 @@ def notes_and_a_small_disk(seed, is_long):
         flood.did(sent=FLOODED * seconds)
         match.let_bots_come([0])
         match.goes_on(20)
+        match.is_one()
         return figures
 
 
