@@ -3,8 +3,12 @@ use Rattle.std.specs.Prelude.{◌≡◌, ◌==◌, if◌then◌else◌, ℕ, Lis
 use Rattle.promise_store.specs.declared.disk.Disk.{Ghosts}
 use Rattle.promise_store.specs.Keeping.{disk_of, Leaves}
 use Rattle.acceptor.specs.Stored.{store_of}
+use Rattle.node_rules.specs.Seats.{session_at}
+use Rattle.node_rules.specs.Showing.{is_connected}
 use Rattle.node_rules.specs.Standings.{Standing, stopped}
+use Rattle.slot_log.specs.Hand.{Match}
 use Rattle.slot_log.specs.Slots.{front}
+use Rattle.slot_log.specs.declared.command.Command.{Command}
 use Rattle.paxos_wire.specs.declared.ballot.Ballot.{Ballot}
 use Rattle.dealer_node.specs.Nodes.{Node}
 use Rattle.dealer_node.specs.declared.fault.NodeFault.{NodeFault}
@@ -32,6 +36,30 @@ module _ {D : Type 0} where
 
   abbrev pub front_in : Node D → ℕ
   front_in node = front_by node.up
+
+  -- the table of what runs, or the one that is shown while nothing does
+  abbrev pub table_by : Option (Up D) → Match → Match
+  table_by None blank = blank
+  table_by (Some up) blank = up.running.table
+
+  abbrev pub table_in : Node D → Match
+  table_in node = table_by node.up node.blank
+
+  -- whether the session of a seat is ready; none is of a node that is down
+  abbrev pub ready_by : Option (Up D) → ℕ → Bool
+  ready_by None seat = false
+  ready_by (Some up) seat = is_connected (session_at up.running.seats.talks seat)
+
+  abbrev pub ready_in : Node D → ℕ → Bool
+  ready_in node = ready_by node.up
+
+  -- the act that waits to be proposed
+  abbrev pub pending_by : Option (Up D) → Option Command
+  pending_by None = None
+  pending_by (Some up) = up.running.pending
+
+  abbrev pub pending_in : Node D → Option Command
+  pending_in node = pending_by node.up
 
   -- the disk is its store's while the node runs
   abbrev pub disk_by : Option (Up D) → Option D → Option D

@@ -84,7 +84,7 @@ impl<D: Disk> Model for Node<D> {
 }
 
 impl<D: Disk + Drop> Node<D> {
-    ghost use Rattle.dealer_node.specs.Seeing.{member_in, runs, front_in, disk_in, IsSeen, begun_of, bytes_of, failures_of, images_of, since_of, promised_ballot, downed, settled};
+    ghost use Rattle.dealer_node.specs.Seeing.{member_in, runs, front_in, table_in, ready_in, pending_in, disk_in, IsSeen, begun_of, bytes_of, failures_of, images_of, since_of, promised_ballot, downed, settled};
     ghost use Rattle.promise_store.specs.Refusals.{Refuses};
     ghost use Rattle.dealer_node.specs.Working.{head_of};
     ghost use Rattle.dealer_node.specs.Most.{most_shown_of, most_shown_by};
@@ -357,6 +357,7 @@ impl<D: Disk + Drop> Node<D> {
 
     /// The table after the commands that the node applied; while it is down the table before the first hand.
     pub fn table(&self) -> &Table
+        ensures now { result.now ≡ table_in self.now }
         ensures seen { (s : Standing) → IsSeen D.Disk self.now s → IsTableOf (member_in self.now).setting (applied s) result.now }
         ensures down { runs self.now ≡ false → IsTableOf (member_in self.now).setting [] result.now }
     {
@@ -424,6 +425,7 @@ impl<D: Disk + Drop> Node<D> {
 
     /// The act that waits to be proposed; none while the node is down.
     pub fn pending(&self) -> Option<Command>
+        ensures now { result ≡ pending_in self.now }
         ensures seen { (s : Standing) → IsSeen D.Disk self.now s → result ≡ s.pending }
         ensures down { runs self.now ≡ false → result ≡ None }
     {
@@ -436,6 +438,7 @@ impl<D: Disk + Drop> Node<D> {
     /// Whether a seat is connected: its session is ready. None is while the node is down.
     pub fn connected(&self, seat: usize) -> bool
         requires { seat < (member_in self.now).setting.game.players }
+        ensures now { result ≡ ready_in self.now seat }
         ensures seen { (s : Standing) → IsSeen D.Disk self.now s → result ≡ is_talk_ready (session_at s.sessions seat) }
         ensures down { runs self.now ≡ false → result ≡ false }
     {
