@@ -11,7 +11,7 @@ use Rattle.dealer_kind.specs.Kind.{Setting, hands_after}
 use Rattle.dealer_kind.specs.Plans.{Plan}
 use Rattle.node_rules.specs.Standings.{Place}
 use Rattle.dealer_node.specs.Nodes.{Node}
-use Rattle.stations.specs.Deeds.{Deed}
+use Rattle.stations.specs.Moments.{Moment}
 use Rattle.stations.specs.Stations.{Look}
 use Rattle.stations.specs.Incarnations.{new_store}
 use Rattle.stations.specs.Together.{HasIncarnations, HaveIncarnations}
@@ -226,16 +226,17 @@ module _ {D : Type 0} (g : Ghosts D) where
   present_one place look had = inl refl
 
   -- a server as it is now is one of its process
-  as_now : (served : Served (Node D)) → AreBotsOf g served.look served.bots → Carries served → IsServerOf g served.look served
-  as_now served bots carries = record { config = refl; number = refl; begun = refl; since = []; deeds = refl; bots = bots; carries = carries }
+  as_now : (served : Served (Node D)) → AreBotsOf served.look served.bots → Carries served → IsServerOf served.look served
+  as_now served bots carries = record { moments = ([], refl); bots = bots; carries = carries }
 
-  -- and none whose node did more than that of the process
-  ends_so : (since : List Deed) (deed : Deed) → [] ≡ since ++ deed ∷ [] → ⊥
-  ends_so [] deed e = cc
-  ends_so (first ∷ since) deed e = cc
+  -- and none whose node had a table later than that of the process
+  ends_so : (since : List Moment) (moment : Moment) → [] ≡ since ++ moment ∷ [] → ⊥
+  ends_so [] moment e = cc
+  ends_so (first ∷ since) moment e = cc
 
-  not_of_later : (look : Look (Node D)) (served : Served (Node D)) (deed : Deed) → look.deeds ≡ [] → served.look.deeds ≡ deed ∷ [] → IsServerOf g look served → ⊥
-  not_of_later look served deed none one is = ends_so is.since deed (sym none ∙ (is.deeds ∙ ap (λ (deeds : List Deed). is.since ++ deeds) one))
+  not_of_later : (look : Look (Node D)) (served : Served (Node D)) (moment : Moment) → look.moments ≡ [] → served.look.moments ≡ moment ∷ [] → IsServerOf look served → ⊥
+  not_of_later look served moment none one is =
+      ends_so is.moments.0 moment (sym none ∙ (is.moments.1 ∙ ap (λ (moments : List Moment). is.moments.0 ++ moments) one))
 
   nothing_came : (plan : Plan) (stations : List (Option (Look (Node D)))) (had : HaveIncarnations g plan stations) (seat : ℕ) → ComeOfServers g plan stations had seat []
   nothing_came plan stations had seat node [] behind whole = inl refl

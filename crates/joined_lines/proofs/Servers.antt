@@ -4,14 +4,16 @@ use Rattle.std.proofs.Math.Logic.{∥∥₁_map}
 use Rattle.std.specs.List.{AllByRecursion}
 use Rattle.promise_store.specs.declared.disk.Disk.{Ghosts}
 use Rattle.slot_log.specs.Hand.{Match}
+use Rattle.protocol_model.specs.Sets.{In}
+use Rattle.protocol_model.proofs.Sets.{in_later}
 use Rattle.dealer_kind.specs.Plans.{Plan}
 use Rattle.node_rules.specs.Standings.{place_of}
 use Rattle.dealer_node.specs.Nodes.{Node}
-use Rattle.dealer_node.specs.Seeing.{begun_of}
 use Rattle.dealer_world.specs.RuleRuns.{plan_of}
 use Rattle.stations.specs.Deeds.{Deed}
-use Rattle.stations.specs.Stations.{Look, known_place, LeavesFile, DeathsAtRestAreDeeds, DeathsInsideAreDeeds}
-use Rattle.stations.specs.Tables.{WasLook, WasTable}
+use Rattle.stations.specs.Moments.{Moment}
+use Rattle.stations.specs.Stations.{Look, DeathsAtRestAreDeeds, DeathsInsideAreDeeds}
+use Rattle.stations.specs.Tables.{HadTable, WasLook, WasTable}
 use Rattle.stations.specs.Together.{HaveIncarnations}
 use Rattle.node_wires.specs.declared.line.Line.TheVariants.{Peer, Seat}
 use Rattle.node_wires.specs.Passages.{Passage, came_over, wrote_over}
@@ -26,7 +28,7 @@ use Rattle.node_seats.specs.declared.words.Asked.TheVariants as asks
 use Rattle.node_seats.specs.Words.{Reading, read_of}
 use Rattle.node_seats.specs.Seating.{names_line, bot_at, waits_at}
 use Rattle.node_seats.specs.Telling.{TellsFrom, lines_of, text_for, text_told, parting_text}
-use Rattle.node_service.specs.Bots.{IsRefusedBy, HadTable, IsToldBy, IsStarted, IsOverFor, IsParted, IsBotOf}
+use Rattle.node_service.specs.Bots.{IsRefusedBy, IsToldBy, IsStarted, IsOverFor, IsParted, IsBotOf}
 use Rattle.node_service.specs.Served.{Served}
 use Rattle.joined_lines.specs.Coming.{IsOfTold, ComeOfTold, SeatRelay, IsToldSo, BotConnection, BeginsAt, BringsTold, RelaysTellOneMatch}
 use Rattle.joined_lines.specs.Serving.{IsServerOf, IsOfServer, ComeOfServers, LeadsToServers, ComesOfServer, ServersTellOneMatch}
@@ -69,46 +71,30 @@ module _ {D : Type 0} (g : Ghosts D) where
 
   -- a table that the node of a server had by some moment is one that a node of the match had
   server_had : (plan : Plan) (histories : ℕ → List Deed) (node : ℕ) (look : Look (Node D)) (served : Served (Node D)) → node < length plan.sources → WasLook g (place_of plan node) (histories node) look
-      → IsServerOf g look served → (table : Match) → HadTable g served.look table → WasTable g plan histories table
-  server_had plan histories node look served is_node was server table had =
-      let then_is = had.then_is in
-      let place = place_of plan node in
-      let config : then_is.config ≡ look.config = had.config ∙ sym server.config in
-      let number : then_is.number ≡ look.number = had.number ∙ sym server.number in
-      let at : known_place then_is ≡ place =
-      ap (λ (config : Plan). place_of config then_is.number) config ∙ (ap (λ (number : ℕ). place_of look.config number) number ∙ was.at) in
-      let begun : begun_of g look.node ≡ begun_of g then_is.node = server.begun ∙ sym had.begun in
-      let deeds : look.deeds ≡ (server.since ++ had.since) ++ then_is.deeds =
-      server.deeds ∙ (ap (λ (ds : List Deed). server.since ++ ds) had.deeds ∙ sym (append_assoc server.since had.since then_is.deeds)) in
-      let newer : List Deed = server.since ++ had.since in
-      record {
-        node = node;
-        is_node = is_node;
-        look = then_is;
-        was = record {
-          at = at;
-          has = had.has;
-          before = was.before;
-          left = subst (λ (file : List ℕ). ∥ LeavesFile place file was.before ∥₁) begun was.left;
-          since = was.since ++ newer;
-          deeds_are = was.deeds_are
-              ∙ (ap (λ (ds : List Deed). was.since ++ (ds ++ was.before)) deeds
-              ∙ (ap (λ (ds : List Deed). was.since ++ ds) (append_assoc newer then_is.deeds was.before) ∙ sym (append_assoc was.since newer (then_is.deeds ++ was.before))));
-        };
-        table_is = had.table_is;
-      }
+      → IsServerOf look served → (table : Match) → HadTable served.look table → WasTable g plan histories table
+  server_had plan histories node look served is_node was server table had = record {
+    node = node;
+    is_node = is_node;
+    look = look;
+    was = was;
+    had = record {
+      moment = had.moment;
+      was = subst (λ (moments : List Moment). In had.moment moments) (sym server.moments.1) (in_later server.moments.0 served.look.moments had.moment had.was);
+      table_is = had.table_is;
+    };
+  }
 
   -- ---- bytes
 
   -- a bot that was told that its line is none named one, or asked twice
-  names_one : (look : Look (Node D)) (seat : ℕ) (bot : Bot) (said : List ℕ) → IsParted g look seat bot (Some Other) → (bot.words.is_over ≡ true → bot.words ≡ read_of said) → names_line (read_of said).asked ≡ true
+  names_one : (look : Look (Node D)) (seat : ℕ) (bot : Bot) (said : List ℕ) → IsParted look seat bot (Some Other) → (bot.words.is_over ≡ true → bot.words ≡ read_of said) → names_line (read_of said).asked ≡ true
   names_one look seat bot said is words =
       let named : names_line bot.words.asked ≡ true = refused_names is.1.1.0 seat bot.words.asked bot.words.named is.1.1.1.1 in
       subst (λ (r : Reading). names_line r.asked ≡ true) (words is.1.0) named
 
   -- what a bot was told, off such tables, and where it asked for that
-  bot_told : (such : Match → Type 0) (look : Look (Node D)) → ((table : Match) → HadTable g look table → such table) → (seat : ℕ) (bot : Bot) (telling : Option Telling) (came lost said : List ℕ) → IsToldBy g look seat telling
-      → IsStarted g look seat bot.words telling → (bot.parting ≡ Some Over → IsOverFor g look seat bot.words telling) → (bot.parting ≡ Some Other → IsParted g look seat bot (Some Other)) → (bot.parting ≡ Some Wait → (read_of said).asked ≢ asks.Nothing) → bot.telling ≡ telling
+  bot_told : (such : Match → Type 0) (look : Look (Node D)) → ((table : Match) → HadTable look table → such table) → (seat : ℕ) (bot : Bot) (telling : Option Telling) (came lost said : List ℕ) → IsToldBy look seat telling
+      → IsStarted look seat bot.words telling → (bot.parting ≡ Some Over → IsOverFor look seat bot.words telling) → (bot.parting ≡ Some Other → IsParted look seat bot (Some Other)) → (bot.parting ≡ Some Wait → (read_of said).asked ≢ asks.Nothing) → bot.telling ≡ telling
       → text_told telling ++ parting_text bot.parting ≡ came ++ lost → (bot.words.is_over ≡ true → bot.words ≡ read_of said) → BringsTold such (record { seat = seat; came = came; said = said })
   bot_told such look change seat bot None came lost said told started over other wait same bytes words = record {
     come = record { start = cursor_at 0 0; next = cursor_at 0 0; lines = []; told = refl; parting = bot.parting; over = λ e. absurd (over e); lost = lost; bytes = bytes };
@@ -122,7 +108,7 @@ module _ {D : Type 0} (g : Ghosts D) where
       start = telling.start;
       next = telling.next;
       lines = lines_of telling;
-      told = tells_such (HadTable g look) such change seat telling.start (lines_of telling) telling.next told;
+      told = tells_such (HadTable look) such change seat telling.start (lines_of telling) telling.next told;
       parting = bot.parting;
       over = λ e. let so = over e in (so.1.0, (change so.1.0 so.1.1.0, so.1.1.1));
       lost = lost;
@@ -136,20 +122,20 @@ module _ {D : Type 0} (g : Ghosts D) where
     put_off = wait;
   }
 
-  server_told : (such : Match → Type 0) (look : Look (Node D)) (served : Served (Node D)) (seat : ℕ) (came lost said later : List ℕ) → ((table : Match) → HadTable g served.look table → such table) → IsServerOf g look served
+  server_told : (such : Match → Type 0) (look : Look (Node D)) (served : Served (Node D)) (seat : ℕ) (came lost said later : List ℕ) → ((table : Match) → HadTable served.look table → such table) → IsServerOf look served
       → wrote_over served.passed (Seat seat) ≡ came ++ lost → said ≡ came_over served.passed (Seat seat) ++ later → BringsTold such (record { seat = seat; came = came; said = said })
   server_told such look served seat came lost said later change server wrote heard =
       let bot : Bot = bot_at served.bots seat in
       let waits : List ℕ = waits_at served.bots seat in
-      let is : IsBotOf g served.look seat bot = server.bots seat in
+      let is : IsBotOf served.look seat bot = server.bots seat in
       let wrote_is = (server.carries.said seat).0 in
       let words_are : bot.words ≡ read_of (came_over served.passed (Seat seat)) = (server.carries.said seat).1 in
       let bytes : text_for bot ≡ came ++ (lost ++ (waits ++ wrote_is.0)) =
       wrote_is.1.0
       ∙ (append_assoc (wrote_over served.passed (Seat seat)) waits wrote_is.0 ∙ (ap (λ (w : List ℕ). w ++ (waits ++ wrote_is.0)) wrote ∙ append_assoc came lost (waits ++ wrote_is.0))) in
-      bot_told such served.look change seat bot bot.telling came (lost ++ (waits ++ wrote_is.0)) said is.told is.started (λ e. subst (IsParted g served.look seat bot) e is.parted)
-      (λ e. subst (IsParted g served.look seat bot) e is.parted)
-      (λ e. asked_behind bot.words (came_over served.passed (Seat seat)) later said words_are heard (subst (IsParted g served.look seat bot) e is.parted)) refl bytes (words_behind bot.words (came_over served.passed (Seat seat)) later said words_are heard)
+      bot_told such served.look change seat bot bot.telling came (lost ++ (waits ++ wrote_is.0)) said is.told is.started (λ e. subst (IsParted served.look seat bot) e is.parted)
+      (λ e. subst (IsParted served.look seat bot) e is.parted)
+      (λ e. asked_behind bot.words (came_over served.passed (Seat seat)) later said words_are heard (subst (IsParted served.look seat bot) e is.parted)) refl bytes (words_behind bot.words (came_over served.passed (Seat seat)) later said words_are heard)
 
   -- ---- the law
 

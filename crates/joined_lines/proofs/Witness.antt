@@ -2,30 +2,33 @@
 --
 -- Of any honest disk nine calls are given (`TwoDeal`), each as `Station::step` ensures it where it answers Ok. Over disks on paper (`WitnessPaper`) nodes are values, of which each call is so. A server has parts of which the law says
 -- nothing, as its terms and its peers: these are whatever they are. No clause can make an allocator, so that one is given.
-use Rattle.std.proofs.Common.{◌≡◌, ℕ, zero, suc, ◌==◌, Bool, true, false, if◌then◌else◌, List, [], ◌∷◌, ◌++◌, length, codes, get_or, ◌⊎◌, Option, Some, None, IsTrue, inl, inr, refl, ap, sym, subst, arith, replicate}
+use Rattle.std.proofs.Common.{◌≡◌, ℕ, zero, suc, ◌==◌, Bool, true, false, if◌then◌else◌, List, [], ◌∷◌, ◌++◌, length, codes, get_or, ◌⊎◌, Option, Some, None, IsTrue, inl, inr, refl, ap, sym, ◌∙◌, subst, arith, replicate}
 use Rattle.std.proofs.Math.Logic.{∥∥₁_elim}
 use Rattle.std.proofs.lemmas.Bool.Decides.{eqb_tells}
 use Rattle.std.specs.Global.{Global}
 use Rattle.std.specs.List.{AllByRecursion}
 use Rattle.promise_store.specs.declared.disk.Disk.{Ghosts}
-use Rattle.promise_store.proofs.Journals.{one_journal}
-use Rattle.slot_log.specs.Hand.{Match}
+use Rattle.game_def.specs.Game.{Game}
+use Rattle.slot_log.specs.Hand.{Hand, Match}
+use Rattle.protocol_model.specs.Sets.{In}
 use Rattle.protocol_model.specs.Quorums.{AreChosen}
 use Rattle.dealer_kind.specs.Kind.{Setting, hands_after}
 use Rattle.dealer_kind.specs.Plans.{IsPlan}
 use Rattle.dealer_kind.specs.declared.source.Source.{Source}
-use Rattle.node_rules.specs.Standings.{Place, Standing, applied}
+use Rattle.node_rules.specs.Standings.{Place, applied}
 use Rattle.node_rules.proofs.Examples.{opened, setting}
 use Rattle.dealer_node.specs.Nodes.{Node}
 use Rattle.dealer_node.specs.Scenes.{IsTableOf}
-use Rattle.dealer_node.specs.Seeing.{member_in, IsSeen}
-use Rattle.dealer_node.proofs.AsOne.{as_one}
+use Rattle.dealer_node.specs.Seeing.{table_in}
 use Rattle.dealer_world.specs.Records.{said}
 use Rattle.dealer_world.specs.RuleRuns.{plan_of}
 use Rattle.stations.specs.Deeds.{Deed, Doing, record_of}
 use Rattle.stations.specs.Joining.{IsTrueOrder}
+use Rattle.stations.specs.Moments.{Moment, moment_now}
 use Rattle.stations.specs.Stations.{Look, Has}
 use Rattle.stations.specs.Together.{HaveIncarnations, HaveHistories}
+use Rattle.stations.specs.Tables.{HadTable}
+use Rattle.stations.proofs.OwnTables.{has_its_table}
 use Rattle.node_wires.specs.declared.line.Line.TheVariants as wire
 use Rattle.node_wires.specs.Passages.{Passage, Began, Came, Wrote, came_over, wrote_over}
 use Rattle.line_cursor.specs.Past.{seat_line_at}
@@ -35,7 +38,7 @@ use Rattle.node_seats.specs.declared.seat.Seat.{Seat}
 use Rattle.node_seats.specs.Words.{read_of}
 use Rattle.node_seats.specs.Lines.{line_of}
 use Rattle.node_seats.specs.Telling.{AreSaid}
-use Rattle.node_service.specs.Bots.{HadTable, AreBotsOf}
+use Rattle.node_service.specs.Bots.{AreBotsOf}
 use Rattle.node_service.specs.Crossing.{AreCarried, Carries}
 use Rattle.node_service.specs.declared.sitting.Sitting.TheVariants.{Here, Away}
 use Rattle.node_service.specs.Served.{Served}
@@ -143,18 +146,44 @@ module _ {D : Type 0} (g : Ghosts D) where
       (joined.joined all (met.order joined.histories joined.have)).lines relays met.relays_lead bots met.bots_come)
 
   module _ (honest : IsTrue g.is_honest) (d : TwoDeal g) where
-    is_table : (s : Standing) → IsSeen g d.knowing_0.node s → IsTableOf (member_in d.knowing_0.node).setting (applied s) table
-    is_table s seen =
+    -- the table that its node has is that of the one deal
+    its_table : Match
+    its_table = table_in d.knowing_0.node
+
+    its_table_is : IsTableOf setting (applied knows) its_table
+    unfolding its_table
+    its_table_is =
         let stands = first_stands g honest d in
-        let same : knows ≡ s = as_one g one_journal d.knowing_0.node knows s honest stands.seen seen refl in
-        let known : setting ≡ (member_in d.knowing_0.node).setting = sym (ap (λ (p : Place). p.setting) stands.at) in
-        subst (λ (m : Setting). IsTableOf m (applied s) table) known (subst (λ (t : Standing). IsTableOf setting (applied t) table) same (record { game = refl; count = refl; hands = hands_are }))
+        subst (λ (p : Place). IsTableOf p.setting (applied knows) (table_in d.knowing_0.node)) stands.at (has_its_table g d.knowing_0.node knows stands.seen)
 
-    had_table : HadTable g d.knowing_0 table
-    had_table = record { then_is = d.knowing_0; has = first_has g honest d; config = refl; number = refl; begun = refl; since = []; deeds = refl; table_is = is_table }
+    of_table : (P : Game → List Hand → Type 0) → P table.game table.hands → P its_table.game its_table.hands
+    of_table P is =
+        subst (λ (game : Game). P game its_table.hands) (sym its_table_is.game)
+        (subst (λ (hands : List Hand). P setting.game hands) (hands_are ∙ sym its_table_is.hands) is)
 
-    bots_are_told : AreBotsOf g d.knowing_0 seats
-    bots_are_told zero = record { told = (table, (had_table, (line_is, next_is))); started = (refl, (table, (had_table, refl))); parted = tt }
+    had_table : HadTable d.knowing_0 its_table
+    unfolding its_table
+    had_table = record {
+      moment = moment_now d.knowing_0.node d.knowing_0.deeds;
+      was = subst (λ (moments : List Moment). In (moment_now d.knowing_0.node d.knowing_0.deeds) moments) (sym (first_has g honest d).newest) (inl refl);
+      table_is = refl;
+    }
+
+    bots_are_told : AreBotsOf d.knowing_0 seats
+    bots_are_told zero = record {
+      told = (
+        its_table,
+        (
+          had_table,
+          (
+            of_table (λ game hands. seat_line_at game hands 0 0 0 ≡ Some first_line) line_is,
+            of_table (λ game hands. cursor_at 0 1 ≡ next_cursor game hands (cursor_at 0 0)) next_is,
+          ),
+        ),
+      );
+      started = (refl, (its_table, (had_table, refl)));
+      parted = tt;
+    }
     bots_are_told (suc seat) = record { told = tt; started = tt; parted = tt }
 
     some_look : Look (Node D) → Option (Look (Node D)) → Look (Node D)
@@ -176,8 +205,8 @@ module _ {D : Type 0} (g : Ghosts D) where
       over_its_wires : Carries served
       over_its_wires = record { peers = of_peers; said = of_seats; guests = λ place. refl; answered = λ place. refl }
 
-      is_server : IsServerOf g d.knowing_0 served
-      is_server = record { config = refl; number = refl; begun = refl; since = []; deeds = refl; bots = bots_are_told; carries = over_its_wires }
+      is_server : IsServerOf d.knowing_0 served
+      is_server = record { moments = ([], refl); bots = bots_are_told; carries = over_its_wires }
 
       wrote : (seat : ℕ) (came : List ℕ) → wrote_over passed (wire.Seat seat) ≡ came ++ [] → IsOfServer g plan (stations g honest d) (had g honest d) seat came
       wrote seat came is = record { node = 0; is_node = omega arith; look = d.knowing_0; process = inl refl; served = served; server = is_server; lost = []; bytes = is }

@@ -32,6 +32,7 @@ use Rattle.dealer_world.specs.Records.{Frame, Arrival, said, said_by, messages_o
 use Rattle.dealer_world.specs.Unforged.{IsAmong, IsUnforged}
 use Rattle.stations.specs.Deeds.{Deed, Doing, deeds_of, record_of}
 use Rattle.stations.specs.Joining.{IsTrueOrder}
+use Rattle.stations.specs.Moments.{moment_now}
 use Rattle.stations.specs.Stations.{Look, Has}
 use Rattle.stations.specs.Incarnations.{new_store}
 use Rattle.stations.specs.Together.{HaveIncarnations, HaveHistories}
@@ -194,19 +195,17 @@ none_dealt : [] ≡ hands_after setting []
 unfolding opened_up
 none_dealt = refl
 
--- a process of node i that was opened over this disk
-abbrev pub over_disk : {D : Type 0} → ℕ → D → Look (Node D)
-over_disk i disk = record {
-  config = plan;
-  number = i;
-  node = record {
-    member = record { setting = setting; source = Seed i; nodes = 3; node = i };
-    blank = record { game = setting.game; count = setting.title.hands; hands = []; room = 0 };
-    disk = Some disk;
-    up = None;
-  };
-  deeds = [];
+-- node i of it, over this disk, and a process of it that was opened
+abbrev node_over : {D : Type 0} → ℕ → D → Node D
+node_over i disk = record {
+  member = record { setting = setting; source = Seed i; nodes = 3; node = i };
+  blank = record { game = setting.game; count = setting.title.hands; hands = []; room = 0 };
+  disk = Some disk;
+  up = None;
 }
+
+abbrev pub over_disk : {D : Type 0} → ℕ → D → Look (Node D)
+over_disk i disk = record { config = plan; number = i; node = node_over i disk; deeds = []; moments = moment_now (node_over i disk) [] ∷ [] }
 
 module _ {D : Type 0} (g : Ghosts D) where
   pub first_opened : (disk : D) → IsNewDisk g 0 disk → IsOpened g 0 (created 0) (over_disk 0 disk)
@@ -219,6 +218,7 @@ module _ {D : Type 0} (g : Ghosts D) where
       blank = record { game = refl; count = refl; hands = none_dealt };
     };
     deeds_are = refl;
+    moments_are = refl;
   }
 
   pub second_opened : (disk : D) → IsNewDisk g 1 disk → IsOpened g 1 (created 1) (over_disk 1 disk)
@@ -231,6 +231,7 @@ module _ {D : Type 0} (g : Ghosts D) where
       blank = record { game = refl; count = refl; hands = none_dealt };
     };
     deeds_are = refl;
+    moments_are = refl;
   }
 
   -- ---- the calls

@@ -11,8 +11,9 @@ use Rattle.paxos_wire.specs.declared.message.Message.{Message}
 use Rattle.paxos_wire.specs.declared.fault.FrameFault.{FrameFault}
 use Rattle.paxos_wire.specs.Faults.{reading}
 use Rattle.paxos_wire.specs.Spelling.{frame as bytes_of}
+use Rattle.slot_log.specs.declared.command.Command.{Command}
 use Rattle.protocol_model.specs.Stores.{Store, empty_store}
-use Rattle.node_rules.specs.Standings.{Place, Standing, front_of, stopped}
+use Rattle.node_rules.specs.Standings.{Place, Standing, front_of, stopped, applied}
 use Rattle.node_rules.specs.Turns.{Turn, Refusal, and_then}
 use Rattle.node_rules.specs.Proposing.{ticking, closing}
 use Rattle.node_rules.specs.Calls.{Call, Start, Tick, Connect, Line}
@@ -26,7 +27,8 @@ use Rattle.dealer_node.specs.declared.fault.NodeFault.TheVariants as fault
 use Rattle.dealer_node.specs.Outs.{Told}
 use Rattle.dealer_node.specs.Members.{place_at}
 use Rattle.dealer_node.specs.Turned.{framed, printed, told_of}
-use Rattle.dealer_node.specs.Seeing.{member_in, runs, front_in, IsSeen, begun_of}
+use Rattle.dealer_node.specs.Scenes.{IsTableOf}
+use Rattle.dealer_node.specs.Seeing.{member_in, runs, front_in, table_in, IsSeen, begun_of}
 use Rattle.dealer_node.proofs.AsOne.{tells_up}
 use Rattle.dealer_world.specs.declared.event.Event.{Event}
 use Rattle.dealer_world.specs.declared.event.Event.TheVariants as event
@@ -36,7 +38,9 @@ use Rattle.dealer_world.specs.Recordings.{frame_by, text_by}
 use Rattle.dealer_world.specs.Runs.{Ruled, IsSeated, arrived_at, begins_by}
 use Rattle.dealer_world.specs.Stepping.{IsFor}
 use Rattle.stations.specs.Deeds.{Deed, Did, new_at}
-use Rattle.stations.specs.Stations.{Look, known_place, deed_by, GainsDeed, nothing, call as one_more, LeavesFile, IsTrueTo, Acts, Works, opened, acted, Has}
+use Rattle.stations.specs.Moments.{Moment, moment_now, EndNow, MakesTable}
+use Rattle.stations.specs.Stations.{Look, known_place, deed_by, GainsDeed, nothing, call as one_more, LeavesFile, IsTrueTo, AreTrueTo, Acts, Works, opened, acted, Has}
+use Rattle.stations.proofs.OwnTables.{put_now, tables_then, has_its_table}
 use Rattle.joined_lines.proofs.WitnessRules.{AreRead, place, first}
 use Rattle.joined_lines.proofs.WitnessCalls.{ComesTo, takes_turn, written_so, printed_so}
 
@@ -118,6 +122,7 @@ module _ {D : Type 0} (g : Ghosts D) (i : ℕ) (file : List ℕ) where
     pub begun : begun_of g look.node ≡ file
     pub seen : IsSeen g look.node (new_at (place i))
     pub deeds_are : look.deeds ≡ []
+    pub moments_are : look.moments ≡ moment_now look.node [] ∷ []
 
   -- and what it is after these deeds: whatever its node did before that left the file, it holds and knows this
   pub record Stands (s : Standing) (deeds : List Deed) (look : Look (Node D)) : Type 0 where
@@ -127,6 +132,8 @@ module _ {D : Type 0} (g : Ghosts D) (i : ℕ) (file : List ℕ) where
     pub seen : IsSeen g look.node s
     pub deeds_are : look.deeds ≡ deeds
     pub did : (before : List Deed) → LeavesFile (place i) file before → Did (place i) (new_at (place i)) (deeds ++ before) s
+    pub now : EndNow look.node look.deeds look.moments
+    pub tables : AreTrueTo g (place i) look.node look.moments
     pub works : Works g (place i) file look
 
 module _ {D : Type 0} (g : Ghosts D) (honest : IsTrue g.is_honest) (i : ℕ) (is_node : i < 3) (file : List ℕ) (new_file : StandsFor (header i 3) file empty_store) where
@@ -146,25 +153,61 @@ module _ {D : Type 0} (g : Ghosts D) (honest : IsTrue g.is_honest) (i : ℕ) (is
       ∙ (ap (λ (told : Told). deed_by s.up (front_in old.node) e told (Ok tt) ∷ old.deeds) told
       ∙ (ap (λ (own : Deed). own ∷ old.deeds) (deed_is (front_in old.node)) ∙ ap (λ (own : List Deed). deed ∷ own) were)))
 
+  -- ---- its tables
+
+  true_so : (s : Standing) (deeds : List Deed) (look : Look (Node D)) → begun_of g look.node ≡ file → IsSeen g look.node s → look.deeds ≡ deeds
+      → ((before : List Deed) → LeavesFile (place i) file before → Did (place i) (new_at (place i)) (deeds ++ before) s) → IsTrueTo g (place i) look.node look.deeds
+  true_so s deeds look begun seen are did before left honest =
+      ∥∥₁_map (subst (λ (f : List ℕ). ∥ LeavesFile (place i) f before ∥₁) begun left) (λ was.
+      record { s = s; seen = seen; did = subst (λ (own : List Deed). Did (place i) (new_at (place i)) (own ++ before) s) (sym are) (did before was) })
+
+  first_table : (look : Look (Node D)) → IsOpened g i file look → AreTrueTo g (place i) look.node look.moments
+  first_table look was = subst (AreTrueTo g (place i) look.node) (sym was.moments_are) (λ before left honest moment there.
+      elim there as (λ _. ∥ MakesTable (place i) (moment.deeds ++ before) moment.table ∥₁) [
+        | inl is ↦
+            subst (λ (m : Moment). ∥ MakesTable (place i) (m.deeds ++ before) m.table ∥₁) (sym is)
+            (∥∥₁_map (subst (λ (f : List ℕ). ∥ LeavesFile (place i) f before ∥₁) was.begun left) (λ was_left.
+            record {
+              s = was_left.s;
+              did = was_left.did;
+              runs = inr (ap applied was_left.down);
+              table_is = subst (λ (commands : List Command). IsTableOf (place i).setting commands (table_in look.node)) (sym (ap applied was_left.down))
+                  (subst (λ (p : Place). IsTableOf p.setting [] (table_in look.node)) was.at (has_its_table g look.node (new_at (place i)) was.seen));
+            }))
+        | inr none ↦ absurd none
+      ])
+
+  tables_so : (e : Event) (old new : Look (Node D)) (it : Took g e old new) → place_at (member_in new.node) ≡ place i → IsTrueTo g (place i) new.node new.deeds
+      → AreTrueTo g (place i) old.node old.moments → AreTrueTo g (place i) new.node new.moments
+  tables_so e old new it at true_to tables = tables_then g (place i) e it.told (Ok tt) old new it.acts ∣ at ∣₁ true_to tables
+
   -- it is started
   pub starts : (old new : Look (Node D)) → IsOpened g i file old → Took g (event.Start i) old new → Stands g i file (first i) (started i ∷ []) new
   starts old new was it =
       let turn = starting (place i) empty_store in
       let took = takes_turn g (place i) (event.Start i) (new_at (place i)) old.node new.node it.told turn was.at honest was.seen it.acts.given (start_comes i) in
+      let at = at_still (event.Start i) old new it was.at in
+      let begun = it.acts.given.stays.begun ∙ was.begun in
+      let deeds_are = deeds_now (event.Start i) (new_at (place i)) (started i) [] turn old new it was.seen was.deeds_are took.told_is (λ front. refl) in
       record {
         known = known_still (event.Start i) old new it was.known;
-        at = at_still (event.Start i) old new it was.at;
-        begun = it.acts.given.stays.begun ∙ was.begun;
+        at = at;
+        begun = begun;
         seen = took.seen;
-        deeds_are = deeds_now (event.Start i) (new_at (place i)) (started i) [] turn old new it was.seen was.deeds_are took.told_is (λ front. refl);
-        did = λ before left.
-            let found : (empty_store ≡ left.s.store) ⊎ (empty_store ≡ left.s.begun) = elim left.held as (λ _. (empty_store ≡ left.s.store) ⊎ (empty_store ≡ left.s.begun)) [
-              | inl stands ↦ inl (stands_as_one (header i 3) file empty_store left.s.store new_file stands)
-              | inr stands ↦ inr (stands_as_one (header i 3) file empty_store left.s.begun new_file stands)
-            ] in
-            (left.s, left.did, (Start empty_store, subst (λ (s : Standing). Ruled (place i) s (Start empty_store) [] (started i).made (first i)) (sym left.down) (starts_from i left.s.store left.s.begun found)));
-        works = acted old new (event.Start i) it.told (Ok tt) (opened old was.known was.begun was.deeds_are) refl is_node it.acts;
+        deeds_are = deeds_are;
+        did = did_start;
+        now = put_now new.node new.deeds old.moments new.moments it.acts.moments;
+        tables = tables_so (event.Start i) old new it at (true_so (first i) (started i ∷ []) new begun took.seen deeds_are did_start) (first_table old was);
+        works = acted old new (event.Start i) it.told (Ok tt) (opened old was.known was.begun was.deeds_are was.moments_are) refl is_node it.acts;
       }
+    where
+      did_start : (before : List Deed) → LeavesFile (place i) file before → Did (place i) (new_at (place i)) (started i ∷ before) (first i)
+      did_start before left =
+          let found : (empty_store ≡ left.s.store) ⊎ (empty_store ≡ left.s.begun) = elim left.held as (λ _. (empty_store ≡ left.s.store) ⊎ (empty_store ≡ left.s.begun)) [
+            | inl stands ↦ inl (stands_as_one (header i 3) file empty_store left.s.store new_file stands)
+            | inr stands ↦ inr (stands_as_one (header i 3) file empty_store left.s.begun new_file stands)
+          ] in
+          (left.s, left.did, (Start empty_store, subst (λ (s : Standing). Ruled (place i) s (Start empty_store) [] (started i).made (first i)) (sym left.down) (starts_from i left.s.store left.s.begun found)))
 
   -- an event is given to it while it runs, of which its rule has this turn
   does : (e : Event) (called : Call) (arrived : List Arrived) (s : Standing) (turn : Turn) (deeds : List Deed) (old new : Look (Node D)) → Stands g i file s deeds old → Took g e old new
@@ -173,14 +216,21 @@ module _ {D : Type 0} (g : Ghosts D) (honest : IsTrue g.is_honest) (i : ℕ) (is
       → Stands g i file turn.after (deed_so i arrived false turn ∷ deeds) new × AreRead turn.frames
   does e called arrived s turn deeds old new was it here is_for comes rule seated arrives begins deed_is =
       let took = takes_turn g (place i) e s old.node new.node it.told turn was.at honest was.seen it.acts.given comes in
-      let ruled = ruled_so i s called arrived false turn rule took.reads seated arrives begins in (
+      let ruled = ruled_so i s called arrived false turn rule took.reads seated arrives begins in
+      let at = at_still e old new it was.at in
+      let begun = it.acts.given.stays.begun ∙ was.begun in
+      let deeds_are = deeds_now e s (deed_so i arrived false turn) deeds turn old new it was.seen was.deeds_are took.told_is deed_is in
+      let did : (before : List Deed) → LeavesFile (place i) file before → Did (place i) (new_at (place i)) (deed_so i arrived false turn ∷ (deeds ++ before)) turn.after =
+      (λ before left. (s, was.did before left, (called, ruled))) in (
         record {
           known = known_still e old new it was.known;
-          at = at_still e old new it was.at;
-          begun = it.acts.given.stays.begun ∙ was.begun;
+          at = at;
+          begun = begun;
           seen = took.seen;
-          deeds_are = deeds_now e s (deed_so i arrived false turn) deeds turn old new it was.seen was.deeds_are took.told_is deed_is;
-          did = λ before left. (s, was.did before left, (called, ruled));
+          deeds_are = deeds_are;
+          did = did;
+          now = put_now new.node new.deeds old.moments new.moments it.acts.moments;
+          tables = tables_so e old new it at (true_so turn.after (deed_so i arrived false turn ∷ deeds) new begun took.seen deeds_are did) was.tables;
           works = acted old new e it.told (Ok tt) was.works here is_for it.acts;
         },
         took.reads,
@@ -235,8 +285,8 @@ module _ {D : Type 0} (g : Ghosts D) (honest : IsTrue g.is_honest) (i : ℕ) (is
       record {
         here = omega (arith, number, nodes, is_node);
         at_place = ∣ stands.at ∙ sym stands.known ∣₁;
-        true_to = subst (λ (p : Place). IsTrueTo g p look.node look.deeds) (sym stands.known) (λ before left honest.
-            ∥∥₁_map (subst (λ (f : List ℕ). ∥ LeavesFile (place i) f before ∥₁) stands.begun left) (λ was.
-            record { s = s; seen = stands.seen; did = subst (λ (own : List Deed). Did (place i) (new_at (place i)) (own ++ before) s) (sym stands.deeds_are) (stands.did before was) }));
+        newest = stands.now;
+        true_to = subst (λ (p : Place). IsTrueTo g p look.node look.deeds) (sym stands.known) (true_so s deeds look stands.begun stands.seen stands.deeds_are stands.did);
+        tables = subst (λ (p : Place). AreTrueTo g p look.node look.moments) (sym stands.known) stands.tables;
         works = ∣ subst (λ (p : Place). Works g p (begun_of g look.node) look) (sym stands.known) (subst (λ (f : List ℕ). Works g (place i) f look) (sym stands.begun) stands.works) ∣₁;
       }

@@ -34,6 +34,7 @@ use Rattle.dealer_world.specs.Records.{Connected, Came}
 use Rattle.dealer_world.specs.Events.{call_of}
 use Rattle.dealer_world.specs.Stepping.{IsGiven, MakesOfDisk}
 use Rattle.stations.specs.Deeds.{Deed}
+use Rattle.stations.specs.Moments.{Moment, moment_now}
 use Rattle.stations.specs.Stations.{Look, call as one_more}
 use Rattle.joined_lines.proofs.WitnessRules.{AreRead, plan, place, prepare, promise, accept, accepted, first, prepares, leads, knows, has_promised, has_voted, ticked, promising, leading, voting, learning, tick_taken, prepare_taken, promise_taken, accept_taken, accepted_taken, said_by_bot, is_connected, is_ready, connecting_0, greeting, connect_taken}
 use Rattle.joined_lines.proofs.WitnessNodes.{deed_so, got, started, Took, frame_turn}
@@ -150,8 +151,8 @@ module _ (alloc : Global) where
 
   -- ---- the calls
 
-  abbrev look_at : ℕ → Node Paper → List Deed → Look (Node Paper)
-  look_at i node deeds = record { config = plan; number = i; node = node; deeds = deeds }
+  abbrev look_at : ℕ → Node Paper → List Deed → List Moment → Look (Node Paper)
+  look_at i node deeds earlier = record { config = plan; number = i; node = node; deeds = deeds; moments = moment_now node deeds ∷ earlier }
 
   short_prepare : length (bytes_of prepare) < 2 ^ 63
   unfolding frame_of
@@ -176,11 +177,17 @@ module _ (alloc : Global) where
   ample : ◌≡◌ {A = Result (Unit {0}) NodeFault} (Ok tt) (Err fault.OutOfMemory) → ⊥
   ample e = not_an_error fault.OutOfMemory e
 
-  started_0 : Took paper (event.Start 0) (over_disk 0 (new_disk 0)) (look_at 0 (started_node 0) (started 0 ∷ []))
-  started_0 = record { told = told_of (starting (place 0) empty_store); acts = record { config = refl; number = refl; given = start_given 0 refl; gains = one_more ample refl } }
+  abbrev look_started_0 : Look (Node Paper)
+  look_started_0 = look_at 0 (started_node 0) (started 0 ∷ []) (over_disk 0 (new_disk 0)).moments
 
-  started_1 : Took paper (event.Start 1) (over_disk 1 (new_disk 1)) (look_at 1 (started_node 1) (started 1 ∷ []))
-  started_1 = record { told = told_of (starting (place 1) empty_store); acts = record { config = refl; number = refl; given = start_given 1 refl; gains = one_more ample refl } }
+  abbrev look_started_1 : Look (Node Paper)
+  look_started_1 = look_at 1 (started_node 1) (started 1 ∷ []) (over_disk 1 (new_disk 1)).moments
+
+  started_0 : Took paper (event.Start 0) (over_disk 0 (new_disk 0)) look_started_0
+  started_0 = record { told = told_of (starting (place 0) empty_store); acts = record { config = refl; number = refl; given = start_given 0 refl; gains = one_more ample refl; moments = refl } }
+
+  started_1 : Took paper (event.Start 1) (over_disk 1 (new_disk 1)) look_started_1
+  started_1 = record { told = told_of (starting (place 1) empty_store); acts = record { config = refl; number = refl; given = start_given 1 refl; gains = one_more ample refl; moments = refl } }
 
   abbrev node_prepared : Node Paper
   node_prepared = node_at 0 one_record (holds_promise alloc) prepares []
@@ -224,7 +231,28 @@ module _ (alloc : Global) where
   abbrev node_ready : Node Paper
   node_ready = node_at 0 [] (holds_none alloc) is_ready []
 
-  connect_0 : Took paper (event.Connect 0 0) (look_at 0 (started_node 0) (started 0 ∷ [])) (look_at 0 node_connected connected_deeds)
+  abbrev look_connected_0 : Look (Node Paper)
+  look_connected_0 = look_at 0 node_connected connected_deeds look_started_0.moments
+
+  abbrev look_greeted_0 : Look (Node Paper)
+  look_greeted_0 = look_at 0 node_ready greeted_deeds look_connected_0.moments
+
+  abbrev look_ticked_0 : Look (Node Paper)
+  look_ticked_0 = look_at 0 node_prepared deeds_1 look_greeted_0.moments
+
+  abbrev look_leading_0 : Look (Node Paper)
+  look_leading_0 = look_at 0 node_leading deeds_2 look_ticked_0.moments
+
+  abbrev look_knowing_0 : Look (Node Paper)
+  look_knowing_0 = look_at 0 node_knowing deeds_3 look_leading_0.moments
+
+  abbrev look_promised_1 : Look (Node Paper)
+  look_promised_1 = look_at 1 node_promised other_deeds_1 look_started_1.moments
+
+  abbrev look_voted_1 : Look (Node Paper)
+  look_voted_1 = look_at 1 node_voted other_deeds_2 look_promised_1.moments
+
+  connect_0 : Took paper (event.Connect 0 0) look_started_0 look_connected_0
   connect_0 = record {
     told = told_of connecting_0;
     acts = record {
@@ -233,6 +261,7 @@ module _ (alloc : Global) where
       given = given_so 0 (first 0) is_connected [] [] (holds_none alloc) (holds_none alloc) [] [] (is_first alloc 0) (is_at_connected alloc) (event.Connect 0 0) (Connect 0) connecting_0 refl tt refl refl
           (sym (ap (λ (t : Turn). Ok t) connect_taken)) (λ one there. absurd there);
       gains = one_more ample refl;
+      moments = refl;
     };
   }
 
@@ -242,7 +271,7 @@ module _ (alloc : Global) where
   abbrev bytes_of_bot : Vec ℕ
   bytes_of_bot = record { ptr = null_ptr; len = length said_by_bot; cap = length said_by_bot; alloc = alloc; items = said_by_bot; ok = (refl, omega arith); small = short_line }
 
-  line_0 : Took paper (event.Line 0 0 bytes_of_bot) (look_at 0 node_connected connected_deeds) (look_at 0 node_ready greeted_deeds)
+  line_0 : Took paper (event.Line 0 0 bytes_of_bot) look_connected_0 look_greeted_0
   line_0 = record {
     told = told_of greeting;
     acts = record {
@@ -251,10 +280,11 @@ module _ (alloc : Global) where
       given = given_so 0 is_connected is_ready [] [] (holds_none alloc) (holds_none alloc) [] [] (is_at_connected alloc) (is_at_ready alloc) (event.Line 0 0 bytes_of_bot) (Line 0 said_by_bot) greeting refl tt refl refl
           greet_rule (λ one there. absurd there);
       gains = one_more ample refl;
+      moments = refl;
     };
   }
 
-  ticks_0 : Took paper (event.Tick 0) (look_at 0 node_ready greeted_deeds) (look_at 0 node_prepared deeds_1)
+  ticks_0 : Took paper (event.Tick 0) look_greeted_0 look_ticked_0
   ticks_0 = record {
     told = told_of ticked;
     acts = record {
@@ -263,10 +293,11 @@ module _ (alloc : Global) where
       given = given_so 0 is_ready prepares [] one_record (holds_none alloc) (holds_promise alloc) [] [] (is_at_ready alloc) (is_prepared alloc) (event.Tick 0) Tick ticked refl tt refl refl (sym tick_taken)
           (and_more 1 prepare (record { to = 2; message = prepare } ∷ []) prepare_reads (to_one 2 prepare prepare_reads));
       gains = one_more ample refl;
+      moments = refl;
     };
   }
 
-  prepare_1 : Took paper (event.Frame 0 1 (bytes_for prepare short_prepare)) (look_at 1 (started_node 1) (started 1 ∷ [])) (look_at 1 node_promised other_deeds_1)
+  prepare_1 : Took paper (event.Frame 0 1 (bytes_for prepare short_prepare)) look_started_1 look_promised_1
   prepare_1 = record {
     told = told_of promising;
     acts = record {
@@ -275,10 +306,11 @@ module _ (alloc : Global) where
       given = given_so 1 (first 1) has_promised [] one_record (holds_none alloc) (holds_promise alloc) [] [] (is_first alloc 1) (is_promised alloc) (event.Frame 0 1 (bytes_for prepare short_prepare)) (call.Frame 0 (bytes_of prepare)) promising refl tt refl refl
           (frame_turn (place 1) (first 1) 0 (bytes_of prepare) prepare promising refl prepare_reads prepare_taken) (to_one 0 promise promise_reads);
       gains = one_more ample refl;
+      moments = refl;
     };
   }
 
-  promise_0 : Took paper (event.Frame 1 0 (bytes_for promise short_promise)) (look_at 0 node_prepared deeds_1) (look_at 0 node_leading deeds_2)
+  promise_0 : Took paper (event.Frame 1 0 (bytes_for promise short_promise)) look_ticked_0 look_leading_0
   promise_0 = record {
     told = told_of leading;
     acts = record {
@@ -290,10 +322,11 @@ module _ (alloc : Global) where
           (and_more 2 accept (record { to = 1; message = accepted } ∷ record { to = 2; message = accepted } ∷ []) accept_reads
           (and_more 1 accepted (record { to = 2; message = accepted } ∷ []) accepted_reads (to_one 2 accepted accepted_reads))));
       gains = one_more ample refl;
+      moments = refl;
     };
   }
 
-  accept_1 : Took paper (event.Frame 0 1 (bytes_for accept short_accept)) (look_at 1 node_promised other_deeds_1) (look_at 1 node_voted other_deeds_2)
+  accept_1 : Took paper (event.Frame 0 1 (bytes_for accept short_accept)) look_promised_1 look_voted_1
   accept_1 = record {
     told = told_of voting;
     acts = record {
@@ -302,10 +335,11 @@ module _ (alloc : Global) where
       given = given_so 1 has_promised has_voted one_record two_records (holds_promise alloc) (holds_vote alloc) [] [] (is_promised alloc) (is_voted alloc) (event.Frame 0 1 (bytes_for accept short_accept)) (call.Frame 0 (bytes_of accept)) voting refl tt refl refl
           (frame_turn (place 1) has_promised 0 (bytes_of accept) accept voting refl accept_reads accept_taken) (and_more 0 accepted (record { to = 2; message = accepted } ∷ []) accepted_reads (to_one 2 accepted accepted_reads));
       gains = one_more ample refl;
+      moments = refl;
     };
   }
 
-  vote_0 : Took paper (event.Frame 1 0 (bytes_for accepted short_accepted)) (look_at 0 node_leading deeds_2) (look_at 0 node_knowing deeds_3)
+  vote_0 : Took paper (event.Frame 1 0 (bytes_for accepted short_accepted)) look_leading_0 look_knowing_0
   vote_0 = record {
     told = told_of learning;
     acts = record {
@@ -314,6 +348,7 @@ module _ (alloc : Global) where
       given = given_so 0 leads knows two_records two_records (holds_vote alloc) (holds_vote alloc) [] dealt_hand (is_leading alloc) (is_knowing alloc) (event.Frame 1 0 (bytes_for accepted short_accepted)) (call.Frame 1 (bytes_of accepted)) learning refl tt refl refl
           (frame_turn (place 0) leads 1 (bytes_of accepted) accepted learning refl accepted_reads accepted_taken) (λ one there. absurd there);
       gains = one_more ample refl;
+      moments = refl;
     };
   }
 
@@ -323,15 +358,15 @@ module _ (alloc : Global) where
     opened_1 = over_disk 1 (new_disk 1);
     is_opened_0 = first_opened paper (new_disk 0) (is_new_disk 0);
     is_opened_1 = second_opened paper (new_disk 1) (is_new_disk 1);
-    started_0 = look_at 0 (started_node 0) (started 0 ∷ []);
-    connected_0 = look_at 0 node_connected connected_deeds;
-    greeted_0 = look_at 0 node_ready greeted_deeds;
-    ticked_0 = look_at 0 node_prepared deeds_1;
-    leading_0 = look_at 0 node_leading deeds_2;
-    knowing_0 = look_at 0 node_knowing deeds_3;
-    started_1 = look_at 1 (started_node 1) (started 1 ∷ []);
-    promised_1 = look_at 1 node_promised other_deeds_1;
-    voted_1 = look_at 1 node_voted other_deeds_2;
+    started_0 = look_started_0;
+    connected_0 = look_connected_0;
+    greeted_0 = look_greeted_0;
+    ticked_0 = look_ticked_0;
+    leading_0 = look_leading_0;
+    knowing_0 = look_knowing_0;
+    started_1 = look_started_1;
+    promised_1 = look_promised_1;
+    voted_1 = look_voted_1;
     start_0 = started_0;
     start_1 = started_1;
     connect = connect_0;

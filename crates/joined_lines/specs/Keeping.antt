@@ -10,5 +10,5 @@ use Rattle.joined_lines.specs.Serving.{IsServerOf}
 module _ {D : Type 0} (g : Ghosts D) where
   -- what is asked of a server holds behind each start and each turn, where it held before; and what was a server of the process by then still is one
   pub record TurnsKeepServers : Type 0 where
-    pub behind : (taken : List Incoming) (old new : Served (Node D)) → GoesOn g taken old new → IsServerOf g old.look old → IsServerOf g new.look new
-    pub before : (taken : List Incoming) (served old new : Served (Node D)) → GoesOn g taken old new → IsServerOf g old.look served → IsServerOf g new.look served
+    pub behind : (taken : List Incoming) (old new : Served (Node D)) → GoesOn g taken old new → IsServerOf old.look old → IsServerOf new.look new
+    pub before : (taken : List Incoming) (served old new : Served (Node D)) → GoesOn g taken old new → IsServerOf old.look served → IsServerOf new.look served

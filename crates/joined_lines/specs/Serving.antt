@@ -3,12 +3,12 @@ use Rattle.std.specs.Prelude.{◌≡◌, ◌⊎◌, ℕ, ◌<◌, List, [], ◌+
 use Rattle.std.proofs.Common.{get_or}
 use Rattle.std.specs.List.{AllByRecursion}
 use Rattle.promise_store.specs.declared.disk.Disk.{Ghosts}
+use Rattle.slot_log.specs.Beginnings.{IsBeginning}
 use Rattle.dealer_kind.specs.Kind.{Setting}
 use Rattle.dealer_kind.specs.Plans.{Plan, IsPlan}
 use Rattle.dealer_kind.specs.declared.source.Source.{Source}
 use Rattle.node_rules.specs.Standings.{place_of}
 use Rattle.dealer_node.specs.Nodes.{Node}
-use Rattle.dealer_node.specs.Seeing.{begun_of}
 use Rattle.dealer_world.specs.RuleRuns.{plan_of}
 use Rattle.stations.specs.Deeds.{Deed, Doing}
 use Rattle.stations.specs.Joining.{IsTrueOrder, AreProcesses}
@@ -24,19 +24,16 @@ use Rattle.joined_lines.specs.Chosen.{IsByChosen}
 use Rattle.joined_lines.specs.Coming.{SeatRelay, BotConnection, HaveLines}
 use Rattle.joined_lines.specs.Processes.{IsProcessOf, AreStations}
 
+-- ---- the premises on servers
+
+-- the server of a process at some moment: the tables that its node had by then are the first of those that it had in all; its bots were told lines off these alone, and
+-- what crossed its wires is what they were told
+pub record IsServerOf {N : Type 0} (look : Look N) (served : Served N) : Type 0 where
+  pub moments : IsBeginning served.look.moments look.moments
+  pub bots : AreBotsOf served.look served.bots
+  pub carries : Carries served
+
 module _ {D : Type 0} (g : Ghosts D) where
-  -- ---- the premises on servers
-
-  -- the server of a process at some moment: its bots were told lines off tables of its node alone, and what crossed its wires is what they were told
-  pub record IsServerOf (look : Look (Node D)) (served : Served (Node D)) : Type 0 where
-    pub config : look.config ≡ served.look.config
-    pub number : look.number ≡ served.look.number
-    pub begun : begun_of g look.node ≡ begun_of g served.look.node
-    pub since : List Deed
-    pub deeds : look.deeds ≡ since ++ served.look.deeds
-    pub bots : AreBotsOf g served.look served.bots
-    pub carries : Carries served
-
   -- the server of one of the match's processes had written this first, by some moment, to the bot that sat at this seat then
   pub record IsOfServer (plan : Plan) (stations : List (Option (Look (Node D)))) (had : HaveIncarnations g plan stations) (seat : ℕ) (came : List ℕ) : Type 0 where
     pub node : ℕ

@@ -109,7 +109,7 @@ module _ {D : Type 0} (g : Ghosts D) where
   once_well started first (inr failed) well = let never : true ≡ false = sym well ∙ failed.0 in absurd (cc)
 
   pub writes_accepted : (old started new : Served (Node D)) (first : Outcome) (answer : Result (Unit {0}) NodeEnd) → WentOn g [] old new → GoesOnTo g started new → IsAcceptedOver g new.look → IsBegun first started
-      → OnOk answer (is_well first ≡ true) → OnOk answer (new.log_failed ≡ false) → OnOk answer (IsOverAt g new.look.node) → IsFresh old.look → IsTrue g.is_honest → (before : List Deed) → IsLeftBy g old before
+      → OnOk answer (is_well first ≡ true) → OnOk answer (new.log_failed ≡ false) → OnOk answer (IsOverAt new.look.node) → IsFresh old.look → IsTrue g.is_honest → (before : List Deed) → IsLeftBy g old before
       → OnOk answer (WritesAcceptedLog old new)
   writes_accepted old started new first (Ok done) goes onwards law begun well log over fresh honest before left = record {
     text = shown_log new.look.deeds;

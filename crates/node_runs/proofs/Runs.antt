@@ -35,7 +35,7 @@ use Rattle.node_runs.specs.WaitingNotes.{Holds, TakesCount, TakesOne, newest_of,
 use Rattle.node_runs.specs.declared.note_limits.Count.{Count}
 use Rattle.node_runs.specs.declared.waiting_notes.WaitingNotes.{WaitingNotes}
 use Rattle.node_runs.specs.Running as run
-use Rattle.node_runs.specs.Running.{Turns, Tells, TellsOne, HasFirstReason, HasLife, EndsBy, IsOneTurn, later_lines, begin_line, Went, Ran, GoesOnTo, end_of, by_fault, by_turn, unkept, by_count}
+use Rattle.node_runs.specs.Running.{Turns, Tells, TellsOne, HasFirstReason, HasLife, EndsBy, IsStart, IsOneTurn, later_lines, begin_line, Went, Ran, GoesOnTo, end_of, by_fault, by_turn, unkept, by_count}
 use Rattle.node_runs.specs.declared.node_end.NodeEnd.{NodeEnd}
 
 -- what is told at a node goes by its match and its number alone
@@ -145,13 +145,13 @@ module _ {D W : Type 0} {disk : Ghosts D} {wire : OfWire W} where
     pub number : (served_of now).look.number ≡ (served_of started).look.number
     pub whole : GoesOnTo disk (served_of started) (served_of now)
     pub log : is_well outcome ≡ true → (served_of now).log_failed ≡ false
-    pub over : outcome ≡ leaves.Over → IsOverAt disk (served_of now).look.node
+    pub over : outcome ≡ leaves.Over → IsOverAt (served_of now).look.node
     pub shown : AreShown (served_of now).own (served_of now).lines told
     pub further : outcome ≡ leaves.GoesOn → outcome_in now ≡ leaves.GoesOn
 
   module _ {K : Type 0} (kept : K → ℕ → Life → K → Type 0) (port : ℕ) (started : NodeServer D W disk wire) (first : Outcome) (start : Option (List ℕ)) (lives_first : K) where
     -- nothing is done yet
-    pub begun : (notes : WaitingNotes) → Holds [] [] [] notes → notes.limits.clock ≡ started.left → (is_well first ≡ true → (served_of started).log_failed ≡ false) → (first ≡ leaves.Over → IsOverAt disk (served_of started).look.node)
+    pub begun : (notes : WaitingNotes) → Holds [] [] [] notes → notes.limits.clock ≡ started.left → (is_well first ≡ true → (served_of started).log_failed ≡ false) → (first ≡ leaves.Over → IsOverAt (served_of started).look.node)
         → (first ≡ leaves.GoesOn → outcome_in started ≡ leaves.GoesOn) → SoFar kept port started first start lives_first started first 0 start lives_first notes
     begun notes holds clock log over further = record {
       count = 0;
@@ -202,7 +202,7 @@ module _ {D W : Type 0} {disk : Ghosts D} {wire : OfWire W} where
           number = ap (λ (s : Served (Node D)). s.look.number) same ∙ so.number;
           whole = λ before goes. subst (λ (s : Served (Node D)). WentOn disk [] before s) (sym same) (so.whole before goes);
           log = λ well. ap (λ (s : Served (Node D)). s.log_failed) same ∙ so.log well;
-          over = λ ends. subst (λ (s : Served (Node D)). IsOverAt disk s.look.node) (sym same) (so.over ends);
+          over = λ ends. subst (λ (s : Served (Node D)). IsOverAt s.look.node) (sym same) (so.over ends);
           shown = subst (λ (s : Served (Node D)). AreShown s.own s.lines (so.told ++ thing ∷ [])) (sym same)
               (law.and_one (served_of now).own (served_of now).lines so.told thing so.shown shown);
           further = λ on. stays ∙ so.further on;
@@ -213,12 +213,10 @@ module _ {D W : Type 0} {disk : Ghosts D} {wire : OfWire W} where
         (away : ℕ)
         → SoFar kept port started first start lives_first now before steps held lives notes → TellsLater (served_of next).look port (max notes.limits.clock next.left) notes notes_due held between
         → notes_due.limits.clock ≡ max notes.limits.clock next.left → TurnsAway (served_of next).look port away notes_due notes_after between held_after → notes_after.limits.clock ≡ notes_due.limits.clock → end_of before ≡ None → told_in now ≡ [] → served_of emptied ≡ served_of now
-        → IsOneTurn disk (served_of emptied) (served_of next) outcome → (is_well outcome ≡ true → (served_of next).log_failed ≡ false)
-        → (outcome ≡ leaves.Over → IsOverAt disk (served_of next).look.node)
-        → outcome_in emptied ≡ outcome_in now → (outcome ≡ leaves.GoesOn → outcome_in next ≡ leaves.GoesOn) → (outcome_in emptied ≡ leaves.GoesOn → outcome ≡ leaves.Over → IsKnownEverywhere next next.left)
+        → IsOneTurn disk (served_of emptied) (served_of next) outcome → outcome_in emptied ≡ outcome_in now → (outcome ≡ leaves.GoesOn → outcome_in next ≡ leaves.GoesOn) → (outcome_in emptied ≡ leaves.GoesOn → outcome ≡ leaves.Over → IsKnownEverywhere next next.left)
         → (outcome_in emptied ≡ leaves.GoesOn → IsFault outcome → IsMeant next outcome) → (outcome ≡ leaves.Over → ending_in next ≡ leaves.GoesOn)
         → SoFar kept port started first start lives_first next outcome (steps + 1) held_after lives notes_after
-    turned law shown now emptied next before outcome steps held between held_after lives notes notes_due notes_after away so later due_at turns_away away_at on is same goes log over stays further known fault behind =
+    turned law shown now emptied next before outcome steps held between held_after lives notes notes_due notes_after away so later due_at turns_away away_at on is same goes stays further known fault behind =
         let going : outcome_in emptied ≡ leaves.GoesOn = stays ∙ so.further (goes_on_only before on) in
         let turn : IsOneTurn disk (served_of now) (served_of next) outcome = subst (λ (s : Served (Node D)). IsOneTurn disk s (served_of next) outcome) same goes in
         let onwards : WentOn disk [] (served_of now) (served_of next) = turn.goes in
@@ -244,7 +242,7 @@ module _ {D W : Type 0} {disk : Ghosts D} {wire : OfWire W} where
               (subst (λ (o : Outcome). Turns started first so.count so.moments so.told o so.last) (goes_on_only before on)
               (subst (λ (l : List ServerNotice). Turns started first so.count so.moments l before so.last) (append-nil so.told)
               (subst (λ (l : List ServerNotice). Turns started first so.count so.moments (so.told ++ l) before so.last) is so.turns)))
-              (subst (λ (s : Served (Node D)). IsOneTurn disk s (served_of next) outcome) so.served turn) (record { known = known going; fault = fault going; behind = behind });
+              (subst (λ (s : Served (Node D)). IsOneTurn disk s (served_of next) outcome) so.served turn) (record { known = known going; fault = fault going; behind = behind; further = further });
           served = refl;
           noted = then.noted;
           holds = then.holds;
@@ -253,8 +251,8 @@ module _ {D W : Type 0} {disk : Ghosts D} {wire : OfWire W} where
           config = config;
           number = number;
           whole = λ earlier going. law [] earlier (served_of now) (served_of next) (so.whole earlier going) onwards;
-          log = log;
-          over = over;
+          log = turn.left.log;
+          over = turn.over;
           shown = shown.on (served_of now).own (served_of next).own (served_of now).lines (served_of next).lines so.told onwards.hears so.shown;
           further = further;
         }
@@ -348,10 +346,10 @@ module _ {D W : Type 0} {disk : Ghosts D} {wire : OfWire W} where
 
   -- the whole run: the start, the turns, and what waited then
   pub ran : {K : Type 0} (kept : K → ℕ → Life → K → Type 0) (port at there : ℕ) (old started new : NodeServer D W disk wire) (first : Outcome) (answer : Result (Unit {0}) NodeEnd)
-      (held between behind held_after : Option (List ℕ)) (lives lives_after : K) (notes : WaitingNotes) → WentOn disk [] (served_of old) (served_of started) → (outcome_in old ≡ leaves.GoesOn → HasFirstReason started first)
-      → IsNoted (begin_line (served_of started).look) held between → at ≡ port → there ≡ at → Went kept at started first answer new between behind lives lives_after notes
+      (held between behind held_after : Option (List ℕ)) (lives lives_after : K) (notes : WaitingNotes) → IsStart disk (served_of old) (served_of started) first → (outcome_in old ≡ leaves.GoesOn → HasFirstReason started first)
+      → ((outcome_in old ≡ leaves.GoesOn → ⊥) → started ≡ old) → IsNoted (begin_line (served_of started).look) held between → at ≡ port → there ≡ at → Went kept at started first answer new between behind lives lives_after notes
       → GoesOnTo disk (served_of started) (served_of new) → TellsRest (served_of new).look there notes behind held_after → Ran kept port old answer new held held_after lives lives_after
-  ran kept port at there old started new first answer held between behind held_after lives lives_after notes begins left begun is same went goes tells =
+  ran kept port at there old started new first answer held between behind held_after lives lives_after notes begins left still begun is same went goes tells =
       let onwards : WentOn disk [] (served_of started) (served_of new) = goes (served_of started) (nothing_done (served_of started)) in
       let here : TellsRest (served_of new).look at notes behind held_after = subst (λ (p : ℕ). TellsRest (served_of new).look p notes behind held_after) same tells in
       let rest = here went.told went.came went.lines went.holds in
@@ -361,6 +359,7 @@ module _ {D W : Type 0} {disk : Ghosts D} {wire : OfWire W} where
         first = first;
         begins = begins;
         left = left;
+        still = still;
         between = between;
         begun = begun;
         behind = behind;

@@ -1,10 +1,10 @@
 -- What a node's process does with its server, turn after turn, and what it tells.
-use Rattle.std.specs.Prelude.{◌≡◌, ◌⊎◌, ℕ, ◌+◌, ◌-◌, ◌^◌, Bool, cond, List, [], ◌∷◌, ◌++◌, Option, Some, None, Result, Ok, Err, length}
+use Rattle.std.specs.Prelude.{◌≡◌, ◌⊎◌, ℕ, ◌+◌, ◌-◌, ◌^◌, Bool, true, false, cond, List, [], ◌∷◌, ◌++◌, Option, Some, None, Result, Ok, Err, length}
 use Rattle.promise_store.specs.declared.disk.Disk.{Ghosts}
 use Rattle.node_wires.specs.declared.wire.Wire.{Ghosts as OfWire}
 use Rattle.peer_codes.specs.declared.hello.Life.{Life}
 use Rattle.dealer_node.specs.Nodes.{Node}
-use Rattle.dealer_node.specs.Seeing.{front_in}
+use Rattle.dealer_node.specs.Seeing.{front_in, runs}
 use Rattle.dealer_node.specs.declared.fault.NodeFault.{NodeFault}
 use Rattle.dealer_node.specs.declared.fault.NodeFault.TheVariants.{Spent}
 use Rattle.stations.specs.Stations.{Look}
@@ -12,11 +12,11 @@ use Rattle.operator_notes.specs.Notes.{IsNoted, AreNoted}
 use Rattle.node_links.specs.declared.own.Own.{Own}
 use Rattle.node_wires.specs.Passages.{Passage}
 use Rattle.node_service.specs.Company.{IsShown, AreShown}
-use Rattle.node_service.specs.Going.{GoesOn as WentOn, GoesOnWith, GoesOnToLife}
+use Rattle.node_service.specs.Going.{GoesOn as WentOn, GoesOnWith, GoesOnToLife, Does}
 use Rattle.node_service.specs.Turns.{IsTurnOf}
 use Rattle.node_service.specs.Bots.{AreServed}
 use Rattle.node_service.specs.Served.{Served}
-use Rattle.node_service.specs.Ending.{IsFault}
+use Rattle.node_service.specs.Ending.{is_well, IsFault, IsOverAt}
 use Rattle.node_service.specs.Meaning.{IsMeant, IsKnownEverywhere}
 use Rattle.node_service.specs.Serving.{served_of, told_in, outcome_in, ending_in}
 use Rattle.node_service.specs.declared.outcome.Outcome.{Outcome}
@@ -111,12 +111,24 @@ StopsAtLife own lines waiting told =
 -- ---- turns
 
 module _ {D : Type 0} (disk : Ghosts D) where
-  -- what one turn comes to: it takes what one may take, and nothing of peers behind a life that is to be kept; where a further one comes each bot was told all lines that it may be told
+  -- it left this to do: where that is no fault its node runs, and all text of its log was written
+  pub record IsLeft (next : Served (Node D)) (outcome : Outcome) : Type 0 where
+    pub log : is_well outcome ≡ true → next.log_failed ≡ false
+    pub up : is_well outcome ≡ true → runs next.look.node ≡ true
+
+  -- what the start comes to: nothing comes in it
+  pub record IsStart (before next : Served (Node D)) (outcome : Outcome) : Type 0 where
+    pub goes : Does disk [] before next
+    pub left : IsLeft next outcome
+
+  -- what one turn comes to: it takes what one may take, and nothing of peers behind a life that is to be kept; where it says that the match is over it is; and where a further one comes each bot was told all lines that it may be told
   pub record IsOneTurn (before next : Served (Node D)) (outcome : Outcome) : Type 0 where
     pub goes : WentOn disk [] before next
     pub lives : GoesOnToLife disk before next
     pub takes : GoesOnWith disk (IsTurnOf before.bots) before next
-    pub served : outcome ≡ leaves.GoesOn → AreServed disk next.look next.bots
+    pub left : IsLeft next outcome
+    pub over : outcome ≡ leaves.Over → IsOverAt next.look.node
+    pub served : outcome ≡ leaves.GoesOn → AreServed next.look next.bots
 
   -- what goes on up to the one goes on up to the other
   abbrev pub GoesOnTo : Served (Node D) → Served (Node D) → Type 0
@@ -127,13 +139,15 @@ module _ {D W : Type 0} {disk : Ghosts D} {wire : OfWire W} where
   pub record HasReason (next : NodeServer D W disk wire) (outcome : Outcome) : Type 0 where
     pub known : outcome ≡ leaves.Over → IsKnownEverywhere next next.left
     pub fault : IsFault outcome → IsMeant next outcome
-    -- it is over only where nothing else ends the process
+    -- it is over only where nothing else ends the process, and a further one comes only where nothing does
     pub behind : outcome ≡ leaves.Over → ending_in next ≡ leaves.GoesOn
+    pub further : outcome ≡ leaves.GoesOn → outcome_in next ≡ leaves.GoesOn
 
   -- and what a start left to do: by it no match is over
   pub record HasFirstReason (started : NodeServer D W disk wire) (first : Outcome) : Type 0 where
     pub known : first ≡ leaves.Over → ⊥
     pub fault : IsFault first → IsMeant started first
+    pub further : first ≡ leaves.GoesOn → outcome_in started ≡ leaves.GoesOn
 
   -- so many turns after one another since the node was started, which left this to do: when each was left, all that start and turns had to tell, and what the last turn left to do
   pub data Turns (started : NodeServer D W disk wire) (first : Outcome) : ℕ → (moments : List ℕ) → List ServerNotice → Outcome → NodeServer D W disk wire → Type 0 where
@@ -167,8 +181,10 @@ module _ {D W : Type 0} {disk : Ghosts D} {wire : OfWire W} where
       (held held_after : Option (List ℕ)) (lives lives_after : K) : Type 0 where
     pub started : NodeServer D W disk wire
     pub first : Outcome
-    pub begins : WentOn disk [] (served_of old) (served_of started)
+    pub begins : IsStart disk (served_of old) (served_of started) first
     pub left : outcome_in old ≡ leaves.GoesOn → HasFirstReason started first
+    -- a process that was to end before is as it was
+    pub still : (outcome_in old ≡ leaves.GoesOn → ⊥) → started ≡ old
     pub between : Option (List ℕ)
     pub begun : IsNoted (begin_line (served_of started).look) held between
     pub behind : Option (List ℕ)

@@ -56,7 +56,7 @@ pub fn node_run<D: Disk + Drop, W: Wire + Drop, L: LifeKeeper, P: PromiseKeeper,
     ensures ran { Ran L.kept port server.old result server.new (N.contents notes.old) (N.contents notes.new) lives.old lives.new }
     ensures whole { GoesOn D.Disk [] (served_of server.old) (served_of server.new) }
     ensures log { OnOk result ((served_of server.new).log_failed ≡ false) }
-    ensures over { OnOk result (IsOverAt D.Disk (look_in server.new).node) }
+    ensures over { OnOk result (IsOverAt (look_in server.new).node) }
     ensures one_log { IsFresh (look_in server.old) → IsTrue D.is_honest → (before : List Deed) → IsLeftBy D.Disk (served_of server.old) before → WritesItsLog D.Disk (served_of server.old) (served_of server.new) }
     ensures accepted { IsFresh (look_in server.old) → IsTrue D.is_honest → (before : List Deed) → IsLeftBy D.Disk (served_of server.old) before → OnOk result (WritesAcceptedLog (served_of server.old) (served_of server.new)) }
 {
@@ -83,13 +83,13 @@ fn take_turns<D: Disk + Drop, W: Wire + Drop, L: LifeKeeper, P: PromiseKeeper, N
     requires holds { Holds [] [] [] teller.old.waiting }
     requires clock { teller.old.waiting.limits.clock ≡ server.old.left }
     requires log { is_well first ≡ true → (served_of server.old).log_failed ≡ false }
-    requires over { first ≡ IsOver → IsOverAt D.Disk (look_in server.old).node }
+    requires over { first ≡ IsOver → IsOverAt (look_in server.old).node }
     requires further { first ≡ Further → outcome_in server.old ≡ Further }
     ensures went { Went L.kept teller.old.port server.old first result server.new (N.contents notes.old) (N.contents notes.new) lives.old lives.new teller.new.waiting }
     ensures port { teller.new.port ≡ teller.old.port }
     ensures whole { GoesOnTo D.Disk (served_of server.old) (served_of server.new) }
     ensures log { OnOk result ((served_of server.new).log_failed ≡ false) }
-    ensures over { OnOk result (IsOverAt D.Disk (look_in server.new).node) }
+    ensures over { OnOk result (IsOverAt (look_in server.new).node) }
 {
     turns_are_one::<D>();
     lives_stay_shown();

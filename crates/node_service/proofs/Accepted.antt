@@ -19,10 +19,11 @@ use Rattle.node_rules.specs.Standings.{Standing, applied, Place}
 use Rattle.dealer_node.specs.Nodes.{Node}
 use Rattle.dealer_node.specs.Members.{place_at}
 use Rattle.dealer_node.specs.Scenes.{IsTableOf}
-use Rattle.dealer_node.specs.Seeing.{IsSeen, IsSeenBy, member_in}
+use Rattle.dealer_node.specs.Seeing.{IsSeenBy, member_in, table_in}
 use Rattle.dealer_node.specs.declared.up.Up.{Up}
 use Rattle.stations.specs.Stations.{Look, Has, known_place}
 use Rattle.node_service.specs.Showing.{shown_log}
+use Rattle.stations.proofs.OwnTables.{has_its_table}
 use Rattle.node_service.specs.Logging.{HasOneLog, IsAcceptedOver, ShowsOneLog}
 use Rattle.node_service.proofs.Accepting.{accepted}
 
@@ -56,19 +57,34 @@ table_accepted law setting commands table within there over =
     (subst (AllByRecursion (λ (hand : Hand). IsDeal table.game.players hand.deal)) there.is.hands there.fair) in
     accepted law setting commands within hands fair over
 
+-- where it is over by its table, it is by these commands
+over_by : (setting : Setting) (commands : List Command) (table : Match) → IsTableOf setting commands table → is_match_over table.game table.count table.hands ≡ true
+    → is_match_over setting.game setting.title.hands (hands_after setting commands) ≡ true
+over_by setting commands table is over =
+    subst (λ (hands : List Hand). is_match_over setting.game setting.title.hands hands ≡ true) is.hands
+    (subst (λ (count : ℕ). is_match_over setting.game count table.hands ≡ true) is.count
+    (subst (λ (game : Game). is_match_over game table.count table.hands ≡ true) is.game over))
+
 pub is_accepted : {D : Type 0} (g : Ghosts D) → HandsComeOfCommands → (look : Look (Node D)) (table : Match) → Has g look → IsSetting look.config.setting → HasOneLog g look
-    → ((s : Standing) → IsSeen g look.node s → IsTableOf (member_in look.node).setting (applied s) table) → AreHands table.game table.count table.hands
+    → table ≡ table_in look.node → AreHands table.game table.count table.hands
     → AllByRecursion (λ (hand : Hand). IsDeal table.game.players hand.deal) table.hands → IsAcceptedOver g look
-is_accepted {D} g law look table has within one_log seen hands fair once honest before left over =
+is_accepted {D} g law look table has within one_log same hands fair once honest before left over =
     ∥∥₁_elim has.at_place (hlevel) (λ (placed : place_at (member_in look.node) ≡ known_place look).
     ∥∥₁_map (one_log once honest before left) (λ (one : ShowsOneLog g look). by_log (ap (λ (p : Place). p.setting) placed) one (up_by g look.node look.node.up look.node.disk one.s one.seen.by)))
   where
-    by_log : (member_in look.node).setting ≡ look.config.setting → (one : ShowsOneLog g look) → (one.s.up ≡ true) ⊎ (applied one.s ≡ []) → IsMatchLog look.config.setting.game (shown_log look.deeds)
+    setting_of : Setting
+    setting_of = look.config.setting
+
+    is_table : (member_in look.node).setting ≡ setting_of → (one : ShowsOneLog g look) → IsTableOf setting_of (applied one.s) (table_in look.node)
+    is_table setting one = subst (λ (st : Setting). IsTableOf st (applied one.s) (table_in look.node)) setting (has_its_table g look.node one.s one.seen)
+
+    by_log : (member_in look.node).setting ≡ setting_of → (one : ShowsOneLog g look) → (one.s.up ≡ true) ⊎ (applied one.s ≡ []) → IsMatchLog setting_of.game (shown_log look.deeds)
     by_log setting one (inl up) =
-        subst (IsMatchLog look.config.setting.game) (sym (one.log.log ∙ ap (log_of look.config.setting) (one.log.applied up)))
-        (table_accepted law look.config.setting (applied one.s) table within
-        (record { is = subst (λ (st : Setting). IsTableOf st (applied one.s) table) setting (seen one.s one.seen); hands = hands; fair = fair })
-        (subst (λ (st : Setting). is_match_over st.game st.title.hands (hands_after st (applied one.s)) ≡ true) setting (over one.s one.seen)))
+        subst (IsMatchLog setting_of.game) (sym (one.log.log ∙ ap (log_of setting_of) (one.log.applied up)))
+        (table_accepted law setting_of (applied one.s) table within
+        (record { is = subst (IsTableOf setting_of (applied one.s)) (sym same) (is_table setting one); hands = hands; fair = fair })
+        (over_by setting_of (applied one.s) (table_in look.node) (is_table setting one) over))
     by_log setting one (inr none) =
-        absurd (not_over (member_in look.node).setting (subst (λ (st : Setting). 1 ≤ st.title.hands) (sym setting) within.least)
-        (subst (λ (m : List Command). is_match_over (member_in look.node).setting.game (member_in look.node).setting.title.hands (hands_after (member_in look.node).setting m) ≡ true) none (over one.s one.seen)))
+        absurd (not_over setting_of within.least
+        (subst (λ (m : List Command). is_match_over setting_of.game setting_of.title.hands (hands_after setting_of m) ≡ true) none
+        (over_by setting_of (applied one.s) (table_in look.node) (is_table setting one) over)))

@@ -1,6 +1,8 @@
 -- Definitions on values, each beside a near miss.
-use Rattle.std.proofs.Common.{◌≡◌, ℕ, ◌+◌, ◌≤◌, ◌==◌, if◌then◌else◌, Bool, true, false, List, [], ◌∷◌, ◌++◌, length, Some, None, inl, inr, refl, sym, ap, ◌∙◌, subst, arith}
+use Rattle.std.proofs.Common.{◌≡◌, ◌≢◌, ℕ, ◌+◌, ◌≤◌, ◌==◌, if◌then◌else◌, Bool, true, false, List, [], ◌∷◌, ◌++◌, length, take, Some, None, inl, inr, refl, sym, ap, ◌∙◌, subst, arith}
+use Rattle.std.proofs.lemmas.List.{length-append}
 use Rattle.protocol_model.specs.Dealers.{Seat, Log}
+use Rattle.protocol_model.specs.Sets.{In}
 use Rattle.node_wires.specs.declared.line.Line.TheVariants as line
 use Rattle.node_wires.specs.Passages.{Began, Came as PieceCame, Wrote, Called, calls_in}
 use Rattle.dealer_world.specs.Records.{Delivered, Came, Connected}
@@ -32,6 +34,7 @@ use Rattle.line_cursor.specs.declared.cursor.Cursor.{Cursor}
 use Rattle.promise_store.specs.declared.disk.Disk.{Ghosts}
 use Rattle.slot_log.specs.Hand.{Match}
 use Rattle.dealer_node.specs.Nodes.{Node}
+use Rattle.stations.specs.Moments.{Moment}
 use Rattle.stations.specs.Stations.{Look}
 use Rattle.node_seats.specs.declared.bot.Bot.{Bot}
 use Rattle.node_seats.specs.declared.bot.Parting.TheVariants.{Other}
@@ -287,18 +290,40 @@ not_begun_elsewhere had = other_hand (sym (ap (λ (c : Cursor). c.hand) had.1))
 not_parted_before : HadParted newcomer (record newcomer { parting = Some Other }) → ⊥
 not_parted_before had = let told : None ≡ Some Other = had.1 in absurd (cc)
 
-module _ {D : Type 0} (g : Ghosts D) where
+module _ {N : Type 0} where
   -- where each table since has these two hands, the newest line isn't the first
-  not_at_the_first : (first : List Deed) (look : Look (Node D)) (seat : ℕ) → ((table : Match) → HadTableSince g first look table → table.hands ≡ two_hands) → BeginsSince g first look seat silent at_the_first (Some from_the_first) → ⊥
+  not_at_the_first : (first : List Moment) (look : Look N) (seat : ℕ) → ((table : Match) → HadTableSince first look table → table.hands ≡ two_hands) → BeginsSince first look seat silent at_the_first (Some from_the_first) → ⊥
   not_at_the_first first look seat all (inl had) = not_begun_before had
   not_at_the_first first look seat all (inr (table, (had, starts))) =
       other_hand (ap (λ (c : Cursor). c.hand) starts ∙ ap (λ (hands : List Hand). (newest_place hands).hand) (all table had))
 
   -- where each has the line that it named, it isn't told that this is none
-  not_refused : (first : List Deed) (look : Look (Node D)) (seat : ℕ) (old new : Bot) → old.parting ≡ None → new.words.asked ≡ asks.Line
-      → ((table : Match) → HadTableSince g first look table → IsRefusedBy table seat asks.Line new.words.named → ⊥) → PartsSince g first look seat old new (Some Other) → ⊥
+  not_refused : (first : List Moment) (look : Look N) (seat : ℕ) (old new : Bot) → old.parting ≡ None → new.words.asked ≡ asks.Line
+      → ((table : Match) → HadTableSince first look table → IsRefusedBy table seat asks.Line new.words.named → ⊥) → PartsSince first look seat old new (Some Other) → ⊥
   not_refused first look seat old new none named all (inl had) = let told : None ≡ Some Other = sym none ∙ had.1 in absurd (cc)
   not_refused first look seat old new none named all (inr (table, (had, refused))) = all table had (subst (λ (a : Asked). IsRefusedBy table seat a new.words.named) named refused)
+
+-- of a node that had had two tables when a turn began the newer counts in it, and not the older
+module _ {N : Type 0} (look : Look N) (newer older : Moment) (both : look.moments ≡ newer ∷ older ∷ []) where
+  the_table_of_its_beginning : HadTableSince look.moments look newer.table
+  the_table_of_its_beginning = record {
+    since = [];
+    moments = refl;
+    moment = newer;
+    was = subst (λ (moments : List Moment). In newer (take 1 moments)) (sym both) (inl refl);
+    table_is = refl;
+  }
+
+  none_before : (since : List Moment) (moment : Moment) → look.moments ≡ since ++ look.moments → In moment (since ++ take 1 look.moments) → moment.table ≡ older.table → older.table ≢ newer.table → ⊥
+  none_before [] moment same there is other = elim (subst (λ (moments : List Moment). In moment (take 1 moments)) both there) as (λ _. ⊥) [
+    | inl now ↦ other (sym is ∙ ap (λ (m : Moment). m.table) now)
+    | inr none ↦ absurd none
+  ]
+  none_before (later ∷ since) moment same there is other =
+      let longer = ap length same ∙ length-append (later ∷ since) look.moments in omega (arith, longer)
+
+  a_table_before_it_began : older.table ≢ newer.table → HadTableSince look.moments look older.table → ⊥
+  a_table_before_it_began other had = none_before had.since had.moment had.moments had.was had.table_is other
 
 -- ---- who comes in a turn
 

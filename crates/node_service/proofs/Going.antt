@@ -30,6 +30,7 @@ use Rattle.node_service.specs.Turns.{AreFrames, ComeOfPeers}
 use Rattle.node_service.specs.declared.taking.Taken.{Taken}
 use Rattle.node_service.specs.declared.taking.Taken.TheVariants as kind
 use Rattle.node_service.proofs.Asking.{gives_on, none_gives_on}
+use Rattle.stations.proofs.OwnTables.{beginning_on}
 use Rattle.node_service.proofs.Bots.{LooksOn, as_before, keep_on, bots_still}
 use Rattle.node_service.proofs.Calls.{and_none, calls_on}
 use Rattle.node_service.proofs.Crossing.{heard_both, heard_further}
@@ -71,11 +72,11 @@ taken_fits {N} taken old new look seats loosened fits = (
 )
 
 module _ {D : Type 0} {g : Ghosts D} where
-  pub looks_on : {taken : List Incoming} {old new : Served (Node D)} → GoesOn g taken old new → LooksOn g old.look new.look
-  looks_on goes = record { config = goes.config; number = goes.number; begun = goes.begun; since = goes.since; deeds = goes.deeds }
+  pub looks_on : {taken : List Incoming} {old new : Served (Node D)} → GoesOn g taken old new → LooksOn old.look new.look
+  looks_on goes = goes.moments
 
   -- where nothing is done
-  unfoldable pub still : (old new : Served (Node D)) → new.look ≡ old.look → new.log_failed ≡ old.log_failed → new.sent ≡ old.sent → KeepBots g old.look new.look old.bots new.bots → new.heard ≡ old.heard → logged_in new.passed ≡ logged_in old.passed → seats_in new.passed ≡ seats_in old.passed → calls_in new.passed ≡ calls_in old.passed
+  unfoldable pub still : (old new : Served (Node D)) → new.look ≡ old.look → new.log_failed ≡ old.log_failed → new.sent ≡ old.sent → KeepBots old.look new.look old.bots new.bots → new.heard ≡ old.heard → logged_in new.passed ≡ logged_in old.passed → seats_in new.passed ≡ seats_in old.passed → calls_in new.passed ≡ calls_in old.passed
       → Loosens old.sittings new.sittings → Hears old.own new.own old.lines new.lines → GivesOnly (IsReply new.look) old.askers new.askers → (Carries old → Carries new) → new.started ≡ old.started → new.terms ≡ old.terms → new.guests ≡ old.guests → PutsOffApart old.apart new.apart old.bots new.bots → SatBefore old.bots new.bots → GoesOn g [] old new
   still old new look log_failed sent bots heard log seats calls loosened hears asked carried started terms guests waits sat = record {
     config = ap (λ (l : Look (Node D)). l.config) look;
@@ -84,6 +85,7 @@ module _ {D : Type 0} {g : Ghosts D} where
     terms = terms;
     since = [];
     deeds = ap (λ (l : Look (Node D)). l.deeds) look;
+    moments = as_before old.look new.look look;
     calls = and_none (calls_in old.passed) (calls_in new.passed) calls;
     log = subst (λ (b : Bool). LogGains old.log_failed b [] (logged_in old.passed) (logged_in new.passed)) (sym log_failed)
         (subst (λ (m : List ℕ). LogGains old.log_failed old.log_failed [] (logged_in old.passed) m) (sym log) (nothing_shown old.log_failed (logged_in old.passed)));
@@ -114,6 +116,7 @@ module _ {D : Type 0} {g : Ghosts D} where
     terms = then_on.terms ∙ first.terms;
     since = then_on.since ++ first.since;
     deeds = then_on.deeds ∙ (ap (λ (m : List Deed). then_on.since ++ m) first.deeds ∙ sym (append_assoc then_on.since first.since one.look.deeds));
+    moments = beginning_on one.look.moments two.look.moments three.look.moments first.moments then_on.moments;
     calls = calls_on (calls_in one.passed) (calls_in two.passed) (calls_in three.passed) first.since then_on.since first.calls then_on.calls;
     log = subst (λ (m : List ℕ). LogGains one.log_failed three.log_failed m (logged_in one.passed) (logged_in three.passed)) (sym (shown_by_both then_on.since first.since))
         (shown_on one.log_failed two.log_failed three.log_failed (shown_log first.since) (shown_log then_on.since) (logged_in one.passed) (logged_in two.passed) (logged_in three.passed)
@@ -150,6 +153,7 @@ module _ {D : Type 0} {g : Ghosts D} where
     terms = then_on.terms ∙ takes.terms;
     since = then_on.since;
     deeds = then_on.deeds ∙ ap (λ (l : Look (Node D)). then_on.since ++ l.deeds) takes.look;
+    moments = beginning_on one.look.moments two.look.moments three.look.moments (as_before one.look two.look takes.look) then_on.moments;
     calls = then_on.calls ∙ ap (λ (n : ℕ). n + length then_on.since) takes.calls;
     log = subst (λ (b : Bool). LogGains b three.log_failed (shown_log then_on.since) (logged_in one.passed) (logged_in three.passed)) takes.log_failed
         (subst (λ (m : List ℕ). LogGains two.log_failed three.log_failed (shown_log then_on.since) m (logged_in three.passed)) takes.log then_on.log);
@@ -182,6 +186,7 @@ module _ {D : Type 0} {g : Ghosts D} where
     terms = goes.terms;
     since = goes.since;
     deeds = goes.deeds;
+    moments = goes.moments;
     calls = goes.calls;
     log = goes.log;
     sent = goes.sent;

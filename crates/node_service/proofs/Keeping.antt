@@ -45,6 +45,7 @@ use Rattle.node_service.proofs.Apartness.{waits_same, waits_still, waits_on}
 use Rattle.node_service.specs.Calling.{called_if}
 use Rattle.node_service.specs.Crossing.{IsCarried, Carries}
 use Rattle.node_service.specs.Handing.{HandsOn}
+use Rattle.stations.proofs.OwnTables.{beginning_on}
 use Rattle.node_service.proofs.Bots.{LooksOn, as_before, keep_on, bots_still}
 use Rattle.node_service.proofs.Asking.{gives_alike, gives_weaker, none_gives_on}
 use Rattle.node_service.proofs.Calls.{by_peers, by_bots, by_askers, and_none, calls_put}
@@ -81,7 +82,7 @@ module _ {D W : Type 0} {disk : Ghosts D} (wire : OfWire W) where
       (subst (λ (s : Seats). IsCarried (wire.passed old.wire) (passed_of old.company.peers) s.seats.items new.askers.askers.items) (sym same.1.1.0)
       (subst (λ (a : Askers). IsCarried (wire.passed old.wire) (passed_of old.company.peers) old.seats.seats.items a.askers.items) (sym same.1.1.1) is)))
 
-  pub members_on : (old new : Desk D W disk) → new.member ≡ old.member → LooksOn disk (look_of old.member.station) (look_of new.member.station)
+  pub members_on : (old new : Desk D W disk) → new.member ≡ old.member → LooksOn (look_of old.member.station) (look_of new.member.station)
   members_on old new member = as_before (look_of old.member.station) (look_of new.member.station) (ap (λ (m : LocalNode D disk). look_of m.station) member)
 
   pub carries : {such : List ℕ → Type 0} {old new : Desk D W disk} → IsKeptWith wire such old new → Carries (served_by wire old) → Carries (served_by wire new)
@@ -113,7 +114,7 @@ module _ {D W : Type 0} {disk : Ghosts D} (wire : OfWire W) where
     calls = ap (λ (d : Desk D W disk). calls_in (wire.passed d.wire)) is;
     log_failed = ap (λ (d : Desk D W disk). d.log_failed) is;
     sent = ap (λ (d : Desk D W disk). frames_of d.company.peers) is;
-    bots = subst (λ (d : Desk D W disk). KeepBots disk (look_of old.member.station) (look_of d.member.station) old.seats.seats.items d.seats.seats.items) (sym is) (bots_still (look_of old.member.station) old.seats.seats.items);
+    bots = subst (λ (d : Desk D W disk). KeepBots (look_of old.member.station) (look_of d.member.station) old.seats.seats.items d.seats.seats.items) (sym is) (bots_still (look_of old.member.station) old.seats.seats.items);
     sat = subst (λ (d : Desk D W disk). SatBefore old.seats.seats.items d.seats.seats.items) (sym is) (sat_still old.seats.seats.items);
     guests = ap (λ (d : Desk D W disk). d.seats.guests) is;
     heard = ap (λ (d : Desk D W disk). heard_of d.company.peers) is;
@@ -128,11 +129,11 @@ module _ {D W : Type 0} {disk : Ghosts D} (wire : OfWire W) where
 
   -- ---- one call
 
-  bots_kept : (old new : Desk D W disk) → new.member ≡ old.member → new.seats ≡ old.seats → KeepBots disk (look_of old.member.station) (look_of new.member.station) old.seats.seats.items new.seats.seats.items
+  bots_kept : (old new : Desk D W disk) → new.member ≡ old.member → new.seats ≡ old.seats → KeepBots (look_of old.member.station) (look_of new.member.station) old.seats.seats.items new.seats.seats.items
   bots_kept old new member seats =
       let look : Look (Node D) = look_of old.member.station in
-      subst (λ (m : LocalNode D disk). KeepBots disk look (look_of m.station) old.seats.seats.items new.seats.seats.items) (sym member)
-      (subst (λ (s : Seats). KeepBots disk look look old.seats.seats.items s.seats.items) (sym seats) (bots_still look old.seats.seats.items))
+      subst (λ (m : LocalNode D disk). KeepBots look (look_of m.station) old.seats.seats.items new.seats.seats.items) (sym member)
+      (subst (λ (s : Seats). KeepBots look look old.seats.seats.items s.seats.items) (sym seats) (bots_still look old.seats.seats.items))
 
   waits_kept : (old new : Desk D W disk) → new.apart ≡ old.apart → new.seats ≡ old.seats → PutsOffApart old.apart new.apart old.seats.seats.items new.seats.seats.items
   waits_kept old new apart seats = subst (λ (s : Seats). PutsOffApart old.apart new.apart old.seats.seats.items s.seats.items) (sym seats) (waits_still old.apart new.apart old.seats.seats.items apart)
@@ -209,14 +210,14 @@ module _ {D W : Type 0} {disk : Ghosts D} (wire : OfWire W) where
 
   -- something was written to seats, or one was let go of
   pub kept_seated : {old new : Desk D W disk} → PutsOffApart old.apart new.apart old.seats.seats.items new.seats.seats.items → new.member ≡ old.member → new.log_failed ≡ old.log_failed → new.company ≡ old.company → new.askers ≡ old.askers → Loosens old.sittings new.sittings
-      → KeepBots disk (look_of old.member.station) (look_of old.member.station) old.seats.seats.items new.seats.seats.items → new.seats.guests ≡ old.seats.guests → logged_in (wire.passed new.wire) ≡ logged_in (wire.passed old.wire) → seats_in (wire.passed new.wire) ≡ seats_in (wire.passed old.wire)
+      → KeepBots (look_of old.member.station) (look_of old.member.station) old.seats.seats.items new.seats.seats.items → new.seats.guests ≡ old.seats.guests → logged_in (wire.passed new.wire) ≡ logged_in (wire.passed old.wire) → seats_in (wire.passed new.wire) ≡ seats_in (wire.passed old.wire)
       → KeepsOthers (wire.passed old.wire) (wire.passed new.wire) → TellsNoGuest (wire.passed old.wire) (wire.passed new.wire)
       → (AreSaid (wire.passed old.wire) old.seats.seats.items → AreSaid (wire.passed new.wire) new.seats.seats.items) → SatBefore old.seats.seats.items new.seats.seats.items → IsKept wire old new
   kept_seated {old} {new} waits member log_failed company askers loosened bots guests log seats others unsaid said sat = record {
     member = member;
     log_failed = log_failed;
     sent = ap (λ (c : Company). frames_of c.peers) company;
-    bots = subst (λ (m : LocalNode D disk). KeepBots disk (look_of old.member.station) (look_of m.station) old.seats.seats.items new.seats.seats.items) (sym member) bots;
+    bots = subst (λ (m : LocalNode D disk). KeepBots (look_of old.member.station) (look_of m.station) old.seats.seats.items new.seats.seats.items) (sym member) bots;
     sat = sat;
     guests = guests;
     heard = ap (λ (c : Company). heard_of c.peers) company;
@@ -235,7 +236,7 @@ module _ {D W : Type 0} {disk : Ghosts D} (wire : OfWire W) where
 
   -- bots were told something
   pub kept_told : {old new : Desk D W disk} → PutsOffApart old.apart new.apart old.seats.seats.items new.seats.seats.items → new.member ≡ old.member → new.log_failed ≡ old.log_failed → new.company ≡ old.company → new.askers ≡ old.askers → new.sittings ≡ old.sittings → new.wire ≡ old.wire
-      → KeepBots disk (look_of old.member.station) (look_of old.member.station) old.seats.seats.items new.seats.seats.items → new.seats.guests ≡ old.seats.guests
+      → KeepBots (look_of old.member.station) (look_of old.member.station) old.seats.seats.items new.seats.seats.items → new.seats.guests ≡ old.seats.guests
       → ((passed : List Passage) → AreSaid passed old.seats.seats.items → AreSaid passed new.seats.seats.items) → SatBefore old.seats.seats.items new.seats.seats.items → IsKept wire old new
   kept_told {old} {new} waits member log_failed company askers sittings same bots guests said sat =
       let passed : wire.passed new.wire ≡ wire.passed old.wire = ap wire.passed same in
@@ -313,6 +314,7 @@ module _ {D W : Type 0} {disk : Ghosts D} (wire : OfWire W) where
     terms = goes.terms ∙ ap (λ (m : LocalNode D disk). m.terms) is.member;
     since = goes.since;
     deeds = goes.deeds ∙ ap (λ (m : LocalNode D disk). goes.since ++ (look_of m.station).deeds) is.member;
+    moments = beginning_on (look_of one.member.station).moments (look_of two.member.station).moments three.look.moments (members_on one two is.member) goes.moments;
     calls = goes.calls ∙ ap (λ (n : ℕ). n + length goes.since) is.calls;
     log = subst (λ (b : Bool). LogGains b three.log_failed (shown_log goes.since) (logged_in (wire.passed one.wire)) (logged_in three.passed)) is.log_failed
         (subst (λ (m : List ℕ). LogGains two.log_failed three.log_failed (shown_log goes.since) m (logged_in three.passed)) is.log goes.log);
@@ -356,7 +358,7 @@ module _ {D W : Type 0} {disk : Ghosts D} (wire : OfWire W) where
         (subst (λ (m : List ℕ). LogGains one.log_failed two.log_failed (added (map text_by told.shown)) (logged_in one.passed) m) (sym is.log) hands.log);
     sent = is.sent ∙ hands.sent;
     bots =
-        subst (λ (m : LocalNode D disk). KeepBots disk (look_of m.station) (look_of three.member.station) one.bots three.seats.seats.items) (sym is.member)
+        subst (λ (m : LocalNode D disk). KeepBots (look_of m.station) (look_of three.member.station) one.bots three.seats.seats.items) (sym is.member)
         (keep_on (as_before (look_of two.member.station) (look_of two.member.station) refl) (members_on two three is.member) hands.bots is.bots);
     sat = sat_on one.bots two.seats.seats.items three.seats.seats.items hands.sat is.sat;
     seats = is.seats ∙ hands.seats;
@@ -417,7 +419,7 @@ module _ {D W : Type 0} {disk : Ghosts D} (wire : OfWire W) where
   refused e {old} {new} is refuses free =
       let look : look_of new.member.station ≡ look_of old.member.station = ap (λ (m : LocalNode D disk). look_of m.station) is.member in
       unstepped e nothing_told (served_by wire old) (served_by wire new) (ap (λ (l : Look (Node D)). l.config) look) (ap (λ (l : Look (Node D)). l.number) look)
-      (ap (λ (l : Look (Node D)). begun_of disk l.node) look) (ap (λ (l : Look (Node D)). l.deeds) look) refl (hands_nothing is) refuses free
+      (ap (λ (l : Look (Node D)). begun_of disk l.node) look) (ap (λ (l : Look (Node D)). l.deeds) look) (as_before (look_of old.member.station) (look_of new.member.station) look) refl (hands_nothing is) refuses free
       (λ was. ap (λ (m : LocalNode D disk). m.is_started) is.member ∙ was) (ap (λ (m : LocalNode D disk). m.terms) is.member)
 
   -- the node was called, but not given what the event is made of, and then its bot was let go of

@@ -12,8 +12,3 @@ pub same_players : {D : Type 0} (look : Look (Node D)) (seat : ℕ) → ∥ plac
     → seat < (member_in look.node).setting.game.players
 same_players look seat at less =
     ∥∥₁_elim at le_prop (λ e. let same = ap (λ (p : Place). p.setting.game.players) e in omega (arith, same, less))
-
-pub players_same : {D : Type 0} (look : Look (Node D)) (seat : ℕ) → ∥ place_at (member_in look.node) ≡ known_place look ∥₁ → seat < (member_in look.node).setting.game.players
-    → seat < look.config.setting.game.players
-players_same look seat at less =
-    ∥∥₁_elim at le_prop (λ e. let same = ap (λ (p : Place). p.setting.game.players) e in omega (arith, same, less))

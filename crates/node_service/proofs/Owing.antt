@@ -3,16 +3,10 @@ use Rattle.std.proofs.Common.{◌≡◌, inl, inr, ℕ, ◌<◌, ◌≤◌, ◌+
 use Rattle.std.proofs.lemmas.Bool.Decides.{eqb_tells}
 use Rattle.std.proofs.lemmas.List.{length-append}
 use Rattle.std.specs.Prelude.{Option, Some, None, IfSome, IsSome, IsSomeAnd}
-use Rattle.promise_store.specs.declared.disk.Disk.{Ghosts}
-use Rattle.game_def.specs.Game.{Game}
-use Rattle.slot_log.specs.Hand.{Hand, Match}
-use Rattle.slot_log.specs.Dealer.{is_match_over}
+use Rattle.slot_log.specs.Hand.{Match}
 use Rattle.line_cursor.specs.declared.cursor.Cursor.{Cursor}
-use Rattle.line_cursor.specs.Past.{seat_line_at}
-use Rattle.node_rules.specs.Standings.{Standing, applied}
 use Rattle.dealer_node.specs.Nodes.{Node}
-use Rattle.dealer_node.specs.Scenes.{IsTableOf}
-use Rattle.dealer_node.specs.Seeing.{member_in, IsSeen}
+use Rattle.dealer_node.specs.Seeing.{table_in}
 use Rattle.stations.specs.Stations.{Look}
 use Rattle.node_seats.specs.declared.bot.Bot.{Bot}
 use Rattle.node_seats.specs.declared.bot.Parting.{Parting}
@@ -36,19 +30,11 @@ told_ended seat old new waits_old waits_new (inl same) says table all =
     subst (λ (b : Bot). IsToldAll table seat b waits_new) (sym same) (λ sits none. more_waits table seat old.telling waits_old says.more waits_new says.waits (all sits none))
 told_ended seat old new waits_old waits_new (inr (none_old, (may, e))) says table all = λ sits none. absurd (cc (ap (λ (b : Bot). b.parting) e, none))
 
--- its next line is not behind all lines of a table, nor of another of the same hands
-behind_alike : (one two : Match) (seat : ℕ) (at next : Cursor) → two.game ≡ one.game → two.count ≡ one.count → two.hands ≡ one.hands → at ≡ next → IsBehindAll two seat at → IsBehindAll one seat next
-behind_alike one two seat at next e k f same behind = record {
-  over = subst (λ (h : List Hand). is_match_over one.game one.count h ≡ true) f
-      (subst (λ (n : ℕ). is_match_over one.game n two.hands ≡ true) k (subst (λ (g : Game). is_match_over g two.count two.hands ≡ true) e behind.over));
-  behind = subst (λ (c : Cursor). seat_line_at one.game one.hands seat c.hand c.actions ≡ None) same
-      (subst (λ (h : List Hand). seat_line_at one.game h seat at.hand at.actions ≡ None) f (subst (λ (g : Game). seat_line_at g two.hands seat at.hand at.actions ≡ None) e behind.behind));
-}
-
-not_behind : (one two : Match) (seat : ℕ) (next : Cursor) (telling : Option Telling) (parting : Option Parting) → two.game ≡ one.game → two.count ≡ one.count → two.hands ≡ one.hands → IsSomeAnd telling (λ (t : Telling). t.next ≡ next)
-    → (IsBehindAll one seat next → ⊥) → IfSome telling (λ (t : Telling). IsBehindAll two seat t.next → IsSome parting)
-not_behind one two seat next None parting e k f found before = absurd found
-not_behind one two seat next (Some telling) parting e k f found before = λ behind. absurd (before (behind_alike one two seat telling.next next e k f found behind))
+-- its next line is not behind all lines of the table
+not_behind : (table : Match) (seat : ℕ) (next : Cursor) (telling : Option Telling) (parting : Option Parting) → IsSomeAnd telling (λ (t : Telling). t.next ≡ next)
+    → (IsBehindAll table seat next → ⊥) → IfSome telling (λ (t : Telling). IsBehindAll table seat t.next → IsSome parting)
+not_behind table seat next None parting found before = absurd found
+not_behind table seat next (Some telling) parting found before = λ behind. absurd (before (subst (IsBehindAll table seat) found behind))
 
 not_both : (parting : Option Parting) → IsSome parting → parting ≡ None → ⊥
 not_both None some none = absurd cc
@@ -60,38 +46,38 @@ over_parted table seat (Some telling) parting some = λ behind. some
 
 -- ---- by the table of a node
 
-module _ {D : Type 0} {g : Ghosts D} where
-  pub over_before : (look : Look (Node D)) (node : Node D) (one : Match) (seat : ℕ) (next : Cursor) (bot : Bot) → node ≡ look.node → ((s : Standing) → IsSeen g node s → IsTableOf (member_in node).setting (applied s) one)
-      → IsSomeAnd bot.telling (λ (t : Telling). t.next ≡ next) → (IsBehindAll one seat next → ⊥) → OfTable g look (λ table. seat < table.game.players → IsToldOver table seat bot)
-  over_before look node one seat next bot same is found before s table seen of within sits asked =
-      let here : IsTableOf (member_in look.node).setting (applied s) one = subst (λ (n : Node D). (t : Standing) → IsSeen g n t → IsTableOf (member_in n).setting (applied t) one) same is s seen in
-      not_behind one table seat next bot.telling bot.parting (of.game ∙ sym here.game) (of.count ∙ sym here.count) (of.hands ∙ sym here.hands) found before
+module _ {D : Type 0} where
+  pub over_before : (look : Look (Node D)) (node : Node D) (table : Match) (seat : ℕ) (next : Cursor) (bot : Bot) → node ≡ look.node → table ≡ table_in node
+      → IsSomeAnd bot.telling (λ (t : Telling). t.next ≡ next) → (IsBehindAll table seat next → ⊥) → OfTable look (λ table. seat < table.game.players → IsToldOver table seat bot)
+  over_before look node table seat next bot same is found before within sits asked =
+      not_behind (table_in look.node) seat next bot.telling bot.parting found
+      (λ behind. before (subst (λ (t : Match). IsBehindAll t seat next) (sym (is ∙ ap table_in same)) behind))
 
-  pub served_gone : (look : Look (Node D)) (seat : ℕ) (bot : Bot) (waits : List ℕ) → bot.sits ≡ false → IsServedAt g look seat bot waits
-  served_gone look seat bot waits gone_is s table seen of within ready =
+  pub served_gone : (look : Look (Node D)) (seat : ℕ) (bot : Bot) (waits : List ℕ) → bot.sits ≡ false → IsServedAt look seat bot waits
+  served_gone look seat bot waits gone_is within ready =
       (λ sits over none silent. absurd (cc (gone_is, sits)), λ sits none. absurd (cc (gone_is, sits)), λ sits asked. absurd (cc (gone_is, sits)))
 
   -- one that sits there was told why it is told no lines
-  pub served_parted : (look : Look (Node D)) (seat : ℕ) (bot : Bot) (waits : List ℕ) → (bot.sits ≡ true → IsSome bot.parting) → IsServedAt g look seat bot waits
-  served_parted look seat bot waits parted s table seen of within ready = (
+  pub served_parted : (look : Look (Node D)) (seat : ℕ) (bot : Bot) (waits : List ℕ) → (bot.sits ≡ true → IsSome bot.parting) → IsServedAt look seat bot waits
+  served_parted look seat bot waits parted within ready = (
     λ sits over none silent. absurd (not_both bot.parting (parted sits) none),
     λ sits none. absurd (not_both bot.parting (parted sits) none),
-    λ sits asked. over_parted table seat bot.telling bot.parting (parted sits),
+    λ sits asked. over_parted (table_in look.node) seat bot.telling bot.parting (parted sits),
   )
 
   -- ---- one seat after the other
 
-  pub served_next : (look : Look (Node D)) (number : ℕ) (old new : List Seat) → ((seat : ℕ) → seat < number → IsServedAt g look seat (bot_at old seat) (waits_at old seat)) → KeepsOtherBots number old new
-      → IsServedAt g look number (bot_at new number) (waits_at new number) → (seat : ℕ) → seat < number + 1 → IsServedAt g look seat (bot_at new seat) (waits_at new seat)
-  served_next look number old new before others here seat within = elim (eqb_tells seat number) as (λ _. IsServedAt g look seat (bot_at new seat) (waits_at new seat)) [
-    | inl same ↦ subst (λ (n : ℕ). IsServedAt g look n (bot_at new n) (waits_at new n)) (sym same.1) here
+  pub served_next : (look : Look (Node D)) (number : ℕ) (old new : List Seat) → ((seat : ℕ) → seat < number → IsServedAt look seat (bot_at old seat) (waits_at old seat)) → KeepsOtherBots number old new
+      → IsServedAt look number (bot_at new number) (waits_at new number) → (seat : ℕ) → seat < number + 1 → IsServedAt look seat (bot_at new seat) (waits_at new seat)
+  served_next look number old new before others here seat within = elim (eqb_tells seat number) as (λ _. IsServedAt look seat (bot_at new seat) (waits_at new seat)) [
+    | inl same ↦ subst (λ (n : ℕ). IsServedAt look n (bot_at new n) (waits_at new n)) (sym same.1) here
     | inr differs ↦
         let kept = others seat differs.1 in
-        subst (λ (b : Bot). IsServedAt g look seat b (waits_at new seat)) (sym kept.0) (subst (λ (w : List ℕ). IsServedAt g look seat (bot_at old seat) w) (sym kept.1) (before seat (omega (arith, within, differs.1))))
+        subst (λ (b : Bot). IsServedAt look seat b (waits_at new seat)) (sym kept.0) (subst (λ (w : List ℕ). IsServedAt look seat (bot_at old seat) w) (sym kept.1) (before seat (omega (arith, within, differs.1))))
   ]
 
-  pub all_served : (look : Look (Node D)) (count : ℕ) (seats : List Seat) → ((seat : ℕ) → seat < count → IsServedAt g look seat (bot_at seats seat) (waits_at seats seat)) → OfTable g look (λ table. table.game.players ≤ count) → AreServed g look seats
-  all_served look count seats served most seat s table seen of within ready = served seat (omega (arith, within, most s table seen of)) s table seen of within ready
+  pub all_served : (look : Look (Node D)) (count : ℕ) (seats : List Seat) → ((seat : ℕ) → seat < count → IsServedAt look seat (bot_at seats seat) (waits_at seats seat)) → look.config.setting.game.players ≤ count → AreServed look seats
+  all_served look count seats served most seat within ready = served seat (omega (arith, within, most)) within ready
 
 pub others_on : (number : ℕ) (one two three : List Seat) → KeepsOtherBots number one two → KeepsOtherBots number two three → KeepsOtherBots number one three
 others_on number one two three first then_on seat differs =

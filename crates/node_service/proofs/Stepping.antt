@@ -3,6 +3,7 @@ use Rattle.std.proofs.Common.{◌≡◌, ℕ, Bool, true, false, List, [], ◌�
 use Rattle.std.specs.Prelude.{Option, Some, None, IfSome, IsNone, Result, Ok, Err, IsErr}
 use Rattle.std.proofs.lemmas.List.{append-nil}
 use Rattle.promise_store.specs.declared.disk.Disk.{Ghosts}
+use Rattle.slot_log.specs.Beginnings.{IsBeginning}
 use Rattle.dealer_node.specs.Nodes.{Node}
 use Rattle.dealer_node.specs.declared.fault.NodeFault.{NodeFault}
 use Rattle.dealer_node.specs.declared.fault.NodeFault.TheVariants.{OutOfMemory}
@@ -15,6 +16,7 @@ use Rattle.dealer_world.specs.Stepping.{arrived_by_event, begins_by_event}
 use Rattle.dealer_world.specs.Recordings.{frame_by, text_by}
 use Rattle.node_wires.specs.Passages.{Passage, logged_in, seats_in}
 use Rattle.stations.specs.Deeds.{Deed}
+use Rattle.stations.specs.Moments.{moment_now}
 use Rattle.stations.specs.Stations.{Look, Acts, deed_by, nothing, call}
 use Rattle.node_service.specs.Parts.{IsPartOf}
 use Rattle.node_service.specs.Showing.{added, LogGains}
@@ -72,11 +74,11 @@ pub same_frames : (node : ℕ) (frames : List (Marked ℕ)) → map frame_handed
 same_frames node [] = refl
 same_frames node (frame ∷ frames) = ap (λ (m : List Passage). mark_handed frame ∷ m) (same_frames node frames)
 
-module _ {D : Type 0} {g : Ghosts D} where
-  -- the node did more, and then its bots were told what there is to tell
-  then_handed : (old new : Served (Node D)) → LooksOn g old.look new.look → KeepBots g new.look new.look old.bots new.bots → KeepBots g old.look new.look old.bots new.bots
-  then_handed old new on hands = keep_on on (as_before new.look new.look refl) (bots_then old.look new.look on old.bots) hands
+-- the node did more, and then its bots were told what there is to tell
+then_handed : {N : Type 0} (old new : Served N) → LooksOn old.look new.look → KeepBots new.look new.look old.bots new.bots → KeepBots old.look new.look old.bots new.bots
+then_handed old new on hands = keep_on on (as_before new.look new.look refl) (bots_then old.look new.look on old.bots) hands
 
+module _ {D : Type 0} {g : Ghosts D} where
   -- an event was given to the node, and what it made of it was handed on
   stepped : (e : Event) (told : Told) (answer : Result (Unit {0}) NodeFault) (old new : Served (Node D)) → (answer ≡ Err OutOfMemory → ⊥) → Acts g e told answer old.look new.look
       → HandsOn g 1 told old new
@@ -92,16 +94,11 @@ module _ {D : Type 0} {g : Ghosts D} where
             terms = terms;
             since = deed_by (runs old.look.node) (front_in old.look.node) e told answer ∷ [];
             deeds = is;
+            moments = (moment_now new.look.node new.look.deeds ∷ [], acts.moments);
             calls = hands.calls;
             log = hands.log;
             sent = hands.sent ∙ ap (λ (m : List Passage). old.sent ++ m) (sym (same_frames _ told.frames));
-            bots = then_handed old new (record {
-              config = acts.config;
-              number = acts.number;
-              begun = acts.given.stays.begun;
-              since = deed_by (runs old.look.node) (front_in old.look.node) e told answer ∷ [];
-              deeds = is;
-            }) hands.bots;
+            bots = then_handed old new (moment_now new.look.node new.look.deeds ∷ [], acts.moments) hands.bots;
             gained = [];
             seats = hands.seats ∙ sym (append-nil (seats_in old.passed));
             heard = hands.heard ∙ sym (append-nil old.heard);
@@ -131,10 +128,10 @@ module _ {D : Type 0} {g : Ghosts D} where
 
   -- none was given, and nothing made
   pub unstepped : (e : Event) (told : Told) (old new : Served (Node D)) → new.look.config ≡ old.look.config → new.look.number ≡ old.look.number
-      → begun_of g new.look.node ≡ begun_of g old.look.node → new.look.deeds ≡ old.look.deeds → told ≡ nothing_told
+      → begun_of g new.look.node ≡ begun_of g old.look.node → new.look.deeds ≡ old.look.deeds → IsBeginning old.look.moments new.look.moments → told ≡ nothing_told
       → HandsOn g 0 told old new
       → Refuses e old.sittings new.sittings → IsFree (seat_in e) new.bots → (old.started ≡ true → new.started ≡ true) → new.terms ≡ old.terms → Does g (taken_for e) old new
-  unstepped e told old new config number begun deeds unmade hands refused free started terms = (
+  unstepped e told old new config number begun deeds moments unmade hands refused free started terms = (
     record {
       config = config;
       number = number;
@@ -145,7 +142,8 @@ module _ {D : Type 0} {g : Ghosts D} where
       calls = hands.calls;
       log = subst (λ (t : Told). LogGains old.log_failed new.log_failed (added (map text_by t.shown)) (logged_in old.passed) (logged_in new.passed)) unmade hands.log;
       sent = subst (λ (t : Told). new.sent ≡ old.sent ++ map mark_handed t.frames) unmade hands.sent;
-      bots = then_handed old new (record { config = config; number = number; begun = begun; since = []; deeds = deeds }) hands.bots;
+      moments = moments;
+      bots = then_handed old new moments hands.bots;
       gained = [];
       seats = hands.seats ∙ sym (append-nil (seats_in old.passed));
       heard = hands.heard ∙ sym (append-nil old.heard);
@@ -183,10 +181,10 @@ module _ {D : Type 0} {g : Ghosts D} where
   unstepped_if_not e told None old new given acts same unmade hands refused free started terms =
       let look : new.look ≡ old.look = same refl in
       unstepped e told old new (ap (λ (l : Look (Node D)). l.config) look) (ap (λ (l : Look (Node D)). l.number) look) (ap (λ (l : Look (Node D)). begun_of g l.node) look)
-      (ap (λ (l : Look (Node D)). l.deeds) look) (unmade refl) hands refused free started terms
+      (ap (λ (l : Look (Node D)). l.deeds) look) (as_before old.look new.look look) (unmade refl) hands refused free started terms
   unstepped_if_not e told (Some answer) old new given acts same unmade hands refused free started terms =
       elim acts.gains as (λ _. Does g (taken_for e) old new) [
         | nothing no_memory is ↦
-            unstepped e told old new acts.config acts.number acts.given.stays.begun is (acts.given.stays.unmade (subst (λ (a : Result (Unit {0}) NodeFault). IsErr a) (sym no_memory) refl)) hands refused free started terms
+            unstepped e told old new acts.config acts.number acts.given.stays.begun is (moment_now new.look.node new.look.deeds ∷ [], acts.moments) (acts.given.stays.unmade (subst (λ (a : Result (Unit {0}) NodeFault). IsErr a) (sym no_memory) refl)) hands refused free started terms
         | call taken is ↦ absurd (taken given)
       ]

@@ -1,21 +1,18 @@
 -- What the bots of a process's seats are told: the lines of their seats, off the tables that its node had.
-use Rattle.std.specs.Prelude.{◌≡◌, ◌⊎◌, ℕ, ◌<◌, true, List, [], ◌∷◌, ◌++◌, length, Option, Some, None, IfSome, IsSome, IsSomeAnd}
-use Rattle.promise_store.specs.declared.disk.Disk.{Ghosts}
+use Rattle.std.specs.Prelude.{◌≡◌, ◌⊎◌, ℕ, ◌<◌, true, List, [], ◌∷◌, ◌++◌, length, take, Option, Some, None, IfSome, IsSome, IsSomeAnd}
 use Rattle.slot_log.specs.Hand.{Hand, Match}
 use Rattle.slot_log.specs.Dealer.{is_match_over}
+use Rattle.protocol_model.specs.Sets.{In}
 use Rattle.line_cursor.specs.declared.cursor.Cursor.{Cursor}
 use Rattle.line_cursor.specs.declared.named_line.NamedLine.TheVariants as named_lines
 use Rattle.line_cursor.specs.Past.{seat_line_at}
 use Rattle.line_cursor.specs.Naming.{IsNamed}
 use Rattle.line_cursor.specs.Cursors.{cursor_at}
-use Rattle.node_rules.specs.Standings.{Standing, applied}
-use Rattle.node_rules.specs.Showing.{is_connected as is_talk_ready}
-use Rattle.node_rules.specs.Seats.{session_at}
 use Rattle.dealer_node.specs.Nodes.{Node}
-use Rattle.dealer_node.specs.Scenes.{IsTableOf}
-use Rattle.dealer_node.specs.Seeing.{member_in, IsSeen, begun_of}
-use Rattle.stations.specs.Deeds.{Deed}
-use Rattle.stations.specs.Stations.{Look, Has}
+use Rattle.dealer_node.specs.Seeing.{table_in, ready_in}
+use Rattle.stations.specs.Moments.{Moment}
+use Rattle.stations.specs.Stations.{Look}
+use Rattle.stations.specs.Tables.{HadTable}
 use Rattle.node_seats.specs.declared.bot.Bot.{Bot}
 use Rattle.node_seats.specs.declared.bot.Parting.{Parting}
 use Rattle.node_seats.specs.declared.bot.Parting.TheVariants.{Over, Other, Wait}
@@ -99,89 +96,80 @@ HadParted old new = IsStill old new × (old.parting ≡ Some Other)
 
 -- ---- off the tables of a node
 
-module _ {D : Type 0} (g : Ghosts D) where
-  -- the table of a process's node at some moment: as the node was once it had done so much of what it has done now
-  pub record HadTable (look : Look (Node D)) (table : Match) : Type 0 where
-    pub then_is : Look (Node D)
-    pub has : Has g then_is
-    pub config : then_is.config ≡ look.config
-    pub number : then_is.number ≡ look.number
-    pub begun : begun_of g then_is.node ≡ begun_of g look.node
-    pub since : List Deed
-    pub deeds : look.deeds ≡ since ++ then_is.deeds
-    pub table_is : (s : Standing) → IsSeen g then_is.node s → IsTableOf (member_in then_is.node).setting (applied s) table
+-- a bot was told lines from one on, one after another, each off such a table
+abbrev pub IsToldBy : {N : Type 0} → Look N → ℕ → Option Telling → Type 0
+IsToldBy look seat None = Unit {0}
+IsToldBy look seat (Some telling) = TellsFrom (HadTable look) seat telling.start (lines_of telling) telling.next
 
-  -- a bot was told lines from one on, one after another, each off such a table
-  abbrev pub IsToldBy : Look (Node D) → ℕ → Option Telling → Type 0
-  IsToldBy look seat None = Unit {0}
-  IsToldBy look seat (Some telling) = TellsFrom (HadTable look) seat telling.start (lines_of telling) telling.next
+-- and the first of them goes by what it asked before it named the version
+abbrev pub IsStarted : {N : Type 0} → Look N → ℕ → Reading → Option Telling → Type 0
+IsStarted look seat words None = Unit {0}
+IsStarted look seat words (Some telling) = (words.is_over ≡ true) × ((table : Match) × (HadTable look table × StartsBy table seat words.asked words.named telling.start))
 
-  -- and the first of them goes by what it asked before it named the version
-  abbrev pub IsStarted : Look (Node D) → ℕ → Reading → Option Telling → Type 0
-  IsStarted look seat words None = Unit {0}
-  IsStarted look seat words (Some telling) = (words.is_over ≡ true) × ((table : Match) × (HadTable look table × StartsBy table seat words.asked words.named telling.start))
+-- that the match is over is told behind its last line, to one who asked; that a line is none, where no line was told and a table of the node then hadn't it; to come again
+-- later, to one who asked
+abbrev pub IsOverFor : {N : Type 0} → Look N → ℕ → Reading → Option Telling → Type 0
+IsOverFor look seat words None = ⊥
+IsOverFor look seat words (Some telling) = (words.asked ≡ asks.Nothing → ⊥) × ((table : Match) × (HadTable look table × IsBehindAll table seat telling.next))
 
-  -- that the match is over is told behind its last line, to one who asked; that a line is none, where no line was told and a table of the node then hadn't it; to come again
-  -- later, to one who asked
-  abbrev pub IsOverFor : Look (Node D) → ℕ → Reading → Option Telling → Type 0
-  IsOverFor look seat words None = ⊥
-  IsOverFor look seat words (Some telling) = (words.asked ≡ asks.Nothing → ⊥) × ((table : Match) × (HadTable look table × IsBehindAll table seat telling.next))
+abbrev pub IsParted : {N : Type 0} → Look N → ℕ → Bot → Option Parting → Type 0
+IsParted look seat bot None = Unit {0}
+IsParted look seat bot (Some Over) = IsOverFor look seat bot.words bot.telling
+IsParted look seat bot (Some Other) =
+    (bot.telling ≡ None) × ((bot.words.is_over ≡ true) × ((table : Match) × (HadTable look table × IsRefusedBy table seat bot.words.asked bot.words.named)))
+IsParted look seat bot (Some Wait) = bot.words.asked ≡ asks.Nothing → ⊥
 
-  abbrev pub IsParted : Look (Node D) → ℕ → Bot → Option Parting → Type 0
-  IsParted look seat bot None = Unit {0}
-  IsParted look seat bot (Some Over) = IsOverFor look seat bot.words bot.telling
-  IsParted look seat bot (Some Other) =
-      (bot.telling ≡ None) × ((bot.words.is_over ≡ true) × ((table : Match) × (HadTable look table × IsRefusedBy table seat bot.words.asked bot.words.named)))
-  IsParted look seat bot (Some Wait) = bot.words.asked ≡ asks.Nothing → ⊥
+pub record IsBotOf {N : Type 0} (look : Look N) (seat : ℕ) (bot : Bot) : Type 0 where
+  pub told : IsToldBy look seat bot.telling
+  pub started : IsStarted look seat bot.words bot.telling
+  pub parted : IsParted look seat bot bot.parting
 
-  pub record IsBotOf (look : Look (Node D)) (seat : ℕ) (bot : Bot) : Type 0 where
-    pub told : IsToldBy look seat bot.telling
-    pub started : IsStarted look seat bot.words bot.telling
-    pub parted : IsParted look seat bot bot.parting
+-- so it is at each seat
+abbrev pub AreBotsOf : {N : Type 0} → Look N → List Seat → Type 0
+AreBotsOf look seats = (seat : ℕ) → IsBotOf look seat (bot_at seats seat)
 
-  -- so it is at each seat
-  abbrev pub AreBotsOf : Look (Node D) → List Seat → Type 0
-  AreBotsOf look seats = (seat : ℕ) → IsBotOf look seat (bot_at seats seat)
+-- ---- since a moment
 
-  -- ---- since a moment
+-- the table of a process's node at some moment of it that isn't among these, or at the newest of these
+pub record HadTableSince {N : Type 0} (first : List Moment) (look : Look N) (table : Match) : Type 0 where
+  pub since : List Moment
+  pub moments : look.moments ≡ since ++ first
+  pub moment : Moment
+  pub was : In moment (since ++ take 1 first)
+  pub table_is : moment.table ≡ table
 
-  -- the table of a process's node at some moment since it had done this much
-  abbrev pub HadTableSince : (first : List Deed) → Look (Node D) → Match → Type 0
-  HadTableSince first look table = (had : HadTable look table) × ((more : List Deed) × (had.then_is.deeds ≡ more ++ first))
+-- a bot's lines had begun before, or they begin by such a table
+abbrev pub BeginsSince : {N : Type 0} → (first : List Moment) → Look N → ℕ → (old new : Bot) → Option Telling → Type 0
+BeginsSince first look seat old new None = Unit {0}
+BeginsSince first look seat old new (Some telling) =
+    HadBegun old new telling ⊎ ((table : Match) × (HadTableSince first look table × StartsBy table seat new.words.asked new.words.named telling.start))
 
-  -- a bot's lines had begun before, or they begin by such a table
-  abbrev pub BeginsSince : (first : List Deed) → Look (Node D) → ℕ → (old new : Bot) → Option Telling → Type 0
-  BeginsSince first look seat old new None = Unit {0}
-  BeginsSince first look seat old new (Some telling) =
-      HadBegun old new telling ⊎ ((table : Match) × (HadTableSince first look table × StartsBy table seat new.words.asked new.words.named telling.start))
+-- that its line is none it had been told before, or such a table hadn't it
+abbrev pub PartsSince : {N : Type 0} → (first : List Moment) → Look N → ℕ → (old new : Bot) → Option Parting → Type 0
+PartsSince first look seat old new None = Unit {0}
+PartsSince first look seat old new (Some Over) = Unit {0}
+PartsSince first look seat old new (Some Wait) = Unit {0}
+PartsSince first look seat old new (Some Other) = HadParted old new ⊎ ((table : Match) × (HadTableSince first look table × IsRefusedBy table seat new.words.asked new.words.named))
 
-  -- that its line is none it had been told before, or such a table hadn't it
-  abbrev pub PartsSince : (first : List Deed) → Look (Node D) → ℕ → (old new : Bot) → Option Parting → Type 0
-  PartsSince first look seat old new None = Unit {0}
-  PartsSince first look seat old new (Some Over) = Unit {0}
-  PartsSince first look seat old new (Some Wait) = Unit {0}
-  PartsSince first look seat old new (Some Other) = HadParted old new ⊎ ((table : Match) × (HadTableSince first look table × IsRefusedBy table seat new.words.asked new.words.named))
+pub record IsSince {N : Type 0} (first : List Moment) (look : Look N) (seat : ℕ) (old new : Bot) : Type 0 where
+  pub begins : BeginsSince first look seat old new new.telling
+  pub parts : PartsSince first look seat old new new.parting
 
-  pub record IsSince (first : List Deed) (look : Look (Node D)) (seat : ℕ) (old new : Bot) : Type 0 where
-    pub begins : BeginsSince first look seat old new new.telling
-    pub parts : PartsSince first look seat old new new.parting
+-- the bots of seats stay such, and what began of each meanwhile goes by a table that the node had meanwhile
+pub record KeepBots {N : Type 0} (old new : Look N) (were are : List Seat) : Type 0 where
+  pub stay : AreBotsOf old were → AreBotsOf new are
+  pub since : AreBotsOf old were → (seat : ℕ) → IsSince old.moments new seat (bot_at were seat) (bot_at are seat)
 
-  -- the bots of seats stay such, and what began of each meanwhile goes by a table that the node had meanwhile
-  pub record KeepBots (old new : Look (Node D)) (were are : List Seat) : Type 0 where
-    pub stay : AreBotsOf old were → AreBotsOf new are
-    pub since : AreBotsOf old were → (seat : ℕ) → IsSince old.deeds new seat (bot_at were seat) (bot_at are seat)
+-- ---- all that there is to tell
 
-  -- ---- all that there is to tell
+-- this holds of the table that the node has now
+abbrev pub OfTable : {D : Type 0} → Look (Node D) → (Match → Type 0) → Type 0
+OfTable look such = such (table_in look.node)
 
-  -- this holds of the table that the node has now
-  abbrev pub OfTable : Look (Node D) → (Match → Type 0) → Type 0
-  OfTable look such = (s : Standing) (table : Match) → IsSeen g look.node s → IsTableOf (member_in look.node).setting (applied s) table → such table
+-- the bot of a seat whose session is ready was told all that there is to tell, by the table that the node has now
+abbrev pub IsServedAt : {D : Type 0} → Look (Node D) → ℕ → Bot → (waits : List ℕ) → Type 0
+IsServedAt look seat bot waits = seat < look.config.setting.game.players → ready_in look.node seat ≡ true → IsServed (table_in look.node) seat bot waits
 
-  -- the bot of a seat whose session is ready was told all that there is to tell, by the table that the node has now
-  abbrev pub IsServedAt : Look (Node D) → ℕ → Bot → (waits : List ℕ) → Type 0
-  IsServedAt look seat bot waits =
-      (s : Standing) (table : Match) → IsSeen g look.node s → IsTableOf (member_in look.node).setting (applied s) table → seat < table.game.players → is_talk_ready (session_at s.sessions seat) ≡ true → IsServed table seat bot waits
-
-  -- so it is at each seat
-  abbrev pub AreServed : Look (Node D) → List Seat → Type 0
-  AreServed look seats = (seat : ℕ) → IsServedAt look seat (bot_at seats seat) (waits_at seats seat)
+-- so it is at each seat
+abbrev pub AreServed : {D : Type 0} → Look (Node D) → List Seat → Type 0
+AreServed look seats = (seat : ℕ) → IsServedAt look seat (bot_at seats seat) (waits_at seats seat)

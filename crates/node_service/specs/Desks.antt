@@ -45,7 +45,7 @@ module _ {D W : Type 0} {disk : Ghosts D} (wire : OfWire W) where
     pub member : new.member ≡ old.member
     pub log_failed : new.log_failed ≡ old.log_failed
     pub sent : frames_of new.company.peers ≡ frames_of old.company.peers
-    pub bots : KeepBots disk (look_of old.member.station) (look_of new.member.station) old.seats.seats.items new.seats.seats.items
+    pub bots : KeepBots (look_of old.member.station) (look_of new.member.station) old.seats.seats.items new.seats.seats.items
     pub sat : SatBefore old.seats.seats.items new.seats.seats.items
     pub guests : new.seats.guests ≡ old.seats.guests
     pub heard : heard_of new.company.peers ≡ heard_of old.company.peers

@@ -1,11 +1,8 @@
 -- How a process ends.
 use Rattle.std.specs.Prelude.{◌≡◌, ◌⊎◌, ◌||◌, Bool, true, false, Option, Some, None, IfSome, Result, Ok, Err}
-use Rattle.promise_store.specs.declared.disk.Disk.{Ghosts}
 use Rattle.slot_log.specs.Dealer.{is_match_over}
-use Rattle.dealer_kind.specs.Kind.{hands_after}
-use Rattle.node_rules.specs.Standings.{Standing, applied}
 use Rattle.dealer_node.specs.Nodes.{Node}
-use Rattle.dealer_node.specs.Seeing.{member_in, IsSeen}
+use Rattle.dealer_node.specs.Seeing.{table_in}
 use Rattle.dealer_node.specs.Taking.{TakesDown}
 use Rattle.dealer_node.specs.declared.fault.NodeFault.{NodeFault}
 use Rattle.dealer_node.specs.declared.fault.NodeFault.TheVariants as faults
@@ -88,7 +85,6 @@ IsFaultAfter e old answer new = (new ≡ old) ⊎ ((fault : NodeFault) × ((new 
 abbrev pub IsNeededAfter : Event → (old : Bool) → Option (Result (Unit {0}) NodeFault) → (new : Bool) → Type 0
 IsNeededAfter e old answer new = new ≡ true → (old ≡ true) ⊎ ((is_needed e ≡ true) × IsRefusal answer)
 
--- by the commands that the node has applied its match is over
-abbrev pub IsOverAt : {D : Type 0} → Ghosts D → Node D → Type 0
-IsOverAt g node =
-    (s : Standing) → IsSeen g node s → is_match_over (member_in node).setting.game (member_in node).setting.title.hands (hands_after (member_in node).setting (applied s)) ≡ true
+-- by the node's table its match is over
+abbrev pub IsOverAt : {D : Type 0} → Node D → Type 0
+IsOverAt node = is_match_over (table_in node).game (table_in node).count (table_in node).hands ≡ true

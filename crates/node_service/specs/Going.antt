@@ -2,6 +2,7 @@
 use Rattle.std.specs.Prelude.{◌≡◌, ◌+◌, List, [], ◌++◌, length}
 use Rattle.promise_store.specs.declared.disk.Disk.{Ghosts}
 use Rattle.node_wires.specs.Passages.{logged_in, seats_in, calls_in}
+use Rattle.slot_log.specs.Beginnings.{IsBeginning}
 use Rattle.dealer_node.specs.Nodes.{Node}
 use Rattle.dealer_node.specs.Seeing.{begun_of}
 use Rattle.stations.specs.Deeds.{Deed}
@@ -22,7 +23,7 @@ use Rattle.node_service.specs.Fitting.{Fits, FitsBut}
 use Rattle.node_service.specs.Seated.{AreSomebody, AreSomebodyBut}
 
 module _ {D : Type 0} (g : Ghosts D) where
-  -- it stays the process of the same node, by the same terms; it did so much more, the newest first, by as many calls as passed at its wires: the log gained what was shown to it; the frames that these deeds
+  -- it stays the process of the same node, by the same terms; it did so much more, the newest first, by as many calls as passed at its wires, and had the tables that it had, and others since: the log gained what was shown to it; the frames that these deeds
   -- sent were handed to the peers, in order, and nothing else was; the bots of seats are told the lines of their seats, off tables of its node alone, and where they begin, or are none, goes by one that it had meanwhile; and what came to the node had come: of seats over their
   -- lines, and of peers as they told it, with what was taken before, in this order and each once, and who was taken in at a seat had shown its token; of each seat nothing was left out in the middle, and who sits there is somebody to the node; what had
   -- passed over the lines of its peers has; who asks is given status lines alone; no bot is told to come again later but while the node is apart; what crosses the wires goes by peers, seats and askers, as before; and a node
@@ -34,10 +35,11 @@ module _ {D : Type 0} (g : Ghosts D) where
     pub terms : new.terms ≡ old.terms
     pub since : List Deed
     pub deeds : new.look.deeds ≡ since ++ old.look.deeds
+    pub moments : IsBeginning old.look.moments new.look.moments
     pub calls : calls_in new.passed ≡ calls_in old.passed + length since
     pub log : LogGains old.log_failed new.log_failed (shown_log since) (logged_in old.passed) (logged_in new.passed)
     pub sent : new.sent ≡ old.sent ++ frames_by since
-    pub bots : KeepBots g old.look new.look old.bots new.bots
+    pub bots : KeepBots old.look new.look old.bots new.bots
     pub gained : List Incoming
     pub seats : seats_in new.passed ≡ seats_in old.passed ++ seats_of gained
     pub heard : new.heard ≡ old.heard ++ peers_of gained
@@ -72,7 +74,7 @@ module _ {D : Type 0} (g : Ghosts D) where
     pub terms : new.terms ≡ old.terms
     pub log_failed : new.log_failed ≡ old.log_failed
     pub sent : new.sent ≡ old.sent
-    pub bots : KeepBots g old.look new.look old.bots new.bots
+    pub bots : KeepBots old.look new.look old.bots new.bots
     pub calls : calls_in new.passed ≡ calls_in old.passed
     pub log : logged_in new.passed ≡ logged_in old.passed
     pub seats : seats_in new.passed ≡ seats_in old.passed ++ seats_of taken

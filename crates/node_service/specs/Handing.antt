@@ -21,7 +21,7 @@ pub record HandsOn {D : Type 0} (g : Ghosts D) (count : ℕ) (made : Told) (old 
   pub calls : calls_in new.passed ≡ calls_in old.passed + count
   pub log : LogGains old.log_failed new.log_failed (added (map text_by made.shown)) (logged_in old.passed) (logged_in new.passed)
   pub sent : new.sent ≡ old.sent ++ map mark_handed made.frames
-  pub bots : KeepBots g new.look new.look old.bots new.bots
+  pub bots : KeepBots new.look new.look old.bots new.bots
   pub sat : SatBefore old.bots new.bots
   pub seats : seats_in new.passed ≡ seats_in old.passed
   pub heard : new.heard ≡ old.heard

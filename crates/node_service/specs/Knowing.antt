@@ -9,10 +9,8 @@ use Rattle.slot_log.specs.Hand.{Hand, Match}
 use Rattle.slot_log.specs.declared.command.Command.{Command}
 use Rattle.slot_log.specs.declared.command.Command.TheVariants as command
 use Rattle.slot_log.specs.Dealer.{hand_at}
-use Rattle.node_rules.specs.Standings.{Standing, applied}
 use Rattle.dealer_node.specs.Nodes.{Node}
-use Rattle.dealer_node.specs.Seeing.{member_in, IsSeen}
-use Rattle.dealer_node.specs.Scenes.{IsTableOf}
+use Rattle.dealer_node.specs.Seeing.{table_in, pending_in}
 use Rattle.dealer_world.specs.declared.event.Event.{Event}
 use Rattle.dealer_world.specs.declared.event.Event.TheVariants as event
 use Rattle.clockwork.specs.Dues.{due_of}
@@ -109,17 +107,13 @@ seat_in_hand game hand (Some found) = seat_by hand game.players (to_act game (tu
 abbrev pub seat_to_act : Match → Option ℕ
 seat_to_act table = if length table.hands == 0 then None else seat_in_hand table.game (length table.hands - 1) (hand_at table.hands (length table.hands - 1))
 
--- by the commands that the node has applied this seat is to act
-pub record IsToAct {D : Type 0} (g : Ghosts D) (node : Node D) (seat : ℕ) : Type 0 where
-  pub table : Match
-  pub is : (s : Standing) → IsSeen g node s → IsTableOf (member_in node).setting (applied s) table
-  pub acts : seat_to_act table ≡ Some seat
+-- by the node's table this seat is to act
+abbrev pub IsToAct : {D : Type 0} → Node D → ℕ → Type 0
+IsToAct node seat = seat_to_act (table_in node) ≡ Some seat
 
 -- no seat is
-pub record IsNobodyToAct {D : Type 0} (g : Ghosts D) (node : Node D) : Type 0 where
-  pub table : Match
-  pub is : (s : Standing) → IsSeen g node s → IsTableOf (member_in node).setting (applied s) table
-  pub none : seat_to_act table ≡ None
+abbrev pub IsNobodyToAct : {D : Type 0} → Node D → Type 0
+IsNobodyToAct node = seat_to_act (table_in node) ≡ None
 
 -- whether what waits is an act that a seat said itself
 abbrev pub is_own : Option Command → Bool
@@ -232,13 +226,13 @@ module _ {D W : Type 0} {disk : Ghosts D} {wire : OfWire W} where
   pub record IsExpected (server : NodeServer D W disk wire) (seat : ℕ) (expected : Expected) : Type 0 where
     pub patience : ℕ
     pub most : server.desk.member.terms.patience ≡ Some patience
-    pub acts : IsToAct disk (look_of server.desk.member.station).node seat
+    pub acts : IsToAct (look_of server.desk.member.station).node seat
     pub heard : server.has_read_seats ≡ true
     pub is : expected ≡ expected_of server seat patience
 
   -- an act that a seat said itself waits at its node
   abbrev pub HasOwnAct : NodeServer D W disk wire → Type 0
-  HasOwnAct server = (s : Standing) → IsSeen disk (look_of server.desk.member.station).node s → is_own s.pending ≡ true
+  HasOwnAct server = is_own (pending_in (look_of server.desk.member.station).node) ≡ true
 
   -- nobody is played for: the process is to end, what came of seats wasn't read, an own act waits, nobody is in this match, or no seat is to act
   pub data IsNobodyExpected (server : NodeServer D W disk wire) : Type 0 where
@@ -246,7 +240,7 @@ module _ {D W : Type 0} {disk : Ghosts D} {wire : OfWire W} where
     unread : server.has_read_seats ≡ false → IsNobodyExpected server
     acted : HasOwnAct server → IsNobodyExpected server
     patient : server.desk.member.terms.patience ≡ None → IsNobodyExpected server
-    idle : IsNobodyToAct disk (look_of server.desk.member.station).node → IsNobodyExpected server
+    idle : IsNobodyToAct (look_of server.desk.member.station).node → IsNobodyExpected server
 
   -- that the seat to act is played for is due by what it knows
   pub record IsAwayDue (server : NodeServer D W disk wire) : Type 0 where

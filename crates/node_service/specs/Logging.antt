@@ -59,5 +59,5 @@ module _ {D : Type 0} (g : Ghosts D) where
 
   -- and where the match is over at the node, that log is one that `check` accepts
   abbrev pub IsAcceptedOver : Look (Node D) → Type 0
-  IsAcceptedOver look = StartedOnce look.deeds → IsTrue g.is_honest → (before : List Deed) → LeavesFile (known_place look) (begun_of g look.node) before → IsOverAt g look.node
+  IsAcceptedOver look = StartedOnce look.deeds → IsTrue g.is_honest → (before : List Deed) → LeavesFile (known_place look) (begun_of g look.node) before → IsOverAt look.node
       → ∥ IsMatchLog look.config.setting.game (shown_log look.deeds) ∥₁

@@ -33,7 +33,7 @@ module _ {D W : Type 0} {disk : Ghosts D} {wire : OfWire W} where
   -- what is left to do is that for its reason
   abbrev pub IsMeant : NodeServer D W disk wire → Outcome → Type 0
   IsMeant server outcome.GoesOn = runs (look_in server).node ≡ true
-  IsMeant server outcome.Over = IsOverAt disk (look_in server).node
+  IsMeant server outcome.Over = IsOverAt (look_in server).node
   IsMeant server outcome.StoreReplaced = server.desk.company.is_replaced ≡ true
   IsMeant server outcome.StoreOlder = server.desk.company.is_older ≡ true
   IsMeant server (outcome.Failed fault) = FailsBy server fault

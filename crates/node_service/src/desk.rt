@@ -387,7 +387,7 @@ impl<D: Disk + Drop, W: Wire + Drop> Desk<D, W> {
     /// Tells the bot of a seat what there is to tell. False where it is to be let go of.
     fn tell_bot(&mut self, seat: u8) -> bool
         ensures kept { IsKept W.Wire self.old self.new }
-        ensures served { result ≡ true → IsServedAt D.Disk (look_of self.old.member.station) seat (bot_at self.new.seats.seats.items seat) (waits_at self.new.seats.seats.items seat) }
+        ensures served { result ≡ true → IsServedAt (look_of self.old.member.station) seat (bot_at self.new.seats.seats.items seat) (waits_at self.new.seats.seats.items seat) }
         ensures others { KeepsOtherBots seat self.old.seats.seats.items self.new.seats.seats.items }
     {
         tell_bot(&self.member, &mut self.seats, seat, self.apart.is_apart())
@@ -397,7 +397,7 @@ impl<D: Disk + Drop, W: Wire + Drop> Desk<D, W> {
     /// the version without `#RESUME`.
     fn tell_seat(&mut self, seat: u8)
         ensures kept { IsKept W.Wire self.old self.new }
-        ensures served { IsServedAt D.Disk (look_of self.old.member.station) seat (bot_at self.new.seats.seats.items seat) (waits_at self.new.seats.seats.items seat) }
+        ensures served { IsServedAt (look_of self.old.member.station) seat (bot_at self.new.seats.seats.items seat) (waits_at self.new.seats.seats.items seat) }
         ensures others { KeepsOtherBots seat self.old.seats.seats.items self.new.seats.seats.items }
     {
         if !self.tell_bot(seat) {
@@ -408,7 +408,7 @@ impl<D: Disk + Drop, W: Wire + Drop> Desk<D, W> {
     /// Tells seats what there is to tell, or to come again later, as `tell_seat` does.
     pub(crate) fn tell_seats(&mut self)
         ensures kept { IsKept W.Wire self.old self.new }
-        ensures served { AreServed D.Disk (look_of self.new.member.station) self.new.seats.seats.items }
+        ensures served { AreServed (look_of self.new.member.station) self.new.seats.seats.items }
     {
         for seat in 0..self.member.players() {
             self.tell_seat(seat);

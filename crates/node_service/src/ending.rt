@@ -75,7 +75,7 @@ impl<D: Disk + Drop, W: Wire + Drop> NodeServer<D, W> {
     /// Whether the match is over here since so long that seats have read their end or had the time to, and no peer needs to be
     /// waited for.
     pub(crate) fn is_done(&self, over: Option<u64>, now: u64) -> bool
-        ensures over { result ≡ true → IsOverAt D.Disk (look_in self.now).node }
+        ensures over { result ≡ true → IsOverAt (look_in self.now).node }
         ensures known { result ≡ true → IsKnownEverywhere self.now now }
     {
         let Some(passed) = over else {

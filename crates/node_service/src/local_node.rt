@@ -2,12 +2,8 @@
 
 ghost use Rattle.std.specs.Prelude.{◌≡◌, ◌<◌, ◌≤◌, ◌++◌, true, false, Some, None, IfSome, IsSome, IsNone};
 ghost use Rattle.dealer_node.specs.Outs.{nothing_told};
-ghost use Rattle.dealer_node.specs.Seeing.{IsSeen, member_in};
-ghost use Rattle.node_rules.specs.Standings.{Standing};
-ghost use Rattle.node_rules.specs.Showing.{is_connected as is_talk_ready};
-ghost use Rattle.node_rules.specs.Seats.{session_at};
+ghost use Rattle.dealer_node.specs.Seeing.{ready_in};
 ghost use Rattle.stations.specs.Stations.{Acts};
-ghost use Rattle.node_service.specs.Bots.{OfTable};
 ghost use Rattle.node_service.specs.declared.limits.TheConstants.{SEATS as COUNT};
 ghost use Rattle.node_service.specs.Calling.{MayBeGiven, started_by, started_after, called_if};
 ghost use Rattle.node_service.specs.Sittings.{IsGivenBy};
@@ -271,7 +267,7 @@ impl<D: Disk + Drop> LocalNode<D> {
 
     /// Whether the match is over at the node.
     pub(crate) fn is_over(&self) -> bool
-        ensures { result ≡ true → IsOverAt D.Disk (look_of self.now.station).node }
+        ensures { result ≡ true → IsOverAt (look_of self.now.station).node }
     {
         self.station.node().table().over()
     }
@@ -285,7 +281,7 @@ impl<D: Disk + Drop> LocalNode<D> {
 
     /// Whether a seat's session is ready.
     pub fn is_connected(&self, seat: u8) -> bool
-        ensures { (s : Standing) → IsSeen D.Disk (look_of self.now.station).node s → seat < (member_in (look_of self.now.station).node).setting.game.players → is_talk_ready (session_at s.sessions seat) ≡ true → result ≡ true }
+        ensures { seat < (look_of self.now.station).config.setting.game.players → ready_in (look_of self.now.station).node seat ≡ true → result ≡ true }
     {
         self.station.limits();
         let players = self.station.config().game().players();
@@ -294,10 +290,10 @@ impl<D: Disk + Drop> LocalNode<D> {
 
     /// How many seats the match has.
     pub(crate) fn players(&self) -> u8
-        ensures all { OfTable D.Disk (look_of self.now.station) (λ table. table.game.players ≤ result) }
+        ensures all { (look_of self.now.station).config.setting.game.players ≤ result }
         ensures most { result ≤ COUNT }
     {
-        let game = self.node().table().game();
+        let game = self.station.config().game();
         game.limits();
         game.players() as u8
     }

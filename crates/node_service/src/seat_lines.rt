@@ -121,20 +121,24 @@ pub(crate) fn is_behind<D: Disk + Drop>(member: &LocalNode<D>, seats: &Seats, se
 }
 
 /// Where the bot of a seat isn't told lines yet, it is from the line on from which it asked to be; or it is told that there is no
-/// such line. False without memory for that.
+/// such line. False without memory for that, and where the table has no such seat.
 #[tactic(auto, using(crate::proofs::Bots::bots_still, crate::proofs::Apartness::none_put_off, crate::proofs::Seated::sat_still, crate::proofs::Seated::sat_said))]
 fn begin<D: Disk + Drop>(member: &LocalNode<D>, seats: &mut Seats, seat: u8) -> bool
-    ensures bots { KeepBots D.Disk (look_of member.now.station) (look_of member.now.station) seats.old.seats.items seats.new.seats.items }
+    ensures bots { KeepBots (look_of member.now.station) (look_of member.now.station) seats.old.seats.items seats.new.seats.items }
     ensures said { (passed : List Passage) → AreSaid passed seats.old.seats.items → AreSaid passed seats.new.seats.items }
     ensures waits { PutsOff false seats.old.seats.items seats.new.seats.items }
     ensures guests { seats.new.guests ≡ seats.old.guests }
     ensures sat { SatBefore seats.old.seats.items seats.new.seats.items }
-    ensures begun { result ≡ true → OfTable D.Disk (look_of member.now.station) (λ table. seat < table.game.players → HasBegun table seat (bot_at seats.new.seats.items seat)) }
+    ensures within { result ≡ true → OfTable (look_of member.now.station) (λ table. seat < table.game.players) }
+    ensures begun { result ≡ true → OfTable (look_of member.now.station) (λ table. HasBegun table seat (bot_at seats.new.seats.items seat)) }
     ensures others { KeepsOtherBots seat seats.old.seats.items seats.new.seats.items }
 {
     member.station().limits();
     let table = member.node().table();
-    if seat as usize >= table.game().players() || !seats.is_silent(seat) {
+    if seat as usize >= table.game().players() {
+        return false;
+    }
+    if !seats.is_silent(seat) {
         return true;
     }
     let (asked, named) = seats.asked(seat);
@@ -152,7 +156,7 @@ fn begin<D: Disk + Drop>(member: &LocalNode<D>, seats: &mut Seats, seat: u8) -> 
 /// without memory for that.
 #[tactic(auto, using(crate::proofs::Bots::bots_still, crate::proofs::Apartness::none_put_off, crate::proofs::Seated::sat_still, crate::proofs::Seated::sat_said))]
 pub(crate) fn refuse<D: Disk + Drop>(member: &LocalNode<D>, seats: &mut Seats, seat: u8) -> bool
-    ensures bots { KeepBots D.Disk (look_of member.now.station) (look_of member.now.station) seats.old.seats.items seats.new.seats.items }
+    ensures bots { KeepBots (look_of member.now.station) (look_of member.now.station) seats.old.seats.items seats.new.seats.items }
     ensures said { (passed : List Passage) → AreSaid passed seats.old.seats.items → AreSaid passed seats.new.seats.items }
     ensures waits { PutsOff false seats.old.seats.items seats.new.seats.items }
     ensures guests { seats.new.guests ≡ seats.old.guests }
@@ -193,13 +197,13 @@ fn has_line(table: &Table, seat: u8, named: &[u8]) -> bool
 
 /// Tells the bot of a seat the lines to which the table has come. False without memory for one.
 fn tell<D: Disk + Drop>(member: &LocalNode<D>, seats: &mut Seats, seat: u8) -> bool
-    ensures bots { KeepBots D.Disk (look_of member.now.station) (look_of member.now.station) seats.old.seats.items seats.new.seats.items }
+    ensures bots { KeepBots (look_of member.now.station) (look_of member.now.station) seats.old.seats.items seats.new.seats.items }
     ensures said { (passed : List Passage) → AreSaid passed seats.old.seats.items → AreSaid passed seats.new.seats.items }
     ensures waits { PutsOff false seats.old.seats.items seats.new.seats.items }
     ensures guests { seats.new.guests ≡ seats.old.guests }
     ensures sat { SatBefore seats.old.seats.items seats.new.seats.items }
     ensures begun { (table : Match) → HasBegun table seat (bot_at seats.old.seats.items seat) → HasBegun table seat (bot_at seats.new.seats.items seat) }
-    ensures told { result ≡ true → OfTable D.Disk (look_of member.now.station) (λ table. seat < table.game.players → IsToldAll table seat (bot_at seats.new.seats.items seat) (waits_at seats.new.seats.items seat)) }
+    ensures told { result ≡ true → OfTable (look_of member.now.station) (λ table. seat < table.game.players → IsToldAll table seat (bot_at seats.new.seats.items seat) (waits_at seats.new.seats.items seat)) }
     ensures others { KeepsOtherBots seat seats.old.seats.items seats.new.seats.items }
 {
     member.station().limits();
@@ -210,14 +214,14 @@ fn tell<D: Disk + Drop>(member: &LocalNode<D>, seats: &mut Seats, seat: u8) -> b
 /// on. False without memory for that.
 #[tactic(auto, using(crate::proofs::Bots::bots_still, crate::proofs::Apartness::none_put_off, crate::proofs::Seated::sat_still, crate::proofs::Seated::sat_said))]
 fn end<D: Disk + Drop>(member: &LocalNode<D>, seats: &mut Seats, seat: u8) -> bool
-    ensures bots { KeepBots D.Disk (look_of member.now.station) (look_of member.now.station) seats.old.seats.items seats.new.seats.items }
+    ensures bots { KeepBots (look_of member.now.station) (look_of member.now.station) seats.old.seats.items seats.new.seats.items }
     ensures said { (passed : List Passage) → AreSaid passed seats.old.seats.items → AreSaid passed seats.new.seats.items }
     ensures waits { PutsOff false seats.old.seats.items seats.new.seats.items }
     ensures guests { seats.new.guests ≡ seats.old.guests }
     ensures sat { SatBefore seats.old.seats.items seats.new.seats.items }
     ensures begun { (table : Match) → HasBegun table seat (bot_at seats.old.seats.items seat) → HasBegun table seat (bot_at seats.new.seats.items seat) }
     ensures told { (table : Match) → IsToldAll table seat (bot_at seats.old.seats.items seat) (waits_at seats.old.seats.items seat) → IsToldAll table seat (bot_at seats.new.seats.items seat) (waits_at seats.new.seats.items seat) }
-    ensures over { result ≡ true → OfTable D.Disk (look_of member.now.station) (λ table. seat < table.game.players → IsToldOver table seat (bot_at seats.new.seats.items seat)) }
+    ensures over { result ≡ true → OfTable (look_of member.now.station) (λ table. seat < table.game.players → IsToldOver table seat (bot_at seats.new.seats.items seat)) }
     ensures others { KeepsOtherBots seat seats.old.seats.items seats.new.seats.items }
 {
     member.station().limits();
@@ -241,12 +245,12 @@ fn end<D: Disk + Drop>(member: &LocalNode<D>, seats: &mut Seats, seat: u8) -> bo
 /// without that, or without memory: then it is to be let go of.
 #[tactic(auto, using(crate::proofs::Bots::bots_still, crate::proofs::Apartness::none_put_off, crate::proofs::Seated::sat_still, crate::proofs::Seated::sat_said, crate::proofs::Owing::served_gone))]
 fn put_off<D: Disk + Drop>(member: &LocalNode<D>, seats: &mut Seats, seat: u8) -> bool
-    ensures bots { KeepBots D.Disk (look_of member.now.station) (look_of member.now.station) seats.old.seats.items seats.new.seats.items }
+    ensures bots { KeepBots (look_of member.now.station) (look_of member.now.station) seats.old.seats.items seats.new.seats.items }
     ensures said { (passed : List Passage) → AreSaid passed seats.old.seats.items → AreSaid passed seats.new.seats.items }
     ensures waits { PutsOff true seats.old.seats.items seats.new.seats.items }
     ensures guests { seats.new.guests ≡ seats.old.guests }
     ensures sat { SatBefore seats.old.seats.items seats.new.seats.items }
-    ensures served { result ≡ true → IsServedAt D.Disk (look_of member.now.station) seat (bot_at seats.new.seats.items seat) (waits_at seats.new.seats.items seat) }
+    ensures served { result ≡ true → IsServedAt (look_of member.now.station) seat (bot_at seats.new.seats.items seat) (waits_at seats.new.seats.items seat) }
     ensures others { KeepsOtherBots seat seats.old.seats.items seats.new.seats.items }
 {
     if seats.has_resumed(seat) {
@@ -261,12 +265,12 @@ fn put_off<D: Disk + Drop>(member: &LocalNode<D>, seats: &mut Seats, seat: u8) -
 /// Tells the bot of a seat what there is to tell, where its session is ready. False without memory: then it is to be let go of.
 #[tactic(auto, using(crate::proofs::Bots::bots_still, crate::proofs::Apartness::none_put_off, crate::proofs::Seated::sat_still, crate::proofs::Seated::sat_said))]
 fn tell_lines<D: Disk + Drop>(member: &LocalNode<D>, seats: &mut Seats, seat: u8) -> bool
-    ensures bots { KeepBots D.Disk (look_of member.now.station) (look_of member.now.station) seats.old.seats.items seats.new.seats.items }
+    ensures bots { KeepBots (look_of member.now.station) (look_of member.now.station) seats.old.seats.items seats.new.seats.items }
     ensures said { (passed : List Passage) → AreSaid passed seats.old.seats.items → AreSaid passed seats.new.seats.items }
     ensures waits { PutsOff false seats.old.seats.items seats.new.seats.items }
     ensures guests { seats.new.guests ≡ seats.old.guests }
     ensures sat { SatBefore seats.old.seats.items seats.new.seats.items }
-    ensures served { result ≡ true → IsServedAt D.Disk (look_of member.now.station) seat (bot_at seats.new.seats.items seat) (waits_at seats.new.seats.items seat) }
+    ensures served { result ≡ true → IsServedAt (look_of member.now.station) seat (bot_at seats.new.seats.items seat) (waits_at seats.new.seats.items seat) }
     ensures others { KeepsOtherBots seat seats.old.seats.items seats.new.seats.items }
 {
     if !member.is_connected(seat) {
@@ -290,12 +294,12 @@ pub(crate) fn tell_bot<D: Disk + Drop>(
     seat: u8,
     is_apart: bool,
 ) -> bool
-    ensures bots { KeepBots D.Disk (look_of member.now.station) (look_of member.now.station) seats.old.seats.items seats.new.seats.items }
+    ensures bots { KeepBots (look_of member.now.station) (look_of member.now.station) seats.old.seats.items seats.new.seats.items }
     ensures said { (passed : List Passage) → AreSaid passed seats.old.seats.items → AreSaid passed seats.new.seats.items }
     ensures waits { PutsOff is_apart seats.old.seats.items seats.new.seats.items }
     ensures guests { seats.new.guests ≡ seats.old.guests }
     ensures sat { SatBefore seats.old.seats.items seats.new.seats.items }
-    ensures served { result ≡ true → IsServedAt D.Disk (look_of member.now.station) seat (bot_at seats.new.seats.items seat) (waits_at seats.new.seats.items seat) }
+    ensures served { result ≡ true → IsServedAt (look_of member.now.station) seat (bot_at seats.new.seats.items seat) (waits_at seats.new.seats.items seat) }
     ensures others { KeepsOtherBots seat seats.old.seats.items seats.new.seats.items }
 {
     if is_apart {
@@ -312,7 +316,7 @@ pub(crate) fn tell_all<D: Disk + Drop>(
     seats: &mut Seats,
     is_apart: bool,
 ) -> u16
-    ensures bots { KeepBots D.Disk (look_of member.now.station) (look_of member.now.station) seats.old.seats.items seats.new.seats.items }
+    ensures bots { KeepBots (look_of member.now.station) (look_of member.now.station) seats.old.seats.items seats.new.seats.items }
     ensures said { (passed : List Passage) → AreSaid passed seats.old.seats.items → AreSaid passed seats.new.seats.items }
     ensures waits { PutsOff is_apart seats.old.seats.items seats.new.seats.items }
     ensures guests { seats.new.guests ≡ seats.old.guests }

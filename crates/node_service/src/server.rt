@@ -171,7 +171,7 @@ impl<D: Disk + Drop, W: Wire + Drop> NodeServer<D, W> {
         ensures sent { (served_of result).sent ≡ frames_of peers }
         ensures heard { (served_of result).heard ≡ heard_of peers }
         ensures carried { IsCarried (W.passed wire) (passed_of peers) seats.seats.items askers.askers.items → Carries (served_of result) }
-        ensures bots { ((seat : ℕ) → bot_at seats.seats.items seat ≡ no_bot) → AreBotsOf D.Disk (look_in result) (served_of result).bots }
+        ensures bots { ((seat : ℕ) → bot_at seats.seats.items seat ≡ no_bot) → AreBotsOf (look_in result) (served_of result).bots }
         ensures peers { outcome_in result ≡ Further → (own_of peers).number ≡ (look_in result).number }
         ensures further { (own_of peers).number ≡ (look_in result).number → member.fault ≡ None → outcome_in result ≡ Further }
         ensures started { (served_of result).started ≡ member.is_started }
@@ -391,7 +391,7 @@ impl<D: Disk + Drop, W: Wire + Drop> NodeServer<D, W> {
         ensures same { is_well result ≡ true → result ≡ outcome_in self.now }
         ensures log { is_well result ≡ true → self.now.desk.log_failed ≡ false }
         ensures runs { is_well result ≡ true → runs (look_in self.now).node ≡ true }
-        ensures over { result ≡ IsOver → IsOverAt D.Disk (look_in self.now).node }
+        ensures over { result ≡ IsOver → IsOverAt (look_in self.now).node }
         ensures behind { result ≡ IsOver → ending_in self.now ≡ Further }
         ensures fault { outcome_in self.now ≡ Further → IsFault result → IsMeant self.now result }
     {
@@ -406,7 +406,7 @@ impl<D: Disk + Drop, W: Wire + Drop> NodeServer<D, W> {
         ensures goes { Does D.Disk [] (served_of self.old) (served_of self.new) }
         ensures log { is_well result ≡ true → (served_of self.new).log_failed ≡ false }
         ensures runs { is_well result ≡ true → runs (look_in self.new).node ≡ true }
-        ensures over { result ≡ IsOver → IsOverAt D.Disk (look_in self.new).node }
+        ensures over { result ≡ IsOver → IsOverAt (look_in self.new).node }
         ensures begun { IsFresh (look_in self.old) → IsBegun result (served_of self.new) }
         ensures further { result ≡ Further → outcome_in self.new ≡ Further }
         ensures known { outcome_in self.old ≡ Further → result ≡ IsOver → ⊥ }
@@ -537,7 +537,7 @@ impl<D: Disk + Drop, W: Wire + Drop> NodeServer<D, W> {
     /// The process ends in the middle of a turn.
     pub(crate) fn part(&mut self)
         ensures kept { IsKept W.Wire self.old.desk self.new.desk }
-        ensures served { AreServed D.Disk (look_in self.new) (served_of self.new).bots }
+        ensures served { AreServed (look_in self.new) (served_of self.new).bots }
     {
         self.answer_replaced();
         self.desk.tell_seats();
@@ -562,13 +562,13 @@ impl<D: Disk + Drop, W: Wire + Drop> NodeServer<D, W> {
         ensures takes { GoesOnWith D.Disk (IsTurnOf (served_of self.old).bots) (served_of self.old) (served_of self.new) }
         ensures log { is_well result.0 ≡ true → (served_of self.new).log_failed ≡ false }
         ensures runs { is_well result.0 ≡ true → runs (look_in self.new).node ≡ true }
-        ensures over { result.0 ≡ IsOver → IsOverAt D.Disk (look_in self.new).node }
+        ensures over { result.0 ≡ IsOver → IsOverAt (look_in self.new).node }
         ensures behind { result.0 ≡ IsOver → ending_in self.new ≡ Further }
         ensures known { outcome_in self.old ≡ Further → result.0 ≡ IsOver → IsKnownEverywhere self.new self.new.left }
         ensures further { result.0 ≡ Further → outcome_in self.new ≡ Further }
         ensures fault { outcome_in self.old ≡ Further → IsFault result.0 → IsMeant self.new result.0 }
         ensures wait { result.1 ≤ LOOK }
-        ensures served { result.0 ≡ Further → AreServed D.Disk (look_in self.new) (served_of self.new).bots }
+        ensures served { result.0 ≡ Further → AreServed (look_in self.new) (served_of self.new).bots }
         ensures down { runs (look_in self.old).node ≡ false → self.new ≡ self.old }
         ensures ended { (outcome_in self.old ≡ Further → ⊥) → self.new ≡ self.old }
     {
@@ -585,10 +585,10 @@ impl<D: Disk + Drop, W: Wire + Drop> NodeServer<D, W> {
     /// next turn may wait.
     fn take_turn(&mut self, alloc: Global, most: u64) -> (bool, u64)
         ensures takes { GoesOnWith D.Disk (IsTurnOf (served_of self.old).bots) (served_of self.old) (served_of self.new) }
-        ensures over { result.0 ≡ true → IsOverAt D.Disk (look_in self.new).node }
+        ensures over { result.0 ≡ true → IsOverAt (look_in self.new).node }
         ensures known { result.0 ≡ true → IsKnownEverywhere self.new self.new.left }
         ensures wait { result.1 ≤ LOOK }
-        ensures served { AreServed D.Disk (look_in self.new) (served_of self.new).bots }
+        ensures served { AreServed (look_in self.new) (served_of self.new).bots }
     {
         // Nobody follows those who sit there now within this turn, nor one another.
         let closed = self.desk.seats.taken_bits();

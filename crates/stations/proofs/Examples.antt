@@ -1,8 +1,9 @@
 -- Deeds of nodes and orders of them, on values.
-use Rattle.std.proofs.Common.{◌≡◌, ◌≢◌, ℕ, zero, suc, ◌<◌, ◌∙◌, ◌++◌, map, ◌==◌, if◌then◌else◌, inl, inr, true, false, Bool, List, [], ◌∷◌, length, get_or, Option, Some, None, Result, Ok, Err, refl, ap, sym, subst, arith, take, append-nil}
+use Rattle.std.proofs.Common.{◌≡◌, ◌≢◌, ℕ, zero, suc, ◌<◌, ◌∙◌, ◌++◌, map, ◌==◌, if◌then◌else◌, inl, inr, true, false, Bool, List, [], ◌∷◌, length, get_or, Some, None, Result, Ok, Err, refl, ap, sym, subst, arith, take, append-nil}
 use Rattle.promise_store.specs.declared.disk.Disk.{Ghosts}
 use Rattle.promise_store.specs.Journals.{header}
 use Rattle.promise_store.specs.Holding.{StandsFor}
+use Rattle.slot_log.specs.Hand.{Hand, Match}
 use Rattle.protocol_model.specs.Stores.{Store, empty_store}
 use Rattle.dealer_kind.specs.Kind.{Setting}
 use Rattle.dealer_kind.specs.Plans.{Plan, IsPlan}
@@ -17,7 +18,8 @@ use Rattle.dealer_node.specs.Nodes.{Node}
 use Rattle.dealer_node.specs.declared.fault.NodeFault.{NodeFault}
 use Rattle.dealer_node.specs.declared.fault.NodeFault.TheVariants as fault
 use Rattle.dealer_node.specs.Outs.{Told, nothing_told}
-use Rattle.dealer_node.specs.Seeing.{front_in, begun_of, images_of, since_of, moment_of}
+use Rattle.dealer_node.specs.Members.{place_at}
+use Rattle.dealer_node.specs.Seeing.{member_in, front_in, table_in, begun_of, images_of, since_of, moment_of}
 use Rattle.dealer_world.specs.declared.event.Event.{Event}
 use Rattle.dealer_world.specs.declared.event.Event.TheVariants as event
 use Rattle.dealer_world.specs.Records.{Frame, Arrived, Delivered, Ordered, Arrival}
@@ -29,8 +31,10 @@ use Rattle.dealer_world.specs.Stepping.{IsFor, IsGiven}
 use Rattle.dealer_world.specs.Unforged.{IsAmong, IsUnforged}
 use Rattle.stations.specs.Deeds.{Deed, Did, new_at, Doing, deeds_of, IsOrder, record_of}
 use Rattle.stations.specs.Joining.{AreProcesses}
-use Rattle.stations.specs.Stations.{Look, known_place, deed_by, GainsDeed, nothing, call, LeavesFile, died, broke_off}
+use Rattle.stations.specs.Moments.{Moment, moment_now}
+use Rattle.stations.specs.Stations.{Look, known_place, deed_by, GainsDeed, nothing, call, LeavesFile, died, broke_off, Acts, Has, opened}
 use Rattle.stations.specs.Incarnations.{IsProcess, Ended, at_rest, inside, MayHaveDone, new_store, one_more, IsHistoryOf}
+use Rattle.stations.specs.Tables.{HadTable}
 use Rattle.stations.specs.Together.{HasIncarnations, HasHistory, MayFind, HaveHistories}
 use Rattle.stations.proofs.Dying.{stops_down}
 
@@ -310,3 +314,51 @@ module _ {D : Type 0} (g : Ghosts D) (place : Place) where
       → look.deeds ≡ starts place ∷ [] → HasHistory g place (Some look) (record { at = at; incarnations = new_store (begun_of g look.node) new }) [] → ⊥
   what_its_present_process_did_is_left_out look at new did own =
       let more : [] ≡ starts place ∷ own.before = subst (λ (deeds : List Deed). [] ≡ deeds ++ own.before) did own.newest in cc
+
+-- ---- the tables of a station
+
+-- one hand more
+abbrev dealt_on : Hand → Match → Match
+dealt_on hand table = record { game = table.game; count = table.count; hands = hand ∷ table.hands; room = table.room }
+
+not_dealt_on : (hand : Hand) (table : Match) → table ≢ dealt_on hand table
+not_dealt_on hand table same = longer hand table.hands (sym (ap (λ (t : Match). t.hands) same))
+
+module _ {D : Type 0} (g : Ghosts D) (config : Plan) (number : ℕ) (node : Node D) where
+  -- a process that was opened, with its node
+  abbrev opened_one : Look (Node D)
+  opened_one = record { config = config; number = number; node = node; deeds = []; moments = moment_now node [] ∷ [] }
+
+  -- over a disk that isn't honest that is a station, whatever table the node has
+  it_is_a_station : g.is_honest ≡ false → number < length config.sources → place_at (member_in node) ≡ place_of config number → Has g opened_one
+  it_is_a_station dishonest here placed = record {
+    here = here;
+    at_place = ∣ placed ∣₁;
+    newest = refl;
+    true_to = λ before left honest. absurd (cc (dishonest, honest));
+    tables = λ before left honest. absurd (cc (dishonest, honest));
+    works = ∣ opened opened_one refl refl refl refl ∣₁;
+  }
+
+  it_had_its_table : HadTable opened_one (table_in node)
+  it_had_its_table = record { moment = moment_now node []; was = inl refl; table_is = refl }
+
+  a_table_that_it_never_had : (hand : Hand) → HadTable opened_one (dealt_on hand (table_in node)) → ⊥
+  a_table_that_it_never_had hand had = elim had.was as (λ _. ⊥) [
+    | inl is ↦ not_dealt_on hand (table_in node) (sym (ap (λ (m : Moment). m.table) is) ∙ had.table_is)
+    | inr none ↦ absurd none
+  ]
+
+  -- a call is one moment more, by 92 too
+  module _ (e : Event) (told : Told) (answer : Result (Unit {0}) NodeFault) (new : Look (Node D)) where
+    a_moment_left_out : new.moments ≡ opened_one.moments → Acts g e told answer opened_one new → ⊥
+    a_moment_left_out none acts = longer (moment_now new.node new.deeds) opened_one.moments (sym acts.moments ∙ none)
+
+    a_moment_with_the_table_before : new.moments ≡ record { table = table_in node; deeds = new.deeds } ∷ opened_one.moments → table_in node ≢ table_in new.node
+        → Acts g e told answer opened_one new → ⊥
+    a_moment_with_the_table_before so other acts =
+        other (ap (λ (ms : List Moment). first_table (table_in node) ms) (sym so ∙ acts.moments))
+      where
+        first_table : Match → List Moment → Match
+        first_table none [] = none
+        first_table none (moment ∷ earlier) = moment.table

@@ -18,9 +18,11 @@ use Rattle.node_rules.proofs.Examples.{opened as opened_up, setting}
 use Rattle.dealer_node.specs.Nodes.{Node}
 use Rattle.dealer_node.specs.Seeing.{disk_in, images_by, images_of}
 use Rattle.dealer_world.specs.RuleRuns.{plan_of}
-use Rattle.stations.specs.Stations.{Look, opened, died}
+use Rattle.stations.specs.Moments.{moment_now}
+use Rattle.stations.specs.Stations.{Look, opened, died, IsTrueTo}
 use Rattle.stations.specs.Incarnations.{IsProcess, Ended, at_rest, Incarnations, new_store, one_more, IsHistoryOf}
 use Rattle.stations.specs.Together.{PastIncarnations, MayFind}
+use Rattle.stations.proofs.OwnTables.{tables_now, no_tables}
 
 abbrev plan : Plan
 plan = plan_of setting (Seed 7 ∷ Seed 8 ∷ Seed 9 ∷ [])
@@ -50,19 +52,18 @@ none_dealt : [] ≡ hands_after setting []
 unfolding opened_up
 none_dealt = refl
 
--- of node 0, down over this disk
-abbrev look : MemoryDisk → Look (Node MemoryDisk)
-look disk = record {
-  config = plan;
-  number = 0;
-  node = record {
-    member = record { setting = setting; source = Seed 7; nodes = 3; node = 0 };
-    blank = record { game = setting.game; count = setting.title.hands; hands = []; room = 0 };
-    disk = Some disk;
-    up = None;
-  };
-  deeds = [];
+-- node 0, down over this disk
+abbrev node_over : MemoryDisk → Node MemoryDisk
+node_over disk = record {
+  member = record { setting = setting; source = Seed 7; nodes = 3; node = 0 };
+  blank = record { game = setting.game; count = setting.title.hands; hands = []; room = 0 };
+  disk = Some disk;
+  up = None;
 }
+
+-- and its process
+abbrev look : MemoryDisk → Look (Node MemoryDisk)
+look disk = record { config = plan; number = 0; node = node_over disk; deeds = []; moments = moment_now (node_over disk) [] ∷ [] }
 
 -- a file was written on the disk and synced, and then the disk was begun
 pub record IsBegunOn (file : List ℕ) (disk : MemoryDisk) : Type 0 where
@@ -81,6 +82,20 @@ module _ (file : List ℕ) (whole : landed 1 [] 0 file ≡ file) (disk : MemoryD
   leaves_nothing_else : (image : List ℕ) → images_of in_memory (look disk).node image → image ≡ file
   leaves_nothing_else image left = nothing_else image (subst (λ (calls : List Event). IsImage (contents calls) image) on.calls left)
 
+  goes_on_from_there : IsTrueTo in_memory place (node_over disk) []
+  goes_on_from_there before left honest = ∥∥₁_map left (λ was. record {
+    s = was.s;
+    seen = record {
+      by = record {
+        stopped = was.down;
+        leaves = λ image at.
+            subst (λ (f : List ℕ). StandsFor (header 0 3) f was.s.store ⊎ StandsFor (header 0 3) f was.s.begun) (on.begun ∙ sym (leaves_nothing_else image at)) was.held;
+      };
+      blank = record { game = refl; count = refl; hands = none_dealt };
+    };
+    did = was.did;
+  })
+
   is_process : IsProcess in_memory place file (look disk)
   is_process = record {
     placed = refl;
@@ -88,19 +103,10 @@ module _ (file : List ℕ) (whole : landed 1 [] 0 file ≡ file) (disk : MemoryD
     has = record {
       here = omega arith;
       at_place = ∣ refl ∣₁;
-      true_to = λ before left honest. ∥∥₁_map left (λ was. record {
-        s = was.s;
-        seen = record {
-          by = record {
-            stopped = was.down;
-            leaves = λ image at.
-                subst (λ (f : List ℕ). StandsFor (header 0 3) f was.s.store ⊎ StandsFor (header 0 3) f was.s.begun) (on.begun ∙ sym (leaves_nothing_else image at)) was.held;
-          };
-          blank = record { game = refl; count = refl; hands = none_dealt };
-        };
-        did = was.did;
-      });
-      works = ∣ opened (look disk) refl refl refl ∣₁;
+      newest = refl;
+      true_to = goes_on_from_there;
+      tables = tables_now in_memory place (node_over disk) [] [] ∣ refl ∣₁ goes_on_from_there (no_tables in_memory place (node_over disk));
+      works = ∣ opened (look disk) refl refl refl refl ∣₁;
     };
   }
 

@@ -1,3 +1,4 @@
+pub mod OwnTables
 mod Joining
 mod Moving
 mod Acting

@@ -1,8 +1,7 @@
 -- The ways of the processes of a match are those of a run of the rules.
-use Rattle.std.proofs.Common.{◌≡◌, ◌≢◌, ℕ, ◌+◌, ◌<◌, ◌≤◌, ◌⊎◌, inl, inr, Bool, true, false, ◌==◌, List, [], ◌∷◌, ◌++◌, length, get_or, set, Result, Ok, IsTrue, refl, ap, sym, ◌∙◌, subst, arith}
+use Rattle.std.proofs.Common.{◌≡◌, ◌≢◌, ℕ, ◌+◌, ◌<◌, ◌≤◌, ◌⊎◌, inl, inr, true, false, ◌==◌, List, [], ◌∷◌, ◌++◌, length, set, IsTrue, refl, ap, sym, ◌∙◌, subst}
 use Rattle.std.proofs.lemmas.Bool.Decides.{eqb_tells}
 use Rattle.promise_store.specs.declared.disk.Disk.{Ghosts}
-use Rattle.slot_log.specs.declared.command.Command.{Command}
 use Rattle.protocol_model.specs.Sets.{In, put}
 use Rattle.protocol_model.specs.Stores.{empty_store}
 use Rattle.protocol_model.proofs.Sets.{in_first, in_later, put_same, put_other}
@@ -10,11 +9,10 @@ use Rattle.dealer_kind.specs.Kind.{Setting}
 use Rattle.dealer_kind.specs.Plans.{Plan}
 use Rattle.dealer_kind.specs.declared.source.Source.{Source}
 use Rattle.node_rules.specs.Standings.{Standing, place_of, stopped, front_of}
-use Rattle.node_rules.specs.Turns.{Turn, Refusal}
 use Rattle.node_rules.specs.Rules.{IsTurn}
 use Rattle.node_rules.specs.Calm.{Event}
 use Rattle.node_rules.specs.CalmRound.{node_of, call_of, AreKnown, HasMovedOn}
-use Rattle.node_rules.specs.Ways.{Movable, IsWay, HasShortWay}
+use Rattle.node_rules.specs.Ways.{IsWay, HasShortWay}
 use Rattle.node_rules.proofs.Members.{above_all}
 use Rattle.node_rules.proofs.WayMembers.{AllIn, way_in, movable_same, way_same}
 use Rattle.dealer_node.specs.Nodes.{Node}
@@ -30,7 +28,7 @@ use Rattle.dealer_world.specs.Unforged.{IsUnforged}
 use Rattle.dealer_world.specs.RuleRuns.{State, plan_of}
 use Rattle.dealer_world.specs.CalmRun.{standing_at, TakesEvents, IsNextTaken, NoDeadEnd}
 use Rattle.stations.specs.Deeds.{Deed, Doing, deeds_of, record_of}
-use Rattle.stations.specs.Joining.{DidAt, IsTrueOrder, AreProcesses}
+use Rattle.stations.specs.Joining.{IsTrueOrder}
 use Rattle.stations.specs.Stations.{deed_by, Look}
 use Rattle.stations.specs.Moving.{DoEvents, IsNextDone, ProcessesHaveNoDeadEnd, LooksDo, AreSeenAs, StationsHaveNoDeadEnd}
 use Rattle.stations.proofs.Joining.{from, length_from, at_place, set_place, run_of}

@@ -1,5 +1,5 @@
 -- The tables that nodes had are tables of one match: what was done up to some moment is a run too.
-use Rattle.std.proofs.Common.{◌≡◌, ℕ, ◌+◌, ◌<◌, ◌≤◌, ◌==◌, ◌⊎◌, inl, inr, Bool, true, if◌then◌else◌, List, [], ◌∷◌, ◌++◌, append_assoc, length, map, take, drop, IsTrue, refl, ap, sym, ◌∙◌, subst, arith}
+use Rattle.std.proofs.Common.{◌≡◌, ℕ, ◌+◌, ◌≤◌, inl, inr, Bool, if◌then◌else◌, List, [], ◌∷◌, ◌++◌, append_assoc, length, map, drop, IsTrue, refl, ap, sym, ◌∙◌, subst, arith}
 use Rattle.std.proofs.Math.Logic.{∥∥₁_map, ∥∥₁_elim}
 use Rattle.std.proofs.lemmas.Bool.{cases_lt}
 use Rattle.std.proofs.lemmas.Bool.Decides.{eqb_tells}
@@ -16,19 +16,18 @@ use Rattle.protocol_model.proofs.Sets.{in_first, in_later, in_split}
 use Rattle.dealer_kind.specs.Kind.{Setting}
 use Rattle.dealer_kind.specs.declared.source.Source.{Source}
 use Rattle.node_rules.specs.Standings.{Place, Standing, place_of, applied}
-use Rattle.dealer_node.specs.Nodes.{Node}
-use Rattle.dealer_node.specs.Members.{place_at}
 use Rattle.dealer_node.specs.Scenes.{IsTableOf}
-use Rattle.dealer_node.specs.Seeing.{member_in, IsSeen, begun_of}
+use Rattle.dealer_node.specs.Seeing.{begun_of}
 use Rattle.dealer_world.specs.Records.{Frame, Arrived, Arrival, said, said_by}
 use Rattle.dealer_world.specs.RuleRuns.{plan_of}
 use Rattle.dealer_world.specs.Unforged.{IsAmong, IsUnforged, ArePlaced}
 use Rattle.dealer_world.specs.Views.{placed_at}
 use Rattle.stations.specs.Deeds.{Deed, Did, new_at, Doing, deeds_of, record_of}
+use Rattle.stations.specs.Moments.{MakesTable}
 use Rattle.stations.specs.Joining.{DidAt, AreProcesses, ProcessesApplyTheChosen, ProcessesChooseOneList}
-use Rattle.stations.specs.Stations.{Look, known_place, HoldsAfter, LeavesFile}
-use Rattle.stations.specs.Tables.{ShowsBeginning, WasLook, WasTable, TablesAreOfOneMatch}
-use Rattle.stations.proofs.Together.{runs_or_knows_nothing}
+use Rattle.stations.specs.Stations.{known_place, LeavesFile}
+use Rattle.stations.specs.Tables.{ShowsBeginning, WasTable, TablesAreOfOneMatch}
+use Rattle.stations.proofs.OwnTables.{beginning_on, had_done}
 
 -- ---- what was done up to some moment
 
@@ -107,6 +106,9 @@ said_before (doing ∷ newer) earlier message h =
     let was = record_of (newer ++ earlier) in
     subst (λ (ms : List Message). In message ms) (sym (said_both was.sent doing.deed.made.frames)) (in_first (said was.sent) (said doing.deed.made.frames) message (said_before newer earlier message h))
 
+said_since : (all newer earlier : List Doing) → all ≡ newer ++ earlier → (message : Message) → In message (said (record_of earlier).sent) → In message (said (record_of all).sent)
+said_since all newer earlier whole message h = subst (λ (ds : List Doing). In message (said (record_of ds).sent)) (sym whole) (said_before newer earlier message h)
+
 chosen_more : (n : ℕ) (old new : List Message) → ((message : Message) → In message old → In message new) → (commands : List Command) → AreChosen n old commands → AreChosen n new commands
 chosen_more n old new more [] are = tt
 chosen_more n old new more (command ∷ commands) ((ballot, (quorum, is, all)), are) =
@@ -134,9 +136,6 @@ earlier_are_processes setting sources histories all newer earlier whole processe
 
 -- ---- tables
 
-beginning_on : {A : Type 0} (a b c : List A) → IsBeginning a b → IsBeginning b c → IsBeginning a c
-beginning_on a b c one two = (two.0 ++ one.0, two.1 ∙ (ap (λ (l : List _). two.0 ++ l) one.1 ∙ sym (append_assoc two.0 one.0 a)))
-
 shows_more : (setting : Setting) (commands more : List Command) → IsBeginning commands more → (tables : List Match) → AllByRecursion (ShowsBeginning setting commands) tables → AllByRecursion (ShowsBeginning setting more) tables
 shows_more setting commands more is [] are = tt
 shows_more setting commands more is (table ∷ tables) are =
@@ -151,26 +150,31 @@ pub record Shows (setting : Setting) (n : ℕ) (messages : List Message) (table 
 module _ {D : Type 0} (g : Ghosts D) where
   one_table : ProcessesApplyTheChosen → (setting : Setting) (sources : List Source) (histories : ℕ → List Deed) (all : List Doing) → AreProcesses setting sources histories all → IsTrue g.is_honest → (table : Match)
       → WasTable g (plan_of setting sources) histories table → ∥ Shows setting (length sources) (said (record_of all).sent) table ∥₁
-  one_table law setting sources histories all processes honest table had =
-      let i = had.node in
-      let look = had.look in
+  one_table law setting sources histories all processes honest table was =
+      let i = was.node in
+      let look = was.look in
+      let moment = was.had.moment in
+      let before = was.was.before in
       let place = place_of (plan_of setting sources) i in
-      let done = look.deeds ++ had.was.before in
-      let cut = cut_at i all had.was.since done (processes.order.order.each i had.is_node ∙ had.was.deeds_are) in
-      let was = earlier_are_processes setting sources histories all cut.newer cut.earlier cut.whole processes in
-      let more : (message : Message) → In message (said (record_of cut.earlier).sent) → In message (said (record_of all).sent) =
-      (λ message h. subst (λ (ds : List Doing). In message (said (record_of ds).sent)) (sym cut.whole) (said_before cut.newer cut.earlier message h)) in
-      let left : ∥ LeavesFile (known_place look) (begun_of g look.node) had.was.before ∥₁ = subst (λ (p : Place). ∥ LeavesFile p (begun_of g look.node) had.was.before ∥₁) (sym had.was.at) had.was.left in
-      let held : ∥ HoldsAfter g place look.node done ∥₁ = subst (λ (p : Place). ∥ HoldsAfter g p look.node done ∥₁) had.was.at (had.was.has.true_to had.was.before left honest) in
-      ∥∥₁_elim had.was.has.at_place (hlevel) (λ placed.
-      ∥∥₁_elim held (hlevel) (λ holds.
-      let s = holds.s in
-      let did : DidAt (plan_of setting sources) i (deeds_of cut.earlier i) s = subst (λ (ds : List Deed). Did place (new_at place) ds s) (sym cut.here) holds.did in
-      let same : (member_in look.node).setting ≡ setting = ap (λ (p : Place). p.setting) (placed ∙ had.was.at) in
-      let table_is : IsTableOf setting (applied s) table = subst (λ (m : Setting). IsTableOf m (applied s) table) same (had.table_is s holds.seen) in
-      elim (runs_or_knows_nothing g (member_in look.node) look.node.up look.node.disk s holds.seen.by) as (λ _. ∥ Shows setting (length sources) (said (record_of all).sent) table ∥₁) [
+      let done = moment.deeds ++ before in
+      let left : ∥ LeavesFile (known_place look) (begun_of g look.node) before ∥₁ = subst (λ (p : Place). ∥ LeavesFile p (begun_of g look.node) before ∥₁) (sym was.was.at) was.was.left in
+      let makes : ∥ MakesTable place done moment.table ∥₁ =
+      subst (λ (p : Place). ∥ MakesTable p done moment.table ∥₁) was.was.at (was.was.has.tables before left honest moment was.had.was) in
+      ∥∥₁_elim makes (hlevel) (λ made.
+      ∥∥₁_elim (had_done g (known_place look) (begun_of g look.node) look was.was.has.works moment was.had.was) (hlevel) (λ since.
+      let deeds_are : histories i ≡ (was.was.since ++ since.0) ++ done =
+      was.was.deeds_are
+      ∙ (ap (λ (ds : List Deed). was.was.since ++ (ds ++ before)) since.1
+      ∙ (ap (λ (ds : List Deed). was.was.since ++ ds) (append_assoc since.0 moment.deeds before) ∙ sym (append_assoc was.was.since since.0 done))) in
+      let cut = cut_at i all (was.was.since ++ since.0) done (processes.order.order.each i was.is_node ∙ deeds_are) in
+      let then_are = earlier_are_processes setting sources histories all cut.newer cut.earlier cut.whole processes in
+      let more = said_since all cut.newer cut.earlier cut.whole in
+      let s = made.s in
+      let did : DidAt (plan_of setting sources) i (deeds_of cut.earlier i) s = subst (λ (ds : List Deed). Did place (new_at place) ds s) (sym cut.here) made.did in
+      let table_is : IsTableOf setting (applied s) table = subst (λ (t : Match). IsTableOf setting (applied s) t) was.had.table_is made.table_is in
+      elim made.runs as (λ _. ∥ Shows setting (length sources) (said (record_of all).sent) table ∥₁) [
         | inl up ↦
-            ∥∥₁_map (law setting sources (deeds_of cut.earlier) cut.earlier was i s had.is_node did up) (λ chosen.
+            ∥∥₁_map (law setting sources (deeds_of cut.earlier) cut.earlier then_are i s was.is_node did up) (λ chosen.
             record { commands = applied s; chosen = chosen_more (length sources) (said (record_of cut.earlier).sent) (said (record_of all).sent) more (applied s) chosen; table_is = table_is })
         | inr none ↦ ∣ record { commands = []; chosen = tt; table_is = subst (λ (commands : List Command). IsTableOf setting commands table) none table_is } ∣₁
       ]))

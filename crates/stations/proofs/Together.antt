@@ -1,5 +1,5 @@
 -- All nodes of a match, each with a process now or with none.
-use Rattle.std.proofs.Common.{◌≡◌, Bool, true, false, ℕ, zero, suc, ◌<◌, ◌≤◌, ◌∙◌, ◌⊎◌, inl, inr, List, [], ◌∷◌, ◌++◌, length, map, Option, Some, None, get_or, IsTrue, refl, ap, sym, subst, arith}
+use Rattle.std.proofs.Common.{◌≡◌, ℕ, zero, suc, ◌<◌, ◌≤◌, ◌∙◌, ◌⊎◌, inl, inr, List, [], ◌∷◌, ◌++◌, length, map, Option, Some, None, get_or, IsTrue, refl, ap, sym, subst, arith}
 use Rattle.std.specs.Prelude.{option_map}
 use Rattle.std.specs.Coded.{le_prop}
 use Rattle.std.proofs.Math.Logic.{∥∥₁_map, ∥∥₁_elim}
@@ -14,9 +14,8 @@ use Rattle.dealer_kind.specs.declared.source.Source.{Source}
 use Rattle.protocol_model.specs.Quorums.{AreChosen}
 use Rattle.node_rules.specs.Standings.{Place, Standing, place_of, applied}
 use Rattle.dealer_node.specs.Nodes.{Node}
-use Rattle.dealer_node.specs.Members.{Membership, place_at}
-use Rattle.dealer_node.specs.Seeing.{member_in, IsSeen, IsSeenBy, begun_of}
-use Rattle.dealer_node.specs.declared.up.Up.{Up}
+use Rattle.dealer_node.specs.Members.{place_at}
+use Rattle.dealer_node.specs.Seeing.{member_in, IsSeen, begun_of}
 use Rattle.dealer_world.specs.Calling.{ConflictsAreRefusals}
 use Rattle.dealer_world.specs.Events.{call_of}
 use Rattle.dealer_world.specs.Records.{Arrived, said}
@@ -32,6 +31,7 @@ use Rattle.stations.specs.Incarnations.{IncarnationsAreDeeds}
 use Rattle.stations.specs.Together.{HasIncarnations, HasHistory, MayFind, HaveIncarnations, HaveHistories, AllAreBacked, NoNextConflicts, AllApplyTheChosen, ArePromised, StationsArePromised}
 use Rattle.stations.proofs.Dying.{ImagesAreSeen}
 use Rattle.stations.proofs.Joining.{all_merely}
+use Rattle.stations.proofs.OwnTables.{runs_or_knows_nothing}
 
 -- there are so many where one of this number is
 one_of : {A : Type 0} (list : List (Option A)) (i : ℕ) (one : A) → get_or list i None ≡ Some one → i < length list
@@ -46,12 +46,6 @@ seen_one see (first ∷ list) zero = refl
 seen_one see (first ∷ list) (suc i) = seen_one see list i
 
 module _ {D : Type 0} (g : Ghosts D) where
-  -- a node that is down applied nothing
-  pub runs_or_knows_nothing : (member : Membership) (up : Option (Up D)) (disk : Option D) (s : Standing) → IsSeenBy g member up disk s → (s.up ≡ true) ⊎ (applied s ≡ [])
-  runs_or_knows_nothing member (Some up) disk s seen = inl seen.running.up
-  runs_or_knows_nothing member None (Some disk) s down = inr (ap applied down.stopped)
-  runs_or_knows_nothing member None None s none = absurd none
-
   -- a node is where its deeds lead; what its next process may find stands for what that holds, and its present one, if it has one, is seen as it
   record IsThere (place : Place) (now : Option (Look (Node D))) (had : HasIncarnations g place now) (deeds : List Deed) : Type 0 where
     s : Standing
@@ -185,7 +179,7 @@ module _ {D : Type 0} (g : Ghosts D) where
         let there = each i less in
         let s = there.s in
         let seen = there.seen look at in
-        elim (runs_or_knows_nothing (member_in look.node) look.node.up look.node.disk s seen.by) as (λ _. ∥ ((s : Standing) × IsSeen g look.node s × AreChosen (length sources) (said (record_of all).sent) (applied s)) ∥₁) [
+        elim (runs_or_knows_nothing g (member_in look.node) look.node.up look.node.disk s seen.by) as (λ _. ∥ ((s : Standing) × IsSeen g look.node s × AreChosen (length sources) (said (record_of all).sent) (applied s)) ∥₁) [
           | inl up ↦ ∥∥₁_map (law setting sources histories all are_processes i s (subst (λ (n : ℕ). i < n) count less) there.did up) (λ chosen. (s, seen, chosen))
           | inr none ↦ ∣ (s, seen, subst (λ commands. AreChosen (length sources) (said (record_of all).sent) commands) (sym none) tt) ∣₁
         ]

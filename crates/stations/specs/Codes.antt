@@ -1,10 +1,14 @@
--- How the logic stores what a node did.
+-- How the logic stores what a node did, and the tables that it had.
 use Rattle.std.specs.Prelude.{◌≡◌, ℕ, ◌==◌, Bool, cond, List, [], refl}
-use Rattle.std.specs.Coded.{Coded, code_by, coded×, coded_ℕ, coded_bool, coded_list}
+use Rattle.std.specs.Coded.{Coded, Coded-set, code_by, coded×, coded_ℕ, coded_bool, coded_list}
+use Rattle.slot_log.specs.Hand.{Match}
+use Rattle.slot_log.specs.contracts.table.Table as Table
 use Rattle.protocol_model.specs.Dealers.{Reader, Seat, Log}
+use Rattle.dealer_node.specs.Nodes.{Node}
 use Rattle.dealer_world.specs.Records.{Frame, Arrived, Delivered, Came, Connected, Dropped, Ordered}
 use Rattle.dealer_world.specs.Calls.{Text}
 use Rattle.stations.specs.Deeds.{Deed}
+use Rattle.stations.specs.Moments.{Moment, EndNow}
 
 abbrev Four : Type 0
 Four = ℕ × (ℕ × (ℕ × List ℕ))
@@ -68,3 +72,10 @@ abbrev pub deeds_code : Coded (List Deed)
 deeds_code = coded_list (code_by Parts (coded× (coded_list coded_arrived) (coded× (coded_list coded_frame) (coded× (coded_list coded_text) coded_bool)))
     (λ (d : Deed). (d.arrived, (d.made.frames, (d.made.texts, d.made.began))))
     (λ (p : Parts). record { arrived = p.0; made = record { frames = p.1.0; texts = p.1.1.0; began = p.1.1.1 } }) (λ d. refl))
+
+abbrev pub moments_code : Coded (List Moment)
+moments_code = coded_list (code_by (Match × List Deed) (coded× Table.the_row.coded deeds_code) (λ (m : Moment). (m.table, m.deeds))
+    (λ (p : Match × List Deed). record { table = p.0; deeds = p.1 }) (λ m. refl))
+
+pub now_prop : {D : Type 0} (node : Node D) (deeds : List Deed) (moments : List Moment) → IsProp (EndNow node deeds moments)
+now_prop node deeds moments = Coded-set moments_code _ _

@@ -1,4 +1,5 @@
 pub mod Deeds
+pub mod Moments
 pub mod Codes
 pub mod Joining
 pub mod Moving

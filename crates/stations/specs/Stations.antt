@@ -4,6 +4,7 @@ use Rattle.promise_store.specs.declared.disk.Disk.{Ghosts}
 use Rattle.promise_store.specs.Journals.{header}
 use Rattle.promise_store.specs.Holding.{StandsFor}
 use Rattle.dealer_kind.specs.Plans.{Plan}
+use Rattle.protocol_model.specs.Sets.{In}
 use Rattle.node_rules.specs.Standings.{Place, Standing, place_of, stopped}
 use Rattle.dealer_node.specs.Nodes.{Node}
 use Rattle.dealer_node.specs.declared.fault.NodeFault.{NodeFault}
@@ -17,6 +18,7 @@ use Rattle.dealer_world.specs.Events.{node_of, brought_by}
 use Rattle.dealer_world.specs.Recordings.{made_by}
 use Rattle.dealer_world.specs.Stepping.{IsFor, IsGiven, arrived_by_event, begins_by_event}
 use Rattle.stations.specs.Deeds.{Deed, Did, new_at}
+use Rattle.stations.specs.Moments.{Moment, moment_now, EndNow, MakesTable}
 
 -- ---- what a call was
 
@@ -47,12 +49,14 @@ broke_off front e = record { arrived = brought_by front e; made = nothing_made }
 
 -- ---- stations
 
--- the match and its nodes, as this process knows them, the number of its node, the node, and what that did here, newest first
+-- the match and its nodes, as this process knows them, the number of its node, the node, what that did here, and its tables at each moment of this process, as it was
+-- opened and behind each call; both newest first
 pub record Look (N : Type 0) : Type 0 where
   pub config : Plan
   pub number : ℕ
   pub node : N
   pub deeds : List Deed
+  pub moments : List Moment
 
 abbrev pub known_place : {N : Type 0} → Look N → Place
 known_place look = place_of look.config look.number
@@ -68,17 +72,23 @@ module _ {D : Type 0} (g : Ghosts D) where
   abbrev pub IsTrueTo : Place → Node D → List Deed → Type 0
   IsTrueTo place node deeds = (before : List Deed) → ∥ LeavesFile place (begun_of g node) before ∥₁ → IsTrue g.is_honest → ∥ HoldsAfter place node (deeds ++ before) ∥₁
 
-  -- an event was given to the node, and its deeds are one more, or as many where there was no memory
+  -- there too the deeds of each moment of the process, behind those, led to its table
+  abbrev pub AreTrueTo : Place → Node D → List Moment → Type 0
+  AreTrueTo place node moments = (before : List Deed) → ∥ LeavesFile place (begun_of g node) before ∥₁ → IsTrue g.is_honest
+      → (moment : Moment) → In moment moments → ∥ MakesTable place (moment.deeds ++ before) moment.table ∥₁
+
+  -- an event was given to the node, its deeds are one more, or as many where there was no memory, and there is one more moment, whatever was answered
   pub record Acts (e : Event) (told : Told) (answer : Result (Unit {0}) NodeFault) (old new : Look (Node D)) : Type 0 where
     pub config : new.config ≡ old.config
     pub number : new.number ≡ old.number
     pub given : IsGiven g e old.node new.node told answer
     pub gains : GainsDeed (runs old.node) (front_in old.node) e told answer old.deeds new.deeds
+    pub moments : new.moments ≡ moment_now new.node new.deeds ∷ old.moments
 
   -- a process of the node at this place that was opened on this file, and what the events that were given to it made of it: its deeds are those calls, and no
-  -- others
+  -- others, and its moments are the one at which it was opened and one behind each call
   pub data Works (place : Place) (file : List ℕ) : Look (Node D) → Type 0 where
-    opened : (look : Look (Node D)) → known_place look ≡ place → begun_of g look.node ≡ file → look.deeds ≡ [] → Works place file look
+    opened : (look : Look (Node D)) → known_place look ≡ place → begun_of g look.node ≡ file → look.deeds ≡ [] → look.moments ≡ moment_now look.node [] ∷ [] → Works place file look
     acted : (old new : Look (Node D)) (e : Event) (told : Told) (answer : Result (Unit {0}) NodeFault) → Works place file old → node_of e ≡ place.node
         → IsFor place.nodes place.setting.game.players e → Acts e told answer old new → Works place file new
 
@@ -86,7 +96,9 @@ module _ {D : Type 0} (g : Ghosts D) where
   pub record Has (look : Look (Node D)) : Type 0 where
     pub here : look.number < length look.config.sources
     pub at_place : ∥ place_at (member_in look.node) ≡ known_place look ∥₁
+    pub newest : EndNow look.node look.deeds look.moments
     pub true_to : IsTrueTo (known_place look) look.node look.deeds
+    pub tables : AreTrueTo (known_place look) look.node look.moments
     pub works : ∥ Works (known_place look) (begun_of g look.node) look ∥₁
 
   -- ---- deaths

@@ -1,7 +1,8 @@
 //! The nodes of a match in processes of their own: what each did, and what holds of all together.
 //!
 //! A process has one `Station`: `open` goes on from the store that its disk has, `step` gives an event to its node, and what
-//! the node makes of it is for the process to hand on. For clauses alone it keeps all that the node did (`specs/Deeds.antt`).
+//! the node makes of it is for the process to hand on. For clauses alone it keeps all that the node did (`specs/Deeds.antt`),
+//! and the tables that it had (`specs/Moments.antt`).
 //!
 //! `laws` says what follows for all processes together, however often each was killed and began again: one list of chosen
 //! commands is behind all that they showed, as of a cluster in one process. Its premises are that disks keep their word; that
@@ -13,6 +14,7 @@
 
 mod deeds;
 pub mod laws;
+mod moments;
 mod station;
 
 pub use station::Station;

@@ -1,4 +1,4 @@
-ghost use Rattle.std.specs.Prelude.{◌≡◌, ◌<◌, false, [], length, IfOk, IfErr};
+ghost use Rattle.std.specs.Prelude.{◌≡◌, ◌<◌, false, [], ◌∷◌, length, IfOk, IfErr};
 ghost use Rattle.promise_store.specs.declared.disk.Disk.{Ghosts};
 ghost use Rattle.dealer_node.specs.Outs.{nothing_told};
 ghost use Rattle.dealer_node.specs.Members.{place_at};
@@ -7,9 +7,12 @@ ghost use Rattle.node_rules.specs.Standings.{place_of};
 ghost use Rattle.dealer_world.specs.Beginning.{IsOver, IsWant};
 ghost use Rattle.dealer_world.specs.Events.{node_of};
 ghost use Rattle.dealer_world.specs.Stepping.{IsFor};
-ghost use Rattle.stations.specs.Stations.{IsTrueTo, Acts, Works, Has};
+ghost use Rattle.stations.specs.Moments.{moment_now, EndNow};
+ghost use Rattle.stations.specs.Codes.{now_prop};
+ghost use Rattle.stations.specs.Stations.{IsTrueTo, AreTrueTo, Acts, Works, Has};
 
 use crate::deeds::{Deeds, Given};
+use crate::moments::Moments;
 use dealer_kind::Config;
 use dealer_node::{Node, NodeFault, Out};
 use dealer_world::laws::events_are_calls;
@@ -27,10 +30,14 @@ pub struct Station<D: Disk + Drop> {
     node: Node<D>,
     /// What its node did in this process, for clauses alone.
     deeds: Deeds,
+    /// The tables that its node had in this process, for clauses alone.
+    moments: Moments,
     ghost here: { number < length config.sources },
     ghost at_place: { ∥ place_at (member_in node) ≡ place_of config number ∥₁ },
+    ghost newest: { EndNow node deeds.items moments.items } by { now_prop node deeds.items moments.items },
     ghost true_to: { IsTrueTo D.Disk (place_of config number) node deeds.items },
-    ghost works: { ∥ Works D.Disk (place_of config number) (begun_of D.Disk node) (record { config = config; number = number; node = node; deeds = deeds.items }) ∥₁ },
+    ghost tables: { AreTrueTo D.Disk (place_of config number) node moments.items },
+    ghost works: { ∥ Works D.Disk (place_of config number) (begun_of D.Disk node) (record { config = config; number = number; node = node; deeds = deeds.items; moments = moments.items }) ∥₁ },
 }
 
 /// By hand, so that letting one go is one call for whoever owns it (docs/ARCHITECTURE.md, Habits).
@@ -41,6 +48,7 @@ impl<D: Disk + Drop> Drop for Station<D> {
             number: _,
             node: _,
             deeds: _,
+            moments: _,
         } = self;
     }
 }
@@ -57,16 +65,21 @@ impl<D: Disk + Drop> Station<D> {
         ensures config { IfOk result (λ made. (look_of made).config ≡ config) }
         ensures number { IfOk result (λ made. (look_of made).number ≡ number) }
         ensures deeds { IfOk result (λ made. (look_of made).deeds ≡ []) }
+        ensures moments { IfOk result (λ made. (look_of made).moments ≡ moment_now (look_of made).node [] ∷ []) }
         ensures down { IfOk result (λ made. runs (look_of made).node ≡ false) }
         ensures over { IfOk result (λ made. IsOver D.Disk disk (look_of made).node) }
         ensures failed { IfErr result IsWant }
     {
         let node = reopened(alloc, &config, number as usize, disk)?;
+        let deeds = Deeds::new();
+        let mut moments = Moments::new();
+        moments.add(node.table(), &deeds);
         Ok(Station {
             config,
             number,
             node,
-            deeds: Deeds::new(),
+            deeds,
+            moments,
         })
     }
 
@@ -92,12 +105,14 @@ impl<D: Disk + Drop> Station<D> {
             made,
             answer,
         });
+        self.moments.add(self.node.table(), &self.deeds);
         answer
     }
 
     /// What holds of every station: its node is at its place in the match; its deeds are the calls that it made since it was
-    /// opened, and no others; and whatever earlier processes of it did that left what this one was begun on, what it did
-    /// since is by the rules.
+    /// opened, and no others, and it had a table when it was opened and one behind each call, the last of which it has now;
+    /// and whatever earlier processes of it did that left what this one was begun on, what it did since is by the rules, and
+    /// each of these tables is what it had done by then.
     pub fn limits(&self)
         ensures { Has D.Disk (look_of self.now) }
     {

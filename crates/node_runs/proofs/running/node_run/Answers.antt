@@ -7,8 +7,9 @@ use Rattle.node_runs.proofs.running.node_run.Goals as goal
 pub returns-clause-ran : goal.returns-clause-ran
 returns-clause-ran g c =
     ran g.L.LifeKeeper.kept c.args.port c.new-teller.result.port c.take_turns-answer.new.teller.port c.args.server.now c.start-first.new.self c.take_turns-answer.new.server c.start-first.result c.take_turns-answer.result _
-    (g.N.Write.contents c.tell_begin.new.notes) (g.N.Write.contents c.take_turns-answer.new.notes) _ c.args.lives.now c.take_turns-answer.new.lives c.take_turns-answer.new.teller.waiting c.start-first.ensures.goes.0
-    (λ going. record { known = c.start-first.ensures.known going; fault = c.start-first.ensures.fault going }) (rw c.station.ensures at c.tell_begin.ensures) c.new-teller.ensures.port c.take_turns-answer.ensures.port
+    (g.N.Write.contents c.tell_begin.new.notes) (g.N.Write.contents c.take_turns-answer.new.notes) _ c.args.lives.now c.take_turns-answer.new.lives c.take_turns-answer.new.teller.waiting
+    (record { goes = c.start-first.ensures.goes; left = record { log = c.start-first.ensures.log; up = c.start-first.ensures.runs } })
+    (λ going. record { known = c.start-first.ensures.known going; fault = c.start-first.ensures.fault going; further = c.start-first.ensures.further }) c.start-first.ensures.ended (rw c.station.ensures at c.tell_begin.ensures) c.new-teller.ensures.port c.take_turns-answer.ensures.port
     c.take_turns-answer.ensures.went c.take_turns-answer.ensures.whole (rw c.station-2.ensures at c.tell_rest.ensures)
 
 pub returns-clause-whole : goal.returns-clause-whole

@@ -49,7 +49,14 @@ loop-steps-preserved g c = elim c.match-notice.branch [
         turned g.L.LifeKeeper.kept c.args.teller.now.port c.args.server.now c.args.first _ c.args.lives.now c.turns_are_one.ensures c.lives_stay_shown.ensures c.loop-steps.server c.notice.new.self w.turn.new.self c.loop-steps.outcome
             w.turn.result.0 c.loop-steps.steps _ _ _ _ c.loop-steps.teller.waiting w.tell_due.new.self.waiting w.tell_turned_away.new.self.waiting _ c.loop-steps.invariant.0 later due_at away w.tell_turned_away.ensures.clock
             (sym w.end_of.ensures ∙ w.in_default-end_of.is) (w.in_default.ensures.none refl) c.notice.ensures.same
-            (record { goes = w.turn.ensures.goes; lives = w.turn.ensures.lives; takes = w.turn.ensures.takes; served = w.turn.ensures.served }) w.turn.ensures.log w.turn.ensures.over c.notice.ensures.outcome w.turn.ensures.further
+            (record {
+              goes = w.turn.ensures.goes;
+              lives = w.turn.ensures.lives;
+              takes = w.turn.ensures.takes;
+              left = record { log = w.turn.ensures.log; up = w.turn.ensures.runs };
+              over = w.turn.ensures.over;
+              served = w.turn.ensures.served;
+            }) c.notice.ensures.outcome w.turn.ensures.further
             w.turn.ensures.known w.turn.ensures.fault w.turn.ensures.behind,
         w.tell_turned_away.ensures.port ∙ (w.tell_due.ensures.port ∙ port),
       )

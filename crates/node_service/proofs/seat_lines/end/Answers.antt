@@ -14,7 +14,7 @@ returns-clause-bots g c =
     let look = look_of c.args.member.now.station in
     let table = c.table-table.result.now in
     let seats = c.args.seats.now.seats.items in
-    let had : HadTableSince g.D.Disk look.deeds look table = had_now c.args.member.now.station c.station.result.now c.node.result.now table c.station.ensures c.limits.ensures c.node.ensures c.table-table.ensures.seen in
+    let had : HadTableSince look.moments look table = had_now c.args.member.now.station c.station.result.now c.node.result.now table c.station.ensures c.limits.ensures c.node.ensures c.table-table.ensures.now in
     let seat = c.args.seat in
     let bot = bot_at seats seat in
     let found = some_of (λ (t : Telling). t.next ≡ c.in-Some.next) bot.telling c.in-Some.ensures.next in
@@ -23,7 +23,7 @@ returns-clause-bots g c =
 
 pub returns-then-not-is_behind_all-clause-over : goal.returns-then-not-is_behind_all-clause-over
 returns-then-not-is_behind_all-clause-over g c = λ done.
-    over_before (look_of c.args.member.now.station) c.node.result.now c.table-table.result.now c.args.seat c.in-Some.next (bot_at c.args.seats.now.seats.items c.args.seat) c.node.ensures c.table-table.ensures.seen c.in-Some.ensures.next
+    over_before (look_of c.args.member.now.station) c.node.result.now c.table-table.result.now c.args.seat c.in-Some.next (bot_at c.args.seats.now.seats.items c.args.seat) c.node.ensures c.table-table.ensures.now c.in-Some.ensures.next
     (c.is_behind_all.ensures.before c.if-not-is_behind_all.true c.args.seat)
 
 pub returns-clause-told : goal.returns-clause-told

@@ -9,7 +9,7 @@ returns-clause-bots g c =
     let look = look_of c.args.member.now.station in
     let table = c.table.result.now in
     let seats = c.args.seats.now.seats.items in
-    let had : HadTableSince g.D.Disk look.deeds look table = had_now c.args.member.now.station c.station.result.now c.node.result.now table c.station.ensures c.limits.ensures c.node.ensures c.table.ensures.seen in
+    let had : HadTableSince look.moments look table = had_now c.args.member.now.station c.station.result.now c.node.result.now table c.station.ensures c.limits.ensures c.node.ensures c.table.ensures.now in
     bots_told look table c.args.seat seats c.tell.new.self.seats.items had c.tell.ensures.tells c.tell.ensures.says
 
 pub returns-clause-waits : goal.returns-clause-waits

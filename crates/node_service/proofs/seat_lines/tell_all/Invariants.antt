@@ -9,7 +9,7 @@ use Rattle.node_service.proofs.seat_lines.tell_all.Given as goal
 
 abbrev pub invariant-loop-seat : goal.invariant-loop-seat
 invariant-loop-seat g l = record {
-  bots : KeepBots g.D.Disk (look_of l.member.station) (look_of l.member.station) l.initial.seats.seats.items l.seats.seats.items;
+  bots : KeepBots (look_of l.member.station) (look_of l.member.station) l.initial.seats.seats.items l.seats.seats.items;
   said : (passed : List Passage) → AreSaid passed l.initial.seats.seats.items → AreSaid passed l.seats.seats.items;
   waits : PutsOff l.is_apart l.initial.seats.seats.items l.seats.seats.items;
   sat : SatBefore l.initial.seats.seats.items l.seats.seats.items;

@@ -1,4 +1,6 @@
 use Rattle.std.proofs.Common.{false}
+use Rattle.dealer_node.specs.Seeing.{table_in}
+use Rattle.stations.specs.Looking.{look_of}
 use Rattle.node_service.proofs.Apartness.{put_off_on}
 use Rattle.node_service.proofs.Bots.{keep_here}
 use Rattle.node_service.proofs.Seated.{sat_on}
@@ -11,11 +13,13 @@ pub returns-clause-said : goal.returns-clause-said
 returns-clause-said g c = λ passed are. c.end.ensures.said passed (c.tell.ensures.said passed (c.begin.ensures.said passed are))
 
 pub returns-clause-served : goal.returns-clause-served
-returns-clause-served g c = λ done s table seen of within ready. (
-  c.end.ensures.begun table (c.tell.ensures.begun table (c.begin.ensures.begun c.if-not-begin.false s table seen of within)),
-  c.end.ensures.told table (c.tell.ensures.told c.if-not-tell.false s table seen of within),
-  c.end.ensures.over done s table seen of within,
-)
+returns-clause-served g c = λ done within ready.
+    let table = table_in (look_of c.args.member.now.station).node in
+    let here = c.begin.ensures.within c.if-not-begin.false in (
+      c.end.ensures.begun table (c.tell.ensures.begun table (c.begin.ensures.begun c.if-not-begin.false)),
+      c.end.ensures.told table (c.tell.ensures.told c.if-not-tell.false here),
+      c.end.ensures.over done here,
+    )
 
 pub returns-then-not-tell-clause-said : goal.returns-then-not-tell-clause-said
 returns-then-not-tell-clause-said g c = λ passed are. c.tell.ensures.said passed (c.begin.ensures.said passed are)

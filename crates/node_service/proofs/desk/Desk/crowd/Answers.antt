@@ -18,5 +18,5 @@ returns g c =
     let look = look_of old.member.station in
     let same : c.crowd.new.self.seats.items ≡ before = cc (c.crowd.ensures.seats) in
     kept_told g.W.Wire (subst (λ (seats : List Seat). PutsOffApart old.apart old.apart before seats) (sym same) (waits_same old.apart before)) refl refl refl refl refl refl
-    (subst (λ (seats : List Seat). KeepBots g.D.Disk look look before seats) (sym same) (bots_still look before)) c.crowd.ensures.guests (λ passed are. subst (λ (seats : List Seat). AreSaid passed seats) (sym same) are)
+    (subst (λ (seats : List Seat). KeepBots look look before seats) (sym same) (bots_still look before)) c.crowd.ensures.guests (λ passed are. subst (λ (seats : List Seat). AreSaid passed seats) (sym same) are)
     (subst (λ (seats : List Seat). SatBefore before seats) (sym same) (sat_still before))

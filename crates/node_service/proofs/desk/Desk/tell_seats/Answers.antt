@@ -13,8 +13,8 @@ loop-seat-preserved g c =
     let seat = c.loop-seat.seat in
     let old = c.loop-seat.self.seats.seats.items in
     let new = c.tell_seat.new.self.seats.seats.items in
-    let here : IsServedAt g.D.Disk look seat (bot_at new seat) (waits_at new seat) =
-    subst (λ (m : LocalNode g.row.D.Denot g.D.Disk). IsServedAt g.D.Disk (look_of m.station) seat (bot_at new seat) (waits_at new seat)) c.loop-seat.invariant.kept.member c.tell_seat.ensures.served in
+    let here : IsServedAt look seat (bot_at new seat) (waits_at new seat) =
+    subst (λ (m : LocalNode g.row.D.Denot g.D.Disk). IsServedAt (look_of m.station) seat (bot_at new seat) (waits_at new seat)) c.loop-seat.invariant.kept.member c.tell_seat.ensures.served in
     record {
       kept = kept_on g.W.Wire c.loop-seat.invariant.kept c.tell_seat.ensures.kept;
       served = served_next look seat old new c.loop-seat.invariant.served c.tell_seat.ensures.others here;
@@ -24,7 +24,7 @@ pub returns-clause-served : goal.returns-clause-served
 returns-clause-served g c =
     let seats = c.loop-seat.self.seats.seats.items in
     let count = c.players-seat-end.result in
-    let served : (seat : ℕ) → seat < count → IsServedAt g.D.Disk (look_of c.args.self.now.member.station) seat (bot_at seats seat) (waits_at seats seat) =
+    let served : (seat : ℕ) → seat < count → IsServedAt (look_of c.args.self.now.member.station) seat (bot_at seats seat) (waits_at seats seat) =
     λ seat within. c.loop-seat.invariant.served seat (omega arith) in
-    subst (λ (m : LocalNode g.row.D.Denot g.D.Disk). AreServed g.D.Disk (look_of m.station) seats) (sym c.loop-seat.invariant.kept.member)
+    subst (λ (m : LocalNode g.row.D.Denot g.D.Disk). AreServed (look_of m.station) seats) (sym c.loop-seat.invariant.kept.member)
     (all_served (look_of c.args.self.now.member.station) count seats served c.players-seat-end.ensures.all)

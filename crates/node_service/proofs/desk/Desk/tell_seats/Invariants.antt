@@ -8,5 +8,5 @@ use Rattle.node_service.proofs.desk.Desk.tell_seats.Given as goal
 abbrev pub invariant-loop-seat : goal.invariant-loop-seat
 invariant-loop-seat g l = record {
   kept : IsKept g.W.Wire l.initial.self l.self;
-  served : (seat : ℕ) → seat < l.seat → IsServedAt g.D.Disk (look_of l.initial.self.member.station) seat (bot_at l.self.seats.seats.items seat) (waits_at l.self.seats.seats.items seat);
+  served : (seat : ℕ) → seat < l.seat → IsServedAt (look_of l.initial.self.member.station) seat (bot_at l.self.seats.seats.items seat) (waits_at l.self.seats.seats.items seat);
 }

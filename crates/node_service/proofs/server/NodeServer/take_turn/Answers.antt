@@ -33,4 +33,4 @@ returns-clause-takes g c =
 
 pub returns-clause-served : goal.returns-clause-served
 returns-clause-served g c =
-    subst (λ (d : Desk g.row.D.Denot g.row.W.Denot g.D.Disk). AreServed g.D.Disk (look_of d.member.station) d.seats.seats.items) (sym c.note_read.ensures.kept) c.tell_seats.ensures.served
+    subst (λ (d : Desk g.row.D.Denot g.row.W.Denot g.D.Disk). AreServed (look_of d.member.station) d.seats.seats.items) (sym c.note_read.ensures.kept) c.tell_seats.ensures.served
