@@ -70,8 +70,8 @@ pub fn relays_tell_one_match<D: Disk + Drop>()
 /// - `Course`: `RelayServer::new` (`course`) and `RelayServer::turn` (`Keeps.course`) of `relay_runs`, for each relay and each
 ///   of its bots. `IsOver`: `RelayServer::turn` (`over`).
 /// - `IsServerOf`: `NodeServer::new` (`bots`, `carried`) of `node_service`, then `NodeServer::start` and `NodeServer::turn`
-///   (`goes`), as `turns_keep_servers` says. A process that was killed in a turn wrote the same as one over wires and a disk
-///   of which each call fails from that moment on, and is taken as that one (docs/CLUSTER.md).
+///   (`goes`), as `turns_keep_servers` says. A process that was killed in a turn wrote the same as one whose call did the same
+///   part at that moment, and whose wires and disk did nothing from then on. It is taken as that one (docs/CLUSTER.md).
 /// - `IsOfServer.bytes`: a connection, of a relay or of a bot, gives what was written to it, from its beginning, in order, and
 ///   nothing else; it may end anywhere. `ComesOfServer.heard`: so it gives the server what the bot said, which begins behind
 ///   the line that shows its token, where it has one. These are the two premises on the connections themselves.
