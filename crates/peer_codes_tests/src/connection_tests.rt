@@ -1,10 +1,11 @@
 //! Two sides of a connection that talk, and what is heard where something on the way is changed.
 
-ghost use Rattle.std.specs.Prelude.{◌≡◌, true};
+ghost use Rattle.std.specs.Prelude.{◌≡◌, ◌<◌, true, length};
 ghost use Rattle.peer_codes.specs.Steps.{is_coded};
 
 use crate::samples::{
-    ASK, BEAT, LIVES, LIVES_BYTES, assert_bytes, called, caller, key, lives, second, with_nonce,
+    ASK, BEAT, LIVES, LIVES_BYTES, assert_bytes, assert_that, called, caller, key, lives, second,
+    with_nonce,
 };
 use crate::vectors::{
     CALLED_FRAME, CALLED_HELLO, CALLED_PROOF, CALLER_HELLO, CALLER_PROOF, FIRST_FRAME, FIRST_LIVES,
@@ -127,11 +128,43 @@ fn wrote(side: &mut Connection, most: usize) {
     side.wrote(count);
 }
 
-// What `assert_eq!` makes is proved anew wherever it stands, so it stands in the function below.
+// What `assert_eq!` makes is proved anew wherever it stands, so it stands in the functions below.
 
 /// The two are equal; where they aren't, both are printed.
 fn assert_heard(rt: &impl Abort, found: Heard, expected: Heard) {
     assert_eq!(rt; found, expected);
+}
+
+/// The same where this byte was changed.
+fn assert_heard_at(rt: &impl Abort, place: usize, found: Heard, expected: Heard) {
+    assert_eq!(rt; found, expected, "changed at {place}");
+}
+
+/// All that a side has to say at present is this.
+fn says(
+    rt: &impl Abort,
+    alloc: Global,
+    side: &mut Connection,
+    expected: &[u8],
+) -> Result<(), AllocError> {
+    let told = said(alloc, side)?;
+    assert_bytes(rt, told.as_slice(), expected);
+    Ok(())
+}
+
+/// This comes, and is heard so, up to a fault; the called answers with this Hello.
+fn comes(
+    rt: &impl Abort,
+    side: &mut Connection,
+    bytes: &[u8],
+    own: Hello,
+    expected: Heard,
+) -> Result<(), AllocError>
+    requires { is_coded own.link ≡ true }
+{
+    side.take_piece(bytes)?;
+    assert_heard(rt, hear_all(side, own), expected);
+    Ok(())
 }
 
 /// The frame is to be said.
@@ -173,29 +206,51 @@ fn open_caller(alloc: Global) -> Result<Connection, AllocError> {
     Ok(side)
 }
 
+/// A caller greets, and proves itself once it was greeted; a frame waits until the other has proved itself too.
+fn opens(rt: &impl Abort, alloc: Global, side: &mut Connection) -> Result<(), AllocError> {
+    says(rt, alloc, side, &CALLER_HELLO)?;
+    comes(rt, side, &CALLED_HELLO, caller(), greeted())?;
+    put_ask(rt, side);
+    says(rt, alloc, side, &CALLER_PROOF)?;
+    comes(rt, side, &CALLED_PROOF, caller(), opened())?;
+    says(rt, alloc, side, &FIRST_FRAME)
+}
+
+/// A beat goes before a frame, and nothing is coded while it is unfinished.
+fn beats_first(rt: &impl Abort, alloc: Global, side: &mut Connection) -> Result<(), AllocError> {
+    put_ask(rt, side);
+    side.tell_beat(BEAT);
+    side.begin();
+    assert_bytes(rt, side.unwritten(), &THEN_BEAT);
+    wrote(side, 20);
+    side.begin();
+    assert_bytes(rt, side.unwritten(), &THEN_BEAT[20..]);
+    wrote(side, 32);
+    says(rt, alloc, side, &THEN_FRAME)
+}
+
 #[test]
 fn the_caller_talks(rt: HostRuntime) -> Result<(), Fail> {
     let alloc = rt.alloc();
     let mut side = Connection::call(alloc, key(), caller());
-    assert_bytes(&rt, said(alloc, &mut side)?.as_slice(), &CALLER_HELLO);
-    side.take_piece(&CALLED_HELLO)?;
-    assert_heard(&rt, hear_all(&mut side, caller()), greeted());
-    put_ask(&rt, &mut side);
-    assert_bytes(&rt, said(alloc, &mut side)?.as_slice(), &CALLER_PROOF);
-    side.take_piece(&CALLED_PROOF)?;
-    assert_heard(&rt, hear_all(&mut side, caller()), opened());
-    assert_bytes(&rt, said(alloc, &mut side)?.as_slice(), &FIRST_FRAME);
-    put_ask(&rt, &mut side);
-    side.tell_beat(BEAT);
-    side.begin();
-    // A beat goes before a frame, and nothing is coded while it is unfinished.
-    assert_bytes(&rt, side.unwritten(), &THEN_BEAT);
-    wrote(&mut side, 20);
-    side.begin();
-    assert_bytes(&rt, side.unwritten(), &THEN_BEAT[20..]);
-    wrote(&mut side, 32);
-    assert_bytes(&rt, said(alloc, &mut side)?.as_slice(), &THEN_FRAME);
+    opens(&rt, alloc, &mut side)?;
+    beats_first(&rt, alloc, &mut side)?;
     Ok(())
+}
+
+/// A frame is said where it lies, and another one behind a beat.
+fn say_where_it_lies(
+    rt: &impl Abort,
+    alloc: Global,
+    side: &mut Connection,
+) -> Result<(), AllocError> {
+    side.say_frame(&ASK);
+    says(rt, alloc, side, &FIRST_FRAME)?;
+    side.tell_beat(BEAT);
+    side.say_frame(&ASK);
+    assert_bytes(rt, side.unwritten(), &THEN_BEAT);
+    wrote(side, 52);
+    says(rt, alloc, side, &THEN_FRAME)
 }
 
 /// A frame that is said where it lies is coded as one that was put there, and waits as such where something goes before it.
@@ -203,36 +258,45 @@ fn the_caller_talks(rt: HostRuntime) -> Result<(), Fail> {
 fn a_frame_is_said_where_it_lies(rt: HostRuntime) -> Result<(), Fail> {
     let alloc = rt.alloc();
     let mut side = open_caller(alloc)?;
-    side.say_frame(&ASK);
-    assert_bytes(&rt, said(alloc, &mut side)?.as_slice(), &FIRST_FRAME);
-    side.tell_beat(BEAT);
-    side.say_frame(&ASK);
-    assert_bytes(&rt, side.unwritten(), &THEN_BEAT);
-    wrote(&mut side, 52);
-    assert_bytes(&rt, said(alloc, &mut side)?.as_slice(), &THEN_FRAME);
+    say_where_it_lies(&rt, alloc, &mut side)?;
     Ok(())
+}
+
+/// What the called hears in `the_called_talks`.
+fn all_of_the_caller() -> Heard {
+    Heard {
+        hellos: 1,
+        proofs: 1,
+        frames: 2,
+        beats: 1,
+        ..NOTHING
+    }
+}
+
+/// All that the caller says comes to a side byte by byte.
+fn comes_by_bytes(alloc: Global, side: &mut Connection) -> Result<(), AllocError> {
+    let whole = course(alloc)?;
+    for byte in whole.as_slice() {
+        side.take_piece(&[*byte])?;
+    }
+    Ok(())
+}
+
+/// A side says all that the called says.
+fn replies(rt: &impl Abort, alloc: Global, side: &mut Connection) -> Result<(), AllocError> {
+    let whole = reply(alloc)?;
+    says(rt, alloc, side, whole.as_slice())
 }
 
 #[test]
 fn the_called_talks(rt: HostRuntime) -> Result<(), Fail> {
     let alloc = rt.alloc();
     let mut side = Connection::listen(alloc, key());
-    assert_bytes(&rt, said(alloc, &mut side)?.as_slice(), &[]);
-    let whole = course(alloc)?;
-    for byte in whole.as_slice() {
-        side.take_piece(&[*byte])?;
-    }
-    let all = Heard {
-        hellos: 1,
-        proofs: 1,
-        frames: 2,
-        beats: 1,
-        ..NOTHING
-    };
-    assert_heard(&rt, hear_all(&mut side, called()), all);
+    says(&rt, alloc, &mut side, &[])?;
+    comes_by_bytes(alloc, &mut side)?;
+    assert_heard(&rt, hear_all(&mut side, called()), all_of_the_caller());
     put_ask(&rt, &mut side);
-    let told = said(alloc, &mut side)?;
-    assert_bytes(&rt, told.as_slice(), reply(alloc)?.as_slice());
+    replies(&rt, alloc, &mut side)?;
     Ok(())
 }
 
@@ -259,6 +323,33 @@ fn fault_of_change(place: usize) -> u8 {
     }
 }
 
+/// These bytes come to a side, with a bit of the one at a place changed.
+fn comes_changed(side: &mut Connection, whole: &[u8], place: usize) -> Result<(), AllocError>
+    requires { place < length whole.now }
+{
+    side.take_piece(&whole[..place])?;
+    side.take_piece(&[whole[place] ^ 1])?;
+    side.take_piece(&whole[place + 1..])
+}
+
+/// What the called hears of that.
+fn heard_changed(alloc: Global, whole: &[u8], place: usize) -> Result<Heard, AllocError>
+    requires { place < length whole.now }
+{
+    let mut side = Connection::listen(alloc, key());
+    comes_changed(&mut side, whole, place)?;
+    Ok(hear_all(&mut side, called()))
+}
+
+/// What it is to hear of `course` where that is changed.
+fn due_of_change(place: usize) -> Heard {
+    Heard {
+        others: u8::from(place >= 12 && place < 114),
+        fault: fault_of_change(place),
+        ..heard_of(place)
+    }
+}
+
 /// With a bit of any one byte changed all before its record is heard and nothing behind it, and it is the first fault.
 /// From its thirteenth byte on the changed Hello is one that some node could say: then the proof is at fault.
 #[test]
@@ -266,31 +357,29 @@ fn a_changed_byte_is_a_fault(rt: HostRuntime) -> Result<(), Fail> {
     let alloc = rt.alloc();
     let whole = course(alloc)?;
     for place in 0..whole.len() {
-        let mut side = Connection::listen(alloc, key());
-        side.take_piece(&whole.as_slice()[..place])?;
-        side.take_piece(&[whole.as_slice()[place] ^ 1])?;
-        side.take_piece(&whole.as_slice()[place + 1..])?;
-        let heard = hear_all(&mut side, called());
-        let expected = Heard {
-            others: u8::from(place >= 12 && place < 114),
-            fault: fault_of_change(place),
-            ..heard_of(place)
-        };
-        assert_eq!(rt; heard, expected, "changed at {place}");
+        let heard = heard_changed(alloc, whole.as_slice(), place)?;
+        assert_heard_at(&rt, place, heard, due_of_change(place));
     }
     Ok(())
+}
+
+/// What a side says comes back to it, and is heard so.
+fn comes_back(
+    rt: &impl Abort,
+    alloc: Global,
+    side: &mut Connection,
+    expected: Heard,
+) -> Result<(), AllocError> {
+    let own = said(alloc, side)?;
+    comes(rt, side, own.as_slice(), caller(), expected)
 }
 
 #[test]
 fn an_own_proof_that_comes_back_is_refused(rt: HostRuntime) -> Result<(), Fail> {
     let alloc = rt.alloc();
     let mut side = Connection::call(alloc, key(), caller());
-    let own = said(alloc, &mut side)?;
-    side.take_piece(own.as_slice())?;
-    assert_heard(&rt, hear_all(&mut side, caller()), greeted());
-    let proof = said(alloc, &mut side)?;
-    side.take_piece(proof.as_slice())?;
-    assert_heard(&rt, hear_all(&mut side, caller()), closed_by(124));
+    comes_back(&rt, alloc, &mut side, greeted())?;
+    comes_back(&rt, alloc, &mut side, closed_by(124))?;
     Ok(())
 }
 
@@ -299,28 +388,28 @@ fn an_own_frame_that_comes_back_is_refused(rt: HostRuntime) -> Result<(), Fail> 
     let alloc = rt.alloc();
     let mut side = open_caller(alloc)?;
     put_ask(&rt, &mut side);
-    let frame = said(alloc, &mut side)?;
-    assert_bytes(&rt, frame.as_slice(), &FIRST_FRAME);
-    side.take_piece(frame.as_slice())?;
-    assert_heard(&rt, hear_all(&mut side, caller()), closed_by(125));
+    says(&rt, alloc, &mut side, &FIRST_FRAME)?;
+    comes(&rt, &mut side, &FIRST_FRAME, caller(), closed_by(125))?;
     Ok(())
+}
+
+/// It is greeted, and then this fault closes it.
+fn greeted_and_closed(fault: u8) -> Heard {
+    Heard { fault, ..greeted() }
 }
 
 #[test]
 fn a_proof_of_an_earlier_connection_is_refused(rt: HostRuntime) -> Result<(), Fail> {
-    let alloc = rt.alloc();
     let again = with_nonce(called(), 50);
-    let mut side = Connection::listen(alloc, key());
+    let mut side = Connection::listen(rt.alloc(), key());
     side.take_piece(&CALLER_HELLO)?;
-    side.take_piece(&CALLER_PROOF)?;
-    assert_heard(
+    comes(
         &rt,
-        hear_all(&mut side, again),
-        Heard {
-            fault: 124,
-            ..greeted()
-        },
-    );
+        &mut side,
+        &CALLER_PROOF,
+        again,
+        greeted_and_closed(124),
+    )?;
     Ok(())
 }
 
@@ -332,44 +421,59 @@ fn put_lives(side: &mut Connection) -> bool {
     }
 }
 
-/// The caller, open to the called in the second version.
-fn open_second(rt: &impl Abort, alloc: Global) -> Result<Connection, AllocError> {
-    let mut side = Connection::call(alloc, key(), second(caller()));
-    assert_bytes(rt, said(alloc, &mut side)?.as_slice(), &SECOND_CALLER_HELLO);
+/// A caller that greets in the second version is answered in it.
+fn opens_second(rt: &impl Abort, alloc: Global, side: &mut Connection) -> Result<(), AllocError> {
+    says(rt, alloc, side, &SECOND_CALLER_HELLO)?;
     side.take_piece(&SECOND_CALLED_HELLO)?;
     side.take_piece(&SECOND_CALLED_PROOF)?;
-    let _heard = hear_all(&mut side, caller());
-    assert_bytes(rt, said(alloc, &mut side)?.as_slice(), &SECOND_CALLER_PROOF);
-    Ok(side)
+    let _heard = hear_all(side, caller());
+    says(rt, alloc, side, &SECOND_CALLER_PROOF)
+}
+
+/// All that the caller says in `the_caller_tells_lives`.
+fn second_course(alloc: Global) -> Result<Vec<u8>, AllocError> {
+    let mut whole = Vec::new(alloc);
+    whole.extend_from_slice(&SECOND_BEAT)?;
+    whole.extend_from_slice(&SECOND_LIVES)?;
+    whole.extend_from_slice(&SECOND_FRAME)?;
+    Ok(whole)
+}
+
+/// A caller that is open says a beat, lives and a frame.
+fn tells_lives(rt: &impl Abort, alloc: Global, side: &mut Connection) -> Result<(), AllocError> {
+    put_ask(rt, side);
+    let is_taken = put_lives(side);
+    assert_that(rt, is_taken, "not taken");
+    let is_taken = put_lives(side);
+    assert_that(rt, !is_taken, "taken twice");
+    side.tell_beat(BEAT);
+    let whole = second_course(alloc)?;
+    says(rt, alloc, side, whole.as_slice())
 }
 
 /// Behind the beat lives are said, and then the frame; a second time they aren't taken while they wait.
 #[test]
 fn the_caller_tells_lives(rt: HostRuntime) -> Result<(), Fail> {
     let alloc = rt.alloc();
-    let mut side = open_second(&rt, alloc)?;
-    put_ask(&rt, &mut side);
-    assert!(rt; put_lives(&mut side), "not taken");
-    assert!(rt; !put_lives(&mut side), "taken twice");
-    side.tell_beat(BEAT);
-    let mut whole = Vec::new(alloc);
-    whole.extend_from_slice(&SECOND_BEAT)?;
-    whole.extend_from_slice(&SECOND_LIVES)?;
-    whole.extend_from_slice(&SECOND_FRAME)?;
-    let told = said(alloc, &mut side)?;
-    assert_bytes(&rt, told.as_slice(), whole.as_slice());
+    let mut side = Connection::call(alloc, key(), second(caller()));
+    opens_second(&rt, alloc, &mut side)?;
+    tells_lives(&rt, alloc, &mut side)?;
     Ok(())
 }
 
-#[test]
-fn the_called_hears_lives(rt: HostRuntime) -> Result<(), Fail> {
-    let alloc = rt.alloc();
-    let mut side = Connection::listen(alloc, key());
+/// All that a caller says that tells lives comes to a side.
+fn comes_with_lives(side: &mut Connection) -> Result<(), AllocError> {
     side.take_piece(&SECOND_CALLER_HELLO)?;
     side.take_piece(&SECOND_CALLER_PROOF)?;
     side.take_piece(&SECOND_BEAT)?;
     side.take_piece(&SECOND_LIVES)?;
-    side.take_piece(&SECOND_FRAME)?;
+    side.take_piece(&SECOND_FRAME)
+}
+
+#[test]
+fn the_called_hears_lives(rt: HostRuntime) -> Result<(), Fail> {
+    let mut side = Connection::listen(rt.alloc(), key());
+    comes_with_lives(&mut side)?;
     let all = Heard {
         hellos: 1,
         proofs: 1,
@@ -387,29 +491,32 @@ fn the_called_hears_lives(rt: HostRuntime) -> Result<(), Fail> {
 fn lives_are_of_the_second_version(rt: HostRuntime) -> Result<(), Fail> {
     let alloc = rt.alloc();
     let mut side = open_caller(alloc)?;
-    assert!(rt; !put_lives(&mut side), "taken");
-    side.take_piece(&FIRST_LIVES)?;
-    assert_heard(&rt, hear_all(&mut side, caller()), closed_by(121));
+    let is_taken = put_lives(&mut side);
+    assert_that(&rt, !is_taken, "taken");
+    comes(&rt, &mut side, &FIRST_LIVES, caller(), closed_by(121))?;
     Ok(())
 }
 
-/// Who called in the second version takes no answer in the first; the called says its own Hello alone.
+/// Who called in the second version takes no answer in the first.
 #[test]
 fn an_answer_in_another_version_is_refused(rt: HostRuntime) -> Result<(), Fail> {
+    let mut side = Connection::call(rt.alloc(), key(), second(caller()));
+    comes(&rt, &mut side, &CALLED_HELLO, caller(), closed_by(122))?;
+    Ok(())
+}
+
+/// Who was called in the second version and answers in the first says its own Hello alone.
+#[test]
+fn the_called_answers_in_another_version(rt: HostRuntime) -> Result<(), Fail> {
     let alloc = rt.alloc();
-    let mut side = Connection::call(alloc, key(), second(caller()));
-    side.take_piece(&CALLED_HELLO)?;
-    assert_heard(&rt, hear_all(&mut side, caller()), closed_by(122));
     let mut side = Connection::listen(alloc, key());
-    side.take_piece(&SECOND_CALLER_HELLO)?;
-    assert_heard(
+    comes(
         &rt,
-        hear_all(&mut side, called()),
-        Heard {
-            fault: 122,
-            ..greeted()
-        },
-    );
-    assert_bytes(&rt, said(alloc, &mut side)?.as_slice(), &CALLED_HELLO);
+        &mut side,
+        &SECOND_CALLER_HELLO,
+        called(),
+        greeted_and_closed(122),
+    )?;
+    says(&rt, alloc, &mut side, &CALLED_HELLO)?;
     Ok(())
 }

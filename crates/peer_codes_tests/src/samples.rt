@@ -117,9 +117,14 @@ pub(crate) fn hellos() -> Hellos {
     }
 }
 
-// What `assert_eq!` makes is proved anew wherever it stands, so it stands in the function below.
+// What `assert_eq!` makes is proved anew wherever it stands, so it stands in the functions below.
 
 /// The two are equal; where they aren't, both are printed.
 pub(crate) fn assert_bytes(rt: &impl Abort, found: &[u8], expected: &[u8]) {
     assert_eq!(rt; found, expected);
+}
+
+/// Sees that a condition holds.
+pub(crate) fn assert_that(rt: &impl Abort, holds: bool, otherwise: &str) {
+    assert!(rt; holds, "{otherwise}");
 }
