@@ -12,7 +12,9 @@ from concurrent.futures import ThreadPoolExecutor, as_completed
 from pathlib import Path
 
 import repository
+import running
 import unproved
+from check_steps import Ended, Kind
 from which_program import MARK, UNPROVED
 
 TOP = repository.TOP
@@ -22,14 +24,14 @@ BUILT = {"match_tests": ["tests/step_growths", "tests/serve_growths", "tests/run
 # What a program with AddressSanitizer has in it, and the scripts that refuse allocations of a program, which its allocator doesn't ask for.
 SANITIZED = b"AddressSanitizer"
 REFUSING = ["tests/memory", "tests/step_growths"]
-# How many scripts run side by side where there are four processors, and beside them crates of tests.
-SCRIPTS, CRATES = 3, 1
+# How many scripts with clocks run side by side where there are four processors, beside them at the lowest priority others, and crates of tests.
+LANES = (2, 2, 2)
 RESULT = re.compile(r"^test result: \w+\. (\d+) passed; (\d+) failed", re.M)
 
 
 def lanes():
-    """How many scripts run side by side: with fewer than four processors two, as in ./check."""
-    return SCRIPTS if len(os.sched_getaffinity(0)) >= 4 else 2
+    """How many run side by side of scripts with clocks, of others, and of crates of tests: with fewer than four processors one of each."""
+    return LANES if len(os.sched_getaffinity(0)) >= 4 else (1, 1, 1)
 
 
 def crates_of_tests():
@@ -60,16 +62,18 @@ def put_in(copy, crate, program):
 
 def program(name):
     """Makes the program of a crate, and says what came of it: a status, and a line of counts behind what was said."""
+    before = running.TOOK.seconds
     try:
         unproved.kept(name, place_of(name), is_marked=name == UNPROVED.name, is_optimised=True)
+        status, said = 0, "1 passed, 0 failed\n"
     except unproved.NoProgram as why:
-        return f"the program {name}", 1, f"{why}\n0 passed, 1 failed\n"
-    return f"the program {name}", 0, "1 passed, 0 failed\n"
+        status, said = 1, f"{why}\n0 passed, 1 failed\n"
+    return Ended(f"the program {name}", status, said, running.TOOK.seconds - before)
 
 
 def tested(name):
     """Runs the tests of a crate; the program of its tests is made too where a script runs it."""
-    to = place_of(f"{name}_tests") if name in BUILT else None
+    to, before = place_of(f"{name}_tests") if name in BUILT else None, running.TOOK.seconds
     if to is not None:
         to.parent.mkdir(parents=True, exist_ok=True)
         to.unlink(missing_ok=True)
@@ -79,12 +83,12 @@ def tested(name):
         status, said = 1, f"{why}\n"
     counts = RESULT.findall(said)
     passed, failed = map(int, counts[-1]) if counts else (0, 1)
-    return f"the tests of {name}", status, f"{said}\n{passed} passed, {failed} failed\n"
+    return Ended(f"the tests of {name}", status, f"{said}\n{passed} passed, {failed} failed\n", running.TOOK.seconds - before)
 
 
 def left_out(name, why):
     """A script that isn't run: one that isn't measured."""
-    return name, 0, f"not measured: all of it: {why}\n0 passed, 0 failed, 1 skipped\n"
+    return Ended(name, 0, f"not measured: all of it: {why}\n0 passed, 0 failed, 1 skipped\n", 0.0)
 
 
 def measured(name, copy, step):
@@ -102,17 +106,23 @@ def tree():
         yield copied(Path(temporary) / "tree")
 
 
-def run(names, step):
-    """Does all, given the scripts' names and what runs one in a tree. The name, the status and what was said of each, as they end."""
-    waiting = {name for names in BUILT.values() for name in names}
-    with tree() as copy, ThreadPoolExecutor(len(PROGRAMS)) as makers, ThreadPoolExecutor(CRATES) as testers, ThreadPoolExecutor(lanes()) as scripts:
+def run(steps, step):
+    """Does all, given the scripts and what runs one in a tree. What came of each, as they end. Scripts with clocks leave processors free, which
+    the others take that compute. What reads texts alone doesn't wait for programs."""
+    names, reading = [it.name for it in steps], [it for it in steps if it.kind is Kind.READING]
+    waiting = {name for scripts in BUILT.values() for name in scripts}
+    clocks, others, crates = map(ThreadPoolExecutor, lanes())
+    with tree() as copy, ThreadPoolExecutor(len(PROGRAMS)) as makers, crates, others, clocks:
         made = [makers.submit(program, name) for name in PROGRAMS]
-        begun = {testers.submit(tested, name): name for name in crates_of_tests()}
+        begun = {crates.submit(tested, name): name for name in crates_of_tests()}
+        begun.update({others.submit(step, it.name, copy): None for it in reading})
         for ended in as_completed(made):
             yield ended.result()
         for name in filter(lambda name: place_of(name).is_file(), PROGRAMS):
             put_in(copy, name, place_of(name))
-        begun.update({scripts.submit(measured, name, copy, step): None for name in names if name not in waiting})
+        for it in steps:
+            if it not in reading and it.name not in waiting:
+                begun[(clocks if it.kind and it.kind.has_clock else others).submit(measured, it.name, copy, step)] = None
         for ended in as_completed(begun):
             yield ended.result()
             if begun[ended] in BUILT:

@@ -38,6 +38,15 @@ class Kind(Enum):
         return self in (Kind.LONG_COMPUTING, Kind.COMPUTING)
 
 
+class Ended(NamedTuple):
+    """A step that has ended: its name, its status, what it said, and the seconds of a processor that it took, where these are known."""
+
+    name: str
+    status: Optional[int]
+    said: str
+    seconds: Optional[float] = None
+
+
 class Step(NamedTuple):
     """A script with its words, and what it does; no kind where it doesn't say so."""
 

@@ -13,6 +13,7 @@ import check_quick
 import check_steps
 import repository
 import running
+from check_steps import Ended
 from check_times import Times, gaps, processor_minutes, reckoned, table
 
 TOP = Path(__file__).resolve().parent.parent
@@ -23,6 +24,8 @@ LAST = re.compile(r"^(\d+) passed, (\d+) failed(?:, (\d+) skipped)?$", re.M)
 UNMEASURED = re.compile(r"^not measured: (.+)$", re.M)
 # How much longer it was seen to take where the host of the machine is busy with others.
 BUSY = 2
+# How many steps are named that took a processor longest.
+MOST = 10
 # How long --quick takes, and on which machine; README.md says it too.
 QUICK = (
     "some 40 minutes on four free processors. That was measured without tests/simulation, and over programs that aren't\noptimised, by "
@@ -137,18 +140,18 @@ def said_since(log, place):
 
 
 def step(name, top=TOP):
-    """Runs a script of a tree with its words; its name, its status and what it said."""
+    """Runs a script of a tree with its words; what came of it."""
     script, *words = name.split()
     kind = check_steps.kind_of(top / script)
     if kind is None:
         lines = "; ".join(repr(kind.value) for kind in check_steps.Kind)
-        return name, 1, f"none of its first lines says '# ./check: WHAT', where WHAT is one of {lines}\n0 passed, 1 failed\n"
+        return Ended(name, 1, f"none of its first lines says '# ./check: WHAT', where WHAT is one of {lines}\n0 passed, 1 failed\n")
     ran = running.run([*(["nice", "-n", "19"] if kind.is_computing else []), top / script, *words], top)
-    return name, ran.status, ran.said
+    return Ended(name, ran.status, ran.said, ran.seconds)
 
 
 def steps(is_long):
-    """Runs the scripts, those with clocks one after another and others beside them; the name, the status and what was said of each, as they end."""
+    """Runs the scripts, those with clocks one after another and others beside them; what came of each, as they end."""
     return check_steps.side_by_side(check_steps.steps(is_long), step)
 
 
@@ -160,11 +163,13 @@ class Count(NamedTuple):
     failed: int
     skipped: int = 0
     unmeasured: Sequence[str] = ()
+    seconds: float = 0.0
 
 
-def count(name, status, said, started):
-    """The counts of a step by the last line of what it said. A step that ends otherwise has failed."""
-    lines = LAST.findall(said)
+def count(name, status, said, started, seconds=None):
+    """The counts of a step by the last line of what it said, with the seconds of a processor that it took, where these are known. A step
+    that ends otherwise has failed."""
+    lines, took = LAST.findall(said), "" if seconds is None else f", {seconds:.0f} s of a processor"
     passed, failed, skipped = (int(number or 0) for number in lines[-1]) if lines else (0, 0, 0)
     if not lines or (status != 0 and failed == 0):
         failed += 1
@@ -172,8 +177,8 @@ def count(name, status, said, started):
         say(started, f"{name} failed (status {status}); the end of what it said:")
         print("\n".join(said.splitlines()[-60:]), flush=True)
     else:
-        say(started, f"{name}: {passed} passed" + (f", {skipped} skipped" if skipped else ""))
-    return Count(name, passed, failed, skipped, UNMEASURED.findall(said) if skipped else ())
+        say(started, f"{name}: {passed} passed" + (f", {skipped} skipped" if skipped else "") + took)
+    return Count(name, passed, failed, skipped, UNMEASURED.findall(said) if skipped else (), seconds or 0.0)
 
 
 def help_text(text):
@@ -198,7 +203,7 @@ def whole(started, log, words):
     lines = table(minutes, time.monotonic() - started, done)
     repository.TIMES.write_text("\n".join(lines) + "\n")
     begun = time.monotonic()
-    counts += [count(*written(ended, log), started) for ended in steps("--long" in words)]
+    counts += [counted(ended, log, started) for ended in steps("--long" in words)]
     lines.append(f"The scripts took {(time.monotonic() - begun) / 60:.0f} minutes more.")
     repository.TIMES.write_text("\n".join(lines) + "\n")
     return counts, lines
@@ -207,13 +212,22 @@ def whole(started, log, words):
 def quick(started, log, is_long):
     """Tests everything over unproved programs; the counts."""
     say(started, f"nothing is proved: the crates of tests go by rt try, the scripts over unproved programs in a copy of the tree; that takes {QUICK}")
-    return [count(*written(ended, log), started) for ended in check_quick.run([it.name for it in check_steps.steps(is_long)], step)]
+    counts = [counted(ended, log, started) for ended in check_quick.run(check_steps.steps(is_long), step)]
+    say(started, took(counts))
+    return counts
 
 
-def written(ended, log):
-    """A step that ended, with what it said written to the log."""
-    log.write(ended[2])
-    return ended
+def took(counts):
+    """How long a processor worked for all, and for which most, in words."""
+    longest = sorted(counts, key=lambda it: -it.seconds)[:MOST]
+    return f"a processor worked for {sum(it.seconds for it in counts) / 60:.0f} minutes, most of them for " + ", ".join(f"{it.name} ({it.seconds / 60:.1f})" for it in longest)
+
+
+def counted(ended, log, started):
+    """The counts of a step that ended; what it said is written to the log."""
+    it = Ended(*ended)
+    log.write(it.said)
+    return count(it.name, it.status, it.said, started, it.seconds)
 
 
 def told_at_the_end(counts):

@@ -10,6 +10,15 @@ SIGNALS = (signal.SIGINT, signal.SIGTERM, signal.SIGHUP)
 RUNNING, ONE, ENDED = set(), threading.RLock(), threading.Event()
 
 
+class Took(threading.local):
+    """The seconds of a processor that the commands took, with their children, that this thread has waited for."""
+
+    seconds = 0.0
+
+
+TOOK = Took()
+
+
 class Interrupted(Exception):
     """The script is about to end, so nothing begins any more."""
 
@@ -78,7 +87,23 @@ def run(words, folder, seconds=None, env=None):
 def waited(command):
     """Waits until a command has ended: its status, and the seconds of a processor that it and its children took."""
     _, how, usage = os.wait4(command.pid, 0)
+    return ended(command, how, usage)
+
+
+def polled(command):
+    """The status of a command that has ended; none while it runs."""
+    if command.returncode is None:
+        process, how, usage = os.wait4(command.pid, os.WNOHANG)
+        if process:
+            ended(command, how, usage)
+    return command.returncode
+
+
+def ended(command, how, usage):
+    """Takes note of a command that has ended: its status, and the seconds of a processor that it and its children took."""
     with ONE:
         RUNNING.discard(command)
         command.returncode = -os.WTERMSIG(how) if os.WIFSIGNALED(how) else os.WEXITSTATUS(how)
-    return command.returncode, usage.ru_utime + usage.ru_stime
+    seconds = usage.ru_utime + usage.ru_stime
+    TOOK.seconds += seconds
+    return command.returncode, seconds
