@@ -109,14 +109,17 @@ def in_name(seconds):
     return f"{seconds:g}".replace(".", "_")
 
 
+def from_in_name(since):
+    return f"_from_{since / 1000:g}_s_on" if since else ""
+
+
 def loss(count, count_slow, sync, after=10_000.0, is_cut=False, since=0.0, is_long=True, seeds=1, **options):
     """A batch of so many nodes, some of them slow by such a sync, in which quick ones are lost after so long."""
 
     def setup(world):
         setup_loss(world, Slow(world, count_slow, 1000.0 * sync, since), after, is_cut)
 
-    late = f"_from_{since / 1000:g}_s_on" if since else ""
-    setup.__name__ = f"{count_slow}_of_{count}_slow_by_{in_name(sync)}_s{late}_and_quick_ones_{'cut_off' if is_cut else 'killed'}_after_{after / 1000:g}_s"
+    setup.__name__ = f"{count_slow}_of_{count}_slow_by_{in_name(sync)}_s{from_in_name(since)}_and_quick_ones_{'cut_off' if is_cut else 'killed'}_after_{after / 1000:g}_s"
     batch(seeds, most_rounds=None, is_long=is_long, **{**PATIENT, "hands": 100_000, "stays": True, "count": count, "think": 2.0, **options})(setup)
 
 
@@ -125,7 +128,8 @@ for count, count_slow in ((3, 1), (5, 2), (7, 3)):
         for is_cut in (False, True):
             loss(count, count_slow, sync, is_cut=is_cut, is_long=(count, sync, is_cut) not in ((3, 0.3, False), (3, 1.2, True)))
             loss(count, count_slow, sync, is_cut=is_cut, since=10_000.0, after=20_000.0)
-            loss(count, count_slow, sync, is_cut=is_cut, after=TEN_MINUTES, think=100.0)
+            for since in (0.0, 10_000.0):
+                loss(count, count_slow, sync, is_cut=is_cut, since=since, after=TEN_MINUTES, think=100.0)
 
 
 def setup_end(world, slow):
@@ -180,18 +184,20 @@ def setup_loss_at_the_end(world, slow, is_cut):
     world.on_progress, world.why_not = went_on, why_not
 
 
-def end_with_loss(count, count_slow, sync, is_cut, is_long=True):
+def end_with_loss(count, count_slow, sync, is_cut, since=0.0, is_long=True, think=2.0):
     def setup(world):
-        setup_loss_at_the_end(world, Slow(world, count_slow, 1000.0 * sync), is_cut)
+        setup_loss_at_the_end(world, Slow(world, count_slow, 1000.0 * sync, since), is_cut)
 
-    setup.__name__ = f"{count_slow}_of_{count}_slow_by_{in_name(sync)}_s_and_quick_ones_{'cut_off' if is_cut else 'killed'}_at_the_end"
-    batch(1, is_long=is_long, **{**PATIENT, "hands": 20, "unheard": UNHEARD, "stays": True, "count": count, "think": 2.0})(setup)
+    setup.__name__ = f"{count_slow}_of_{count}_slow_by_{in_name(sync)}_s{from_in_name(since)}_and_quick_ones_{'cut_off' if is_cut else 'killed'}_at_the_end"
+    batch(1, is_long=is_long, **{**PATIENT, "hands": 20, "unheard": UNHEARD, "stays": True, "count": count, "think": think})(setup)
 
 
 for count, count_slow in ((3, 1), (5, 2), (7, 3)):
     for sync in (0.05, 0.3, 1.2, 5):
         for is_cut in (False, True):
             end_with_loss(count, count_slow, sync, is_cut, is_long=(count, sync, is_cut) != (3, 0.3, False))
+            # (bots think so that the last hand comes some seconds behind the tenth)
+            end_with_loss(count, count_slow, sync, is_cut, since=10_000.0, think=100.0)
 
 
 # A slow node becomes quick, or is slow and leads, and then quick ones are lost.
@@ -231,8 +237,36 @@ for sync in (0.05, 0.3, 1.2, 5):
     for is_cut in (False, True):
         quick_again(3, 1, sync, is_cut, is_long=(sync, is_cut) != (0.3, False))
         quick_again(5, 2, sync, is_cut)
+        quick_again(7, 3, sync, is_cut)
         slow_leader(3, sync, is_cut, is_long=(sync, is_cut) != (0.3, True))
         slow_leader(5, sync, is_cut)
+        slow_leader(7, sync, is_cut)
+
+
+# The ways of one node are slow in place of its disk.
+
+
+class SlowWays(Slow):
+    """Nodes whose ways to all others and back take so long, and whose disks are as quick as others': two ways are a call."""
+
+    def __init__(self, world, count, way):
+        super().__init__(world, count, way)
+        world.longer = {pair: way for a in self.numbers for b in range(world.count) if a != b for pair in both(a, b)}
+
+    def sync_of(self, number):
+        return self.world.sync_ms
+
+    def why_behind(self, more=0.0):
+        """Nothing: who joins later asks for 64 commands by each way there and back, and many more are chosen meanwhile."""
+        return None
+
+
+for is_cut in (False, True):
+    def setup(world, is_cut=is_cut):
+        setup_loss(world, SlowWays(world, 1, 500.0), 10_000.0, is_cut)
+
+    setup.__name__ = f"1_of_3_with_ways_of_0_5_s_and_quick_ones_{'cut_off' if is_cut else 'killed'}_after_10_s"
+    batch(1, most_rounds=None, is_long=is_cut, **{**PATIENT, "hands": 100_000, "stays": True, "think": 2.0})(setup)
 
 
 # One node lacks a slot that the only other one left, which is slow, knows as chosen by others' votes alone: it gets that one's vote.

@@ -157,7 +157,7 @@ class Wire:
         self.put(sender, receiver, what, self.world.way())
 
     def put(self, sender, receiver, what, delay):
-        when = max(self.world.now + delay, self.last.get(sender, 0.0))
+        when = max(self.world.now + delay + self.world.longer.get((sender, receiver), 0.0), self.last.get(sender, 0.0))
         self.last[sender] = when
         self.world.at(when, self.world.processes[receiver].arrive, (sender, self, what))
 

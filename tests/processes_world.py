@@ -191,6 +191,8 @@ class World:
         self.start, self.gives_up, self.greets = start, gives_up, greets
         self.match = Match(count, hands)
         self.wires, self.cuts, self.slow, self.gone = [], set(), {}, set()
+        # How much longer the ways of some ordered pairs are than others.
+        self.longer = {}
         self.processes = [Process(self, number) for number in range(count)]
         self.bots = players(self) if players else [Bot(self, seat, at[seat], stays) for seat in range(2)]
         # A run may end once this holds of the world.
