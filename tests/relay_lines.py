@@ -1,4 +1,5 @@
 """What tests/relay tries of a relay by clients in place of nodes and bots, which say what they like."""
+import contextlib
 import os
 import re
 import resource
@@ -408,22 +409,39 @@ def most_memory(relay):
     return int(re.search(r"VmHWM:\s+(\d+) kB", Path(f"/proc/{relay.process.pid}/status").read_text())[1])
 
 
+# A bot that took nothing for so long has lost its relay (docs/NOTES.md), in seconds.
+TOOK_NOTHING = 30
+
+
+def taken(bot, count):
+    """So many bytes that a bot takes, or those before the end of its connection; and the longest time in which it took nothing meanwhile."""
+    got, last, longest = bytearray(), time.monotonic(), 0.0
+    with contextlib.suppress(ConnectionResetError):
+        while len(got) < count and (piece := bot.connection.recv(1 << 16)):
+            got += piece
+            longest, last = max(longest, time.monotonic() - last), time.monotonic()
+    return bytes(got), max(longest, time.monotonic() - last)
+
+
 @test()
 def a_bot_that_does_not_read(folder, seed, is_long):
     """What waits for it is bounded, the nodes are held up, and it gets all lines in order once it reads."""
     lines = b"".join(b"MATCHSTATE:0:%d::5d5c|\r\n" % hand for hand in range(300000))
     nodes = [Node(lines), Node(lines)]
     relay = relayed(folder, nodes)
-    bot = Dialler(relay, room=4096)
+    bot, begun = Dialler(relay, room=4096), time.monotonic()
     pause(2)
     # (on a busy machine it takes longer until it waits)
     waited(lambda: wanted_in_a_second() <= 0.1, "a relay that waits for its bot, and isn't busy for more than a tenth of a second")
-    got = bytearray()
-    while len(got) < len(lines):
-        piece = bot.connection.recv(1 << 16)
-        want(piece, f"the connection ended after {len(got)} bytes of {len(lines)}")
-        got += piece
-    want(got == lines, "all lines, in order")
+    before = time.monotonic() - begun
+    got, longest = taken(bot, len(lines))
+    want(lines.startswith(got), "lines in order")
+    if len(got) < len(lines):
+        # (a busy machine may give it no processor for so long)
+        silent = max(before, longest)
+        want(silent >= TOOK_NOTHING, f"the connection ended after {len(got)} bytes of {len(lines)}")
+        in_time(False, f"the bot took nothing for {silent:.0f} s, and then its relay took it for lost")
+        return relay.ends(1)
     bot.gets_nothing()
     kibibytes = most_memory(relay)
     want(kibibytes < 16384, f"the relay had {kibibytes} KiB")
