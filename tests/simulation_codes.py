@@ -6,7 +6,7 @@ import struct
 
 CONSTANTS = (0x61707865, 0x3320646E, 0x79622D32, 0x6B206574)
 # So many blocks of a keystream are made at once.
-BLOCKS = 16
+BLOCKS = 32
 TAG_BYTES = 32
 
 
@@ -63,15 +63,16 @@ class Keystream:
 
     def __init__(self, key):
         words = struct.unpack("<8I", key)
-        self.rows, self.counter, self.ready = [MANY.row(*CONSTANTS), MANY.row(*words[:4]), MANY.row(*words[4:])], 0, b""
+        self.rows, self.counter, self.ready, self.at = [MANY.row(*CONSTANTS), MANY.row(*words[:4]), MANY.row(*words[4:])], 0, b"", 0
 
     def take(self, count):
-        while len(self.ready) < count:
+        at = self.at
+        while len(self.ready) < at + count:
             counters = MANY.row(range(self.counter, self.counter + BLOCKS), 0, 0, 0)
-            self.ready += b"".join(MANY.blocks([*self.rows, counters]))
+            self.ready, at = self.ready[at:] + b"".join(MANY.blocks([*self.rows, counters])), 0
             self.counter += BLOCKS
-        taken, self.ready = self.ready[:count], self.ready[count + -count % 4 :]
-        return taken
+        self.at = at + count + -count % 4
+        return self.ready[at : at + count]
 
 
 class Tagger:

@@ -1,13 +1,17 @@
 """The rules of tests/simulation on what nodes say to each other: connections, records, frames and campaigns."""
-from simulation_codes import Direction, proof
+from simulation_codes import TAG_BYTES, Direction, proof
 from simulation_covered import RECORDS
 from simulation_list import AWAY
+from simulation_older import SHOWN_AT
 from simulation_trace import KINDS, SLOTS, STILL, Records, Wrong, ballot_of, number, split
 from simulation_windows import WELL
 
 # What a beat begins with where there is no key, in hexadecimal, and how long it is; the places of the front, the flags and the seats in it,
 # and which flag says that the match is over.
 BEAT, BEAT_SIZE, FRONT, FLAGS, SEATS, OVER = "0000001003", 40, slice(26, 34), slice(34, 36), slice(36, 40), 2
+
+# The same where there is a key, with its tag behind it.
+KEYED_BEAT, KEYED_BEAT_SIZE = bytes([0, 0, 0, 1 + 15 + TAG_BYTES, 3]), 5 + 15 + TAG_BYTES
 
 # The version of frames.
 FRAMES = 2
@@ -34,26 +38,29 @@ SHORTEST, MOST_WAIT = 200_000, 2_000_000
 class Connection:
     """A connection, and who has its ends: nodes by their numbers, bots as b0, b1, .."""
 
+    # What its bot said and no node read yet, since when, and what was read of it and is no whole line yet.
+    unread, unread_since, partial = b"", 0, b""
+    # What was told to its bot and is no whole line yet, and behind how many commands it got the last one.
+    told, said, at = b"", b"", 0
+    # From which line on its bot asked to be told, if it did, and when; and the place of the last line that it was told. How many commands
+    # its node had when it took the bot in.
+    asked, asked_at, place, known = None, 0, None, 0
+    # The token that its bot showed, when it was taken in, and whether its node has read that it asks, or a line of another kind.
+    token, taken_at, resumed, named = None, 0, False, False
+    # The word by which its node parts with its bot.
+    word = None
+
     def __init__(self, dialler, listener, seat=None):
         self.dialler, self.listener, self.seat = dialler, listener, seat
         # Of each end that is a node's the process that has it.
         self.processes = {}
-        # What each side says: its records, its Hello, and with a key how its further records are opened.
-        self.records, self.hellos, self.directions = {}, {}, {}
-        # What its bot said and no node read yet, since when, and what was read of it and is no whole line yet.
-        self.unread, self.unread_since, self.partial = bytearray(), 0, b""
-        # What was told to its bot and is no whole line yet, and behind how many commands it got the last one.
-        self.told, self.said, self.at = b"", b"", 0
-        # From which line on its bot asked to be told, if it did, and when; and the place of the last line that it was told. How many
-        # commands its node had when it took the bot in.
-        self.asked, self.asked_at, self.place, self.known = None, 0, None, 0
-        # The token that its bot showed, when it was taken in, and whether its node has read that it asks, or a line of another kind.
-        self.token, self.taken_at, self.resumed, self.named = None, 0, False, False
-        # The word by which its node parts with its bot.
-        self.word = None
+        if seat is None:
+            # Which node dialled; what each side says: its records, its Hello, and with a key how its further records are opened.
+            self.number = int(dialler)
+            self.records, self.hellos, self.directions = {}, {}, {}
 
     def other(self, who):
-        return self.listener if str(self.dialler) == who else int(self.dialler)
+        return self.listener if self.dialler == who else self.number
 
     def records_of(self, who):
         records = self.records.get(who)
@@ -79,7 +86,7 @@ class Links:
         connection, *rest = map(int, row[3:])
         while len(self.connections) <= connection:
             self.connections.append(None)
-        if row[1].startswith("b"):
+        if row[1][0] == "b":
             self.connections[connection] = Connection(row[1], rest[0], rest[1])
             self.dial(row[0], row[1], connection, *rest)
         else:
@@ -92,7 +99,7 @@ class Links:
 
     def own(self, row, connection):
         """The process that speaks over a connection, which is the one that dialled or took it."""
-        process = self.processes.get(int(row[1]))
+        process = self.speaking.get(row[1])
         if process is None or connection.processes.get(row[1]) is not process:
             raise Wrong("old", row[0], f"node {row[1]} speaks over connection {row[3]}, which its process doesn't have")
         return process
@@ -100,50 +107,59 @@ class Links:
     def open_to(self, row, connection, process):
         """A process speaks over one connection to a peer, behind the greeting: not over an earlier one once it has over a later one."""
         peer, number = connection.other(row[1]), int(row[3])
-        last = process.open.get(peer, number)
+        last = process.open.get(peer)
+        if last == number:
+            return
+        last = number if last is None else last
         if last > number:
             raise Wrong("old", row[0], f"node {row[1]} speaks over connection {number} to node {peer}, behind {last}")
         if last < number:
             process.beats.clear()
         process.open[peer] = number
 
-    def is_said_again(self, row):
-        """Whether what is written without a key was right before, over this connection or another one of its process, and is so now: a beat
-        that says what the one before it did, or frames that stay right. It is counted then."""
-        words, process = row[4], self.speaking.get(row[1])
-        if process is None:
-            return False
-        if len(words) == BEAT_SIZE and words.startswith(BEAT):
-            if process.beats.get(row[3]) == words[FRONT.start :]:
-                self.beats += 1
-                return True
-            return self.is_beat(row)
-        counted = process.lasting.get(words)
-        if counted is None:
-            return False
+    def is_said_again(self, row, process):
+        """Whether frames that stay right, and were before, are whole ones for another node. They are counted then."""
         connection = self.connection(row)
         if connection is None or connection.seat is not None or connection.records_of(row[1]).data:
             return False
         self.open_to(row, connection, self.own(row, connection))
-        process.spoken.setdefault(connection.other(row[1]), row[0])
-        for word in counted:
+        peer = connection.other(row[1])
+        process.spoken.setdefault(peer, row[0])
+        words, shown = process.lasting[row[4]]
+        for word in words:
             self.counts[word] += 1
+        for kind, part in shown:
+            self.show(row[0], int(row[1]), peer, kind, part)
         return True
 
     def say_to_node(self, row, connection, data):
         process, reader = self.own(row, connection), connection.records_of(row[1])
-        is_whole, said = not reader.data, []
+        if self.has_key:
+            if len(data) != KEYED_BEAT_SIZE or data[:5] != KEYED_BEAT or reader.data:
+                for kind, body in reader.read(data):
+                    self.record(row, connection, process, kind, body)
+                return
+            self.open_to(row, connection, process)
+            body = self.opened(row, connection, BEATS, data[5:])
+            self.beats += 1
+            if process.beats.get(row[3]) != body[8:]:
+                self.beat_anew(row, process, body[8:], number(body[8:12]), body[12], number(body[13:15]))
+            return
+        is_whole, said, shown = not reader.data, [], []
         for kind, body in reader.read(data):
             self.record(row, connection, process, kind, body)
             said.append(LASTING.get(body[5]) if kind == FRAME else None)
+            if kind == FRAME and body[5] in SHOWN_AT:
+                shown.append((body[5], body[6:]))
         if reader.data:
             process.beats.pop(row[3], None)
-        elif is_whole and not self.has_key and None not in said:
-            process.lasting[row[4]] = [word for words in said for word in words]
+        elif is_whole and None not in said:
+            process.lasting[row[4]] = [word for words in said for word in words], shown
 
     def record(self, row, connection, process, kind, body):
         moment, node = row[0], int(row[1])
-        self.counts[RECORD_WORDS[kind]] += 1
+        if kind != BEATS:
+            self.counts[RECORD_WORDS[kind]] += 1
         if kind == HELLO:
             connection.greet(row[1], body)
             self.hello(moment, node, body)
@@ -151,15 +167,26 @@ class Links:
         if kind != PROOF:
             self.open_to(row, connection, process)
         if kind == FRAME:
-            process.spoken.setdefault(connection.other(row[1]), moment)
+            peer = connection.other(row[1])
+            process.spoken.setdefault(peer, moment)
         if self.has_key:
             body = self.opened(row, connection, kind, body)
         if kind == FRAME:
-            self.frame(moment, node, process, body)
-            self.show(moment, node, connection.other(row[1]), body[5], body[6:])
+            # Frames that stay right are judged once: without a key by what is written, with one by what it opens to.
+            if not self.has_key or body not in process.lasting:
+                self.frame(moment, node, process, body)
+                if self.has_key and body[5] in LASTING:
+                    process.lasting[body] = None
+            else:
+                self.counts[FRAME_WORDS[body[5]]] += 1
+            if body[5] in SHOWN_AT:
+                self.show(moment, node, peer, body[5], body[6:])
         elif kind == BEATS:
             self.beats += 1
-            self.beat(moment, node, process, number(body[8:12]), body[12], number(body[13:15]))
+            if not self.has_key:
+                self.beat(moment, node, process, number(body[8:12]), body[12], number(body[13:15]))
+            elif process.beats.get(row[3]) != body[8:]:
+                self.beat_anew(row, process, body[8:], number(body[8:12]), body[12], number(body[13:15]))
         elif kind == LIVES:
             self.lives(moment, node, body)
         elif kind == PROMISED:
@@ -175,30 +202,31 @@ class Links:
             raise Wrong("tag", row[0], f"node {row[1]} says a record of kind {kind} with a wrong tag")
         return body
 
-    def is_beat(self, row):
+    def is_beat(self, row, process):
         """Whether what is written is a beat and nothing else, between two nodes without a key; it is judged then."""
-        at = int(row[3])
-        connection = self.connections[at] if at < len(self.connections) else None
+        connection = self.connection(row)
         if connection is None or connection.seat is not None:
             return False
         who, words = row[1], row[4]
         records = connection.records.get(who)
         if records is not None and records.data:
             return False
-        process = self.processes.get(int(who))
-        if process is None or connection.processes.get(who) is not process:
+        if connection.processes.get(who) is not process:
             self.own(row, connection)
         self.beats += 1
         self.open_to(row, connection, process)
-        # The next beat says what the one before it did, but for its number, and nothing came into the list.
-        said = words[FRONT.start :]
+        self.beat_anew(row, process, words[FRONT.start :], int(words[FRONT], 16), int(words[FLAGS], 16), int(words[SEATS], 16))
+        return True
+
+    def beat_anew(self, row, process, said, front, flags, seats):
+        """A beat says what the one before it did over another connection, but for its number, and nothing changed what is right: else it is
+        judged. Over this connection what it says is right from now on."""
         if said != process.beat or process.doubted is not None:
-            self.beat(row[0], int(who), process, int(words[FRONT], 16), int(words[FLAGS], 16), int(words[SEATS], 16))
+            self.beat(row[0], int(row[1]), process, front, flags, seats)
             process.forget_beat()
             process.beat = said
         if process.doubted is None:
             process.beats[row[3]] = said
-        return True
 
     def beat(self, moment, node, process, front, flags, seats):
         """A beat says a front that the list has, not below an earlier one of the process, and the match's end where it has come. Behind a
@@ -218,7 +246,8 @@ class Links:
 
     def doubt(self, moment, node, process, seats):
         """Beats say who sits at a node, as notes do a moment before or later. A node without a quorum tells of no seats."""
-        if not process.is_quorate or seats == sum(1 << seat for seat in process.sits):
+        process.beat_seats = seats
+        if not process.is_quorate or seats == process.sits_now():
             process.doubted = None
         elif process.doubted is None:
             process.doubted = moment

@@ -1,8 +1,10 @@
 """The rules by which tests/simulation judges a trace, each with its name."""
 import bisect
 import collections
+import struct
 
 from simulation_covered import names_of
+from simulation_links import BEAT, BEAT_SIZE, FRONT
 from simulation_list import AWAY, Dealt, Decks
 from simulation_older import OLDER, Older, Unknowable
 from simulation_seats import Seats
@@ -82,7 +84,7 @@ LOST = ("StoreReplaced", "OtherMatch")
 NO_STORES = ("NoStore", "BadHeader", "BadRecord")
 
 # What reading a row comes to that no process does.
-NO_TRACE = (ValueError, IndexError, KeyError, AttributeError)
+NO_TRACE = (ValueError, IndexError, KeyError, AttributeError, struct.error)
 
 # How many calls of a disk pass before one fails, by the order `fail`, where none does.
 NO_FAILURE = (1 << 64) - 1
@@ -108,8 +110,8 @@ class Process:
         self.first = 0
         # How many commands it has at least, by all that it says, and since when it has so many.
         self.known, self.knew, self.learned = 0, [0], [moment]
-        # What its last beat said, its front, and since when its beats have told of other seats than notes did.
-        self.beat, self.beat_front, self.doubted = None, 0, None
+        # What its last beat said, its front and its seats, and since when its beats have told of other seats than notes did.
+        self.beat, self.beat_front, self.beat_seats, self.doubted = None, 0, 0, None
         # What may be said again, and is right then: by connections what each last beat said, and of what was said without a key and has
         # nothing but frames that stay right, what is counted of it.
         self.beats, self.lasting = {}, {}
@@ -136,6 +138,16 @@ class Process:
         """The next beat of each connection is judged again."""
         self.beat = None
         self.beats.clear()
+
+    def sits_now(self):
+        """Who sits here by its notes, a bit each."""
+        return sum(1 << seat for seat in self.sits)
+
+    def settle_beat(self):
+        """A note tells who sits here: that may be what its last beat said before."""
+        self.forget_beat()
+        if self.beat_seats == self.sits_now():
+            self.doubted = None
 
     def knew_at(self, moment):
         """How many commands it had at least at a moment."""
@@ -200,24 +212,43 @@ class Checker(Seats, Windows, Served, Older):
         self.counts[word] += 1
 
     def run(self):
+        try:
+            self.go_through()
+        except Unknowable:
+            self.count_one("an older copy of which nobody is sure to know")
+            return self
+        finally:
+            if self.beats:
+                self.counts["record Beat"] = self.beats
+        self.at_end()
+        return self
+
+    def go_through(self):
+        """All rows, one after another. What a process says is mostly what was right before, over this connection or another one of its: a
+        beat that says what the one before it did, or, without a key, frames that stay right. Nothing more is looked at then."""
         does = {name[3:].replace("_", "-"): getattr(self, name) for name in dir(self) if name.startswith("on_")}
+        speaking, on_say, said = self.speaking, self.on_say, FRONT.start
         for row in self.rows:
             word = row[2]
             try:
-                if row[1] == "-":
+                if word == "say":
+                    words, process = row[4], speaking.get(row[1])
+                    if process is None:
+                        on_say(row)
+                    elif len(words) == BEAT_SIZE and words.startswith(BEAT):
+                        if process.beats.get(row[3]) == words[said:]:
+                            self.beats += 1
+                        elif self.has_key or not self.is_beat(row, process):
+                            on_say(row)
+                    elif words not in process.lasting or not self.is_said_again(row, process):
+                        on_say(row)
+                elif row[1] == "-":
                     self.count_one("order " + word)
                     self.order(row)
                 elif word in does:
                     does[word](row)
-            except Unknowable:
-                self.count_one("an older copy of which nobody is sure to know")
-                return self
             except NO_TRACE as why:
                 raise Wrong("trace", row[0], f"{why!r} in {' '.join(map(str, row))[:200]}") from why
-        if self.beats:
-            self.counts["record Beat"] = self.beats
-        self.at_end()
-        return self
 
     @property
     def end(self):
@@ -348,7 +379,8 @@ class Checker(Seats, Windows, Served, Older):
 
     def on_sync(self, row):
         moment, node, begun = row[0], int(row[1]), int(row[3])
-        self.longest = max(self.longest, moment - begun)
+        if moment - begun > self.longest:
+            self.longest = moment - begun
         process = self.processes[node]
         before = process.disk.store.promised
         try:
@@ -358,7 +390,8 @@ class Checker(Seats, Windows, Served, Older):
         except NO_STORE as why:
             raise Wrong("store", moment, f"node {node} synced no store: {why}")
         promised = process.disk.store.promised
-        self.highest, self.most_promised[node] = max(self.highest, promised), max(self.most_promised[node], promised)
+        if promised > before:
+            self.highest, self.most_promised[node] = max(self.highest, promised), max(self.most_promised[node], promised)
         if found:
             process.voted = moment
             self.count_one("stored votes")
@@ -378,8 +411,10 @@ class Checker(Seats, Windows, Served, Older):
     def vote(self, moment, node, ballot, slot, command):
         """A vote is on a disk: with those of more than half of all nodes its command is chosen."""
         voters = self.votes.setdefault((slot, ballot), {})
-        if voters.setdefault(node, command) != command or any(other != command for other in voters.values()):
+        # All votes of before are for one command.
+        if next(iter(voters.values()), command) != command:
             raise Wrong("one-value", moment, f"two commands in ballot {ballot} at slot {slot}")
+        voters[node] = command
         self.origins.setdefault((slot, command), ballot)
         if command[0] == AWAY:
             self.show_default(moment, node, command)
@@ -408,10 +443,8 @@ class Checker(Seats, Windows, Served, Older):
     # What is said and told.
 
     def on_say(self, row):
-        if not self.has_key and self.is_said_again(row):
-            return
         who, connection, data = row[1], self.connection(row), bytes_of(row[4])
-        if who.startswith("b"):
+        if who[0] == "b":
             self.hear(row[0], connection, data)
         elif connection is None:
             self.say_to_stranger(row, data)
@@ -466,14 +499,14 @@ class Checker(Seats, Windows, Served, Older):
         self.came.add(seat)
         process.sits.add(seat)
         process.seated_at[seat] = row[0]
-        process.forget_beat()
+        process.settle_beat()
         if len(self.came) == len(self.names):
             self.all_came = min(self.all_came, row[0])
         self.settle_doubts(row[0], process, seat)
 
     def note_left(self, row, node, process):
         process.sits.discard(int(field(row, "seat")))
-        process.forget_beat()
+        process.settle_beat()
         self.settle_doubts(row[0], process, int(field(row, "seat")))
 
     def note_joined(self, row, node, process):

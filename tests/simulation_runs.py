@@ -1,5 +1,6 @@
 """Runs of scripts of tests/simulation by the program, and what the checker says of their traces."""
 import contextlib
+import gc
 import hashlib
 import itertools
 import os
@@ -86,10 +87,14 @@ def judged(job):
     if script is None:
         script, name = drawn(*name), f"seed {name[0]}"
     begun = os.times()
+    # What a checker makes is let go of with it: nothing is to be collected meanwhile.
+    gc.disable()
     try:
         checker = Checker(script, *watched(program, script)).run()
     except Wrong as wrong:
         return Judged(name, wrong, {}, (0.0, 0.0))
+    finally:
+        gc.enable()
     ended = os.times()
     spent = ended.children_user + ended.children_system - begun.children_user - begun.children_system
     return Judged(name, None, checker.counts, (spent, ended.user + ended.system - begun.user - begun.system), checker)

@@ -16,6 +16,9 @@ SECOND = 1_000_000
 # How many strangers all floods of a script have at most; how many of a hundred scripts with faults lose a node's store, and in how many of
 # the others an older copy of one is put back.
 FLOODED, LOST, AGED = 1_200, 5, 5
+# The most by which each sync of a node with a slow disk takes longer; a hundredth of that is the least. How many syncs of a node a hand
+# has at most, mostly.
+SLOWEST, COMMANDS = 5 * SECOND, 40
 # How a bot is: it asks for all lines, or for the newest.
 ALL, NEWEST = 4, 8
 # What a stranger sends in place of so many bytes: that he asks for all lines, or for what is behind a line that there isn't, a line that
@@ -36,8 +39,8 @@ class Drawing:
         return low * (high / low) ** self.random.random()
 
 
-def drawn(seed, is_calm=False):
-    """The lines of the script of a seed."""
+def drawn(seed, is_calm=False, is_slow=False):
+    """The lines of the script of a seed; perhaps with one node whose disk is slow, and all else as it is drawn."""
     it = Drawing(seed)
     pick = it.random
     count = pick.choice([3, 3, 3, 3, 5, 5, 7])
@@ -71,9 +74,29 @@ def drawn(seed, is_calm=False):
         calm = trouble(it, (count, players, storm), lose(it, seed, count) or put_back(it, seed, count), patience != "-", tokens == "tokens")
     last = max(moment for moment, words in it.lines if words.startswith("bot "))
     ask(it, seed, count)
-    it.at(max(calm, last) + 300 * SECOND + hands * SECOND, "end")
+    more = slow_down(it, seed, count) if is_slow else 0
+    it.at(max(calm, last) + 300 * SECOND + hands * (SECOND + COMMANDS * more), "end")
     it.lines.sort(key=lambda line: line[0])
     return [first, *(f"{moment} {words}" for moment, words in it.lines)]
+
+
+def slow_down(it, seed, count):
+    """Each sync of one node takes so much longer than is drawn, from the start on or from the tenth second on; by how much."""
+    pick = random.Random(f"slow disk of {seed}")
+    node, since = pick.randrange(count), pick.choice([0, 10 * SECOND])
+    more = int(SLOWEST / 100 * 100 ** pick.random())
+    it.lines.sort(key=lambda line: line[0])
+    takes, lines = 0, []
+    for moment, words in it.lines:
+        word, *numbers = words.split(" ")
+        if word == "sync" and int(numbers[0]) == node:
+            takes = takes if moment > since else int(numbers[1])
+            words = words if moment < since else f"sync {node} {int(numbers[1]) + more}"
+        lines.append((moment, words))
+    it.lines = lines
+    if since:
+        it.at(since, "sync", node, takes + more)
+    return more
 
 
 def ask(it, seed, count):

@@ -106,8 +106,7 @@ class Seats(Links, StatusLines):
         self.look_at_seat(row[0], node, self.processes[node], connection.seat, int(row[3]))
         if not connection.unread.startswith(data):
             raise Wrong("wire", row[0], f"node {node} reads what seat {connection.seat} didn't say: {data!r}")
-        del connection.unread[: len(data)]
-        connection.unread_since = row[0]
+        connection.unread, connection.unread_since = connection.unread[len(data) :], row[0]
         *lines, connection.partial = (connection.partial + data).split(b"\n")
         for line in lines:
             connection.resumed = connection.resumed or line.startswith(b"#RESUME ")

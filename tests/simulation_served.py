@@ -99,11 +99,13 @@ class Served:
 
     def note_quorum(self, row, node, process):
         process.is_quorate, process.hung = True, []
+        process.forget_beat()
         self.quorum = row[0] if self.quorum is None else self.quorum
 
     def note_quorumlost(self, row, node, process):
         """It is told behind what was said and closed in the same turn."""
         process.is_quorate = False
+        process.forget_beat()
         self.unsure = [(moment, other) for moment, other in self.unsure if other is not process]
         if process.hung and process.hung[-1] + STILL > row[0]:
             raise Wrong("waits", process.hung[-1], f"node {node}, which lost its quorum, closes the connection of a seat without a word")
@@ -160,7 +162,7 @@ class Served:
         if since + SOON >= moment:
             return
         if connection.unread and max(since, connection.unread_since) + SOON < moment:
-            raise Wrong("heard", moment, f"node {node} has read nothing of seat {seat} since {connection.unread_since}: {bytes(connection.unread)!r}")
+            raise Wrong("heard", moment, f"node {node} has read nothing of seat {seat} since {connection.unread_since}: {connection.unread!r}")
         places, told = self.dealt.places[seat], -1 if connection.place is None else connection.place
         if told + 1 == len(places) or process.known < places[told + 1]:
             return

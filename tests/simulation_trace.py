@@ -12,13 +12,48 @@ import second_dealer as dealer
 TOP = Path(__file__).resolve().parent.parent
 
 
-def kept(best):
-    """The value of a hand, which the dealer asks for once for each pot and once more for who wins it, is worked out once."""
-    values = functools.lru_cache(maxsize=64)(lambda cards: best(list(cards)))
-    return lambda cards: values(tuple(cards))
+# The dealer's own values of hands, over all fives of the cards.
+VALUE_BY_FIVES = dealer.best
 
 
-dealer.best = kept(dealer.best)
+@functools.lru_cache(maxsize=64)
+def value_of(cards):
+    """The same value by counts alone. The dealer asks for it once for each pot and once more for who wins it; `tests/simulation --wrong`
+    compares it with that over all fives."""
+    ranks, suited = [0] * 13, {}
+    for rank, suit in cards:
+        place = dealer.RANKS.index(rank)
+        ranks[place] += 1
+        suited.setdefault(suit, []).append(place)
+    flush = next((sorted(places, reverse=True) for places in suited.values() if len(places) >= 5), None)
+    if flush is not None and (top := top_of_straight(flush)) is not None:
+        return 8, [top]
+    high = sorted((place for place in range(13) if ranks[place]), key=lambda place: (-ranks[place], -place))
+    first, second = ranks[high[0]], ranks[high[1]] if len(high) > 1 else 0
+    if first == 4:
+        return 7, [high[0], max(high[1:])]
+    if first == 3 and second >= 2:
+        return 6, [high[0], max(place for place in high[1:] if ranks[place] >= 2)]
+    if flush is not None:
+        return 5, flush[:5]
+    top = top_of_straight(high)
+    if top is not None:
+        return 4, [top]
+    pairs = high[:2] if first == second == 2 else high[:1] if first > 1 else []
+    rest = sorted((place for place in high if place not in pairs), reverse=True)
+    return {(3, 1): 3, (2, 2): 2, (2, 1): 1}.get((first, second), 0), pairs + rest[: 5 - sum(ranks[place] for place in pairs)]
+
+
+def top_of_straight(places):
+    """The highest rank of a straight of these ranks; an ace may stand below a two."""
+    there = set(places)
+    for top in range(12, 3, -1):
+        if there.issuperset(range(top - 4, top + 1)):
+            return top
+    return 3 if there.issuperset((12, 0, 1, 2, 3)) else None
+
+
+dealer.best = lambda cards: value_of(tuple(cards))
 KINDS = ["", "Prepare", "Promise", "Refuse", "Accept", "Accepted", "Chosen", "Ask", "Forward"]
 HEADER = 9
 
@@ -126,7 +161,7 @@ class Backwards(Exception):
 
 
 # What reading a journal comes to that is no store.
-NO_STORE = (ValueError, IndexError, KeyError, Backwards)
+NO_STORE = (ValueError, IndexError, KeyError, struct.error, Backwards)
 
 
 class Store:
@@ -142,14 +177,14 @@ class Store:
 
     def read(self, file):
         """Reads on, and answers what was accepted: ballot, slot, command."""
-        found = []
-        while self.at < len(file) and file[self.at] == 1:
-            size = number(file[self.at + 1 : self.at + 3])
-            payload = bytes(file[self.at + 3 : self.at + 3 + size])
-            if len(payload) < size or len(file) <= self.at + 3 + size:
+        at, found = self.at, []
+        while at < len(file) and file[at] == 1:
+            size = number(file[at + 1 : at + 3])
+            payload = bytes(file[at + 3 : at + 3 + size])
+            if len(payload) < size or len(file) <= at + 3 + size:
                 raise ValueError("a record that ends behind the file")
-            self.at += 3 + size
-            ballot = ballot_of(payload[1:6])
+            at += 3 + size
+            self.at, ballot = at, BALLOT.unpack_from(payload, 1)
             if ballot < self.promised:
                 raise Backwards(f"a record of ballot {ballot} behind the promise of {self.promised}")
             self.promised = ballot
@@ -157,10 +192,12 @@ class Store:
                 slot, commands = number(payload[6:10]), split(payload[11:])
                 if len(commands) != payload[10]:
                     raise ValueError("a record with another count of commands")
-                for place, command in enumerate(commands):
-                    if slot + place not in self.entries or self.entries[slot + place][0] <= ballot:
-                        self.entries[slot + place] = (ballot, command)
-                    found.append((ballot, slot + place, command))
+                for command in commands:
+                    earlier = self.entries.get(slot)
+                    if earlier is None or earlier[0] <= ballot:
+                        self.entries[slot] = (ballot, command)
+                    found.append((ballot, slot, command))
+                    slot += 1
             elif payload[0] != 1 or size != PROMISE:
                 raise ValueError(f"a record of kind {payload[0]}, of {size} bytes")
         return found
@@ -234,12 +271,15 @@ class Records:
         self.data = b""
 
     def read(self, data):
-        self.data += data
-        while len(self.data) >= 4:
-            size = number(self.data[:4])
+        if self.data:
+            data = self.data + data
+        at, end = 0, len(data)
+        while end - at >= 4:
+            size = int.from_bytes(data[at : at + 4], "big")
             if not 0 < size <= LONGEST_RECORD:
                 raise ValueError(f"a record of {size} bytes")
-            if len(self.data) < 4 + size:
-                return
-            yield self.data[4], self.data[5 : 4 + size]
-            self.data = self.data[4 + size :]
+            if end - at < 4 + size:
+                break
+            yield data[at + 4], data[at + 5 : at + 4 + size]
+            at += 4 + size
+        self.data = data[at:]

@@ -1,7 +1,9 @@
 """Wrong traces: edits of the traces of a few short scripts, each with the rule that is to refuse it. `tests/simulation --wrong` tries them all."""
 import itertools
+import random
 
 import chacha20
+import second_dealer as dealer
 import second_nodes as nodes
 import simulation_codes
 import simulation_wrong_nodes  # noqa: F401, for its wrong traces
@@ -9,7 +11,10 @@ import simulation_wrong_seats  # noqa: F401, for its wrong traces
 import simulation_wrong_served  # noqa: F401, for its wrong traces
 from simulation_edits import SCRIPTS, WRONG, Edited, NoPlace
 from simulation_rules import RULES, Checker
-from simulation_trace import Wrong
+from simulation_trace import VALUE_BY_FIVES, Wrong, value_of
+
+# So many hands have their values compared.
+HANDS = 400
 
 
 def refusal(edited):
@@ -40,7 +45,8 @@ def results(traces):
 
 
 def second_writings():
-    """The keystream and the decks are those of chacha20.py and second_frames.py, which compute them block by block."""
+    """The keystream and the decks are those of chacha20.py and second_frames.py, which compute them block by block, and values of hands those
+    of second_dealer.py."""
     key, seed = bytes(range(32)), 3 << 40
     stream, keystream = chacha20.Stream(key), simulation_codes.Keystream(key)
     for count in (1, 5, 64, 1_100, 47, 3):
@@ -52,3 +58,11 @@ def second_writings():
             yield "decks", f"another one of hand {hand}"
             return
     yield "the keystream and decks", None
+    for number in range(HANDS):
+        # Of all cards, of five ranks, or of two suits.
+        among = (range(52), range(number % 32, number % 32 + 20), [place for place in range(52) if place % 4 < 2])[number % 3]
+        cards = [dealer.CARDS[place] for place in random.Random(number).sample(among, 7)]
+        if value_of(tuple(cards)) != VALUE_BY_FIVES(cards):
+            yield "values of hands", f"another one of {' '.join(cards)}"
+            return
+    yield "values of hands", None
