@@ -2,6 +2,7 @@
 
 The lists aren't kept here but read: words of scripts, ends of processes, notes and settings out of the sources, the numbers of faults
 out of their page. So what is new there and in neither list is told as what never came."""
+import functools
 import re
 
 from simulation_trace import KINDS, TOP
@@ -9,6 +10,7 @@ from simulation_trace import KINDS, TOP
 ROW = re.compile(r"^\| (\d+) \| `(\w+)[^`]*`")
 
 
+@functools.lru_cache(maxsize=1024)
 def names_of(words):
     """The names of a fault that is told as `Name(Name(Number))`."""
     return [name for name in re.findall(r"[A-Za-z]\w*", words)]

@@ -2,7 +2,7 @@
 from simulation_codes import TAG_BYTES, Direction, proof
 from simulation_covered import RECORDS
 from simulation_list import AWAY
-from simulation_older import SHOWN_AT
+from simulation_older import SHOWN_AT, shown_by
 from simulation_trace import KINDS, SLOTS, STILL, Records, Wrong, ballot_of, number, split
 from simulation_windows import WELL
 
@@ -86,6 +86,9 @@ class Links:
         connection, *rest = map(int, row[3:])
         while len(self.connections) <= connection:
             self.connections.append(None)
+        if self.connections[connection] is not None:
+            for process in self.processes.values():
+                process.ways.clear()
         if row[1][0] == "b":
             self.connections[connection] = Connection(row[1], rest[0], rest[1])
             self.dial(row[0], row[1], connection, *rest)
@@ -107,10 +110,8 @@ class Links:
     def open_to(self, row, connection, process):
         """A process speaks over one connection to a peer, behind the greeting: not over an earlier one once it has over a later one."""
         peer, number = connection.other(row[1]), int(row[3])
-        last = process.open.get(peer)
-        if last == number:
-            return
-        last = number if last is None else last
+        process.ways[row[3]] = connection, peer, number, connection.records_of(row[1])
+        last = process.open.get(peer, number)
         if last > number:
             raise Wrong("old", row[0], f"node {row[1]} speaks over connection {number} to node {peer}, behind {last}")
         if last < number:
@@ -118,18 +119,22 @@ class Links:
         process.open[peer] = number
 
     def is_said_again(self, row, process):
-        """Whether frames that stay right, and were before, are whole ones for another node. They are counted then."""
-        connection = self.connection(row)
-        if connection is None or connection.seat is not None or connection.records_of(row[1]).data:
+        """Whether frames that stay right, and were before, are whole ones over a connection to another node over which the process has
+        spoken before. They are counted then."""
+        way = process.ways.get(row[3])
+        if way is None:
             return False
-        self.open_to(row, connection, self.own(row, connection))
-        peer = connection.other(row[1])
+        connection, peer, number, reader = way
+        if reader.data:
+            return False
+        if process.open.get(peer) != number:
+            self.open_to(row, connection, process)
         process.spoken.setdefault(peer, row[0])
         words, shown = process.lasting[row[4]]
         for word in words:
             self.counts[word] += 1
-        for kind, part in shown:
-            self.show(row[0], int(row[1]), peer, kind, part)
+        for ballot in shown:
+            self.show(row[0], int(row[1]), peer, ballot)
         return True
 
     def say_to_node(self, row, connection, data):
@@ -150,7 +155,7 @@ class Links:
             self.record(row, connection, process, kind, body)
             said.append(LASTING.get(body[5]) if kind == FRAME else None)
             if kind == FRAME and body[5] in SHOWN_AT:
-                shown.append((body[5], body[6:]))
+                shown.append(shown_by(body[5], body[6:]))
         if reader.data:
             process.beats.pop(row[3], None)
         elif is_whole and None not in said:
@@ -164,10 +169,10 @@ class Links:
             connection.greet(row[1], body)
             self.hello(moment, node, body)
             return
-        if kind != PROOF:
+        peer = connection.other(row[1])
+        if kind != PROOF and process.open.get(peer) != int(row[3]):
             self.open_to(row, connection, process)
         if kind == FRAME:
-            peer = connection.other(row[1])
             process.spoken.setdefault(peer, moment)
         if self.has_key:
             body = self.opened(row, connection, kind, body)
@@ -180,7 +185,7 @@ class Links:
             else:
                 self.counts[FRAME_WORDS[body[5]]] += 1
             if body[5] in SHOWN_AT:
-                self.show(moment, node, peer, body[5], body[6:])
+                self.show(moment, node, peer, shown_by(body[5], body[6:]))
         elif kind == BEATS:
             self.beats += 1
             if not self.has_key:
@@ -190,7 +195,7 @@ class Links:
         elif kind == LIVES:
             self.lives(moment, node, body)
         elif kind == PROMISED:
-            self.told_promise(moment, node, connection.other(row[1]), body)
+            self.told_promise(moment, node, peer, body)
 
     def opened(self, row, connection, kind, content):
         """What a record says where the nodes have a key."""

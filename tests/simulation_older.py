@@ -26,6 +26,11 @@ def promised_of(image):
     return Disk(image).store.promised
 
 
+def shown_by(kind, part):
+    """The ballot that a frame of one of these kinds shows."""
+    return ballot_of(part[SHOWN_AT[kind] :])
+
+
 class Older:
     """The rule on older copies of stores."""
 
@@ -37,12 +42,11 @@ class Older:
         # of each node was gone, and the greatest ballot that each has kept.
         self.shown_to, self.stopped, self.most_promised = collections.defaultdict(list), [0] * self.count, [(0, 0)] * self.count
 
-    def show(self, moment, node, peer, kind, part):
-        """A frame shows what its node has promised, or doesn't."""
-        if kind in SHOWN_AT:
-            shown, ballot = self.shown_to[node, peer], ballot_of(part[SHOWN_AT[kind] :])
-            if not shown or shown[-1][1] < ballot:
-                shown.append((moment, ballot))
+    def show(self, moment, node, peer, ballot):
+        """A frame shows what its node has promised."""
+        shown = self.shown_to[node, peer]
+        if not shown or shown[-1][1] < ballot:
+            shown.append((moment, ballot))
 
     def put_back(self, moment, node, image):
         """A node without a process has the copy of its store again."""

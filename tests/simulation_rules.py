@@ -1,6 +1,7 @@
 """The rules by which tests/simulation judges a trace, each with its name."""
 import bisect
 import collections
+import functools
 import struct
 
 from simulation_covered import names_of
@@ -101,6 +102,9 @@ class Process:
         self.spoken, self.joined = {}, set()
         # The last connection to each peer over which something was said behind the greeting.
         self.open = {}
+        # Each connection over which it has spoken behind the greeting, by what rows say of it: with the peer, the number and the reader of
+        # what it says.
+        self.ways = {}
         # Its campaigns since its front moved: the front, how many, and the moment of the last; and the moment of each ballot whose
         # Prepare isn't said yet.
         self.front, self.ballots, self.last, self.begun = None, 0, 0, {}
@@ -464,10 +468,10 @@ class Checker(Seats, Windows, Served, Older):
 
     def on_note(self, row):
         word, node = row[3], int(row[1])
-        self.count_one("note " + word)
-        does = getattr(self, "note_" + word.lower(), None)
+        self.counts["note " + word] += 1
+        does = note_of(word)
         if does is not None:
-            does(row, node, self.processes[node])
+            does(self, row, node, self.processes[node])
 
     def note_refused(self, row, node, process):
         fault = names_of(field(row, "fault"))
@@ -535,3 +539,9 @@ class Checker(Seats, Windows, Served, Older):
         self.look_at_older(end)
         self.settle_doubts(end)
         self.settle_waits(end)
+
+
+@functools.lru_cache(maxsize=64)
+def note_of(word):
+    """What judges a note of a word; none where nothing does."""
+    return getattr(Checker, f"note_{word.lower()}", None)
