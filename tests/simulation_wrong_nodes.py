@@ -237,6 +237,12 @@ def another_image(it):
     it.rows[place][3] = it.rows[place][3][:-2] + "00" * 5
 
 
+@wrong("store")
+def a_record_without_a_ballot(it):
+    """A record of a store is too short for a ballot."""
+    it.append(it.last(lambda row: row[1] == "0" and row[2] == "sync"), 0, bytes([1, 0]))
+
+
 @wrong("store", "killed")
 def no_store(it):
     """A gate is opened of a record that isn't written."""
