@@ -161,8 +161,8 @@ def in_last_hand(world):
     return any(process.up and process.node.table.finished == world.match.hands - 1 for process in world.processes)
 
 
-def setup_loss_at_the_end(world, slow, is_cut):
-    """Quick nodes are lost in the last hand: all others end by themselves."""
+def setup_loss_at_the_end(world, slow, is_cut, more=0.0):
+    """Quick nodes are lost in the last hand: all others end by themselves. A slow one may be so much further behind."""
     world.lost_at, bound = None, BESIDE + slow.call * (CALLS_SILENT if is_cut else CALLS_KILLED)
 
     def lose_now():
@@ -179,14 +179,16 @@ def setup_loss_at_the_end(world, slow, is_cut):
         # Each of the last hand's nine commands may take as long as the slow ones, and then all wait for who isn't heard.
         most = bound + 9 * 2 * slow.call + 2 * ENDED + CALLS_BEHIND * slow.call
         late = world.now - world.lost_at
-        return f"the last process ended {late:.0f} ms behind the loss, not {most:.0f}" if late > most else slow.why_behind()
+        return f"the last process ended {late:.0f} ms behind the loss, not {most:.0f}" if late > most else slow.why_behind(more)
 
     world.on_progress, world.why_not = went_on, why_not
 
 
 def end_with_loss(count, count_slow, sync, is_cut, since=0.0, is_long=True, think=2.0):
     def setup(world):
-        setup_loss_at_the_end(world, Slow(world, count_slow, 1000.0 * sync, since), is_cut)
+        slow = Slow(world, count_slow, 1000.0 * sync, since)
+        # (who became slow while bots think asks between two calls for the votes that a killed one took with it: these are three then)
+        setup_loss_at_the_end(world, slow, is_cut, slow.call if since else 0.0)
 
     setup.__name__ = f"{count_slow}_of_{count}_slow_by_{in_name(sync)}_s{from_in_name(since)}_and_quick_ones_{'cut_off' if is_cut else 'killed'}_at_the_end"
     batch(1, is_long=is_long, **{**PATIENT, "hands": 20, "unheard": UNHEARD, "stays": True, "count": count, "think": think})(setup)
