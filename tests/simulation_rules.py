@@ -96,6 +96,8 @@ class Process:
 
     def __init__(self, image, moment):
         self.disk, self.log, self.is_failed, self.began = Disk(image), "", False, moment
+        # Whether its store is open: its begin syncs.
+        self.is_open = False
         # What its disk keeps where that is no store.
         self.spoilt = None
         # The moment of the first frame that was said to each peer, and the peers that were told to be there.
@@ -264,6 +266,7 @@ class Checker(Seats, Windows, Served, Older):
         word = row[2]
         if word in ("kill", "halt"):
             self.died[int(row[3])] = int(row[4])
+            self.stop_begin(row[0], int(row[3]))
         elif word == "fail":
             (self.failing.discard if int(row[4]) == NO_FAILURE else self.failing.add)(int(row[3]))
         elif word in ("leave", "hush"):
@@ -328,6 +331,13 @@ class Checker(Seats, Windows, Served, Older):
         self.speaking.pop(str(node), None)
         return self.processes.pop(node, None)
 
+    def stop_begin(self, moment, node):
+        """A node is killed. A process that is about to open its store is gone then: nothing more is told of it, and its disk keeps what it did."""
+        process = self.processes.get(node)
+        if process is not None and not process.is_open:
+            self.images[node] = process.image(bytes(process.disk.synced))
+            self.stop_at(moment, node)
+
     def on_refused(self, row):
         node, words = int(row[1]), " ".join(row[3:])
         for number in filter(str.isdigit, row[3:]):
@@ -386,7 +396,7 @@ class Checker(Seats, Windows, Served, Older):
         if moment - begun > self.longest:
             self.longest = moment - begun
         process = self.processes[node]
-        before = process.disk.store.promised
+        process.is_open, before = True, process.disk.store.promised
         try:
             found = process.disk.sync(begun)
         except Backwards as why:

@@ -19,6 +19,8 @@ FLOODED, LOST, AGED = 1_200, 5, 5
 # The most by which each sync of a node with a slow disk takes longer; a hundredth of that is the least. How many syncs of a node a hand
 # has at most, mostly.
 SLOWEST, COMMANDS = 5 * SECOND, 40
+# How often all processes are started again in a match that goes on for so long with a slow disk.
+AGAIN = 3
 # How a bot is: it asks for all lines, or for the newest.
 ALL, NEWEST = 4, 8
 # What a stranger sends in place of so many bytes: that he asks for all lines, or for what is behind a line that there isn't, a line that
@@ -75,6 +77,10 @@ def drawn(seed, is_calm=False, is_slow=False):
     last = max(moment for moment, words in it.lines if words.startswith("bot "))
     ask(it, seed, count)
     more = slow_down(it, seed, count) if is_slow else 0
+    for time in range(1, AGAIN + 1) if is_slow else ():
+        # One that was about to begin while the others ended needs them once more.
+        for node in range(count):
+            it.at(max(calm, last) + 100 * time * SECOND, "start", node)
     it.at(max(calm, last) + 300 * SECOND + hands * (SECOND + COMMANDS * more), "end")
     it.lines.sort(key=lambda line: line[0])
     return [first, *(f"{moment} {words}" for moment, words in it.lines)]
