@@ -549,7 +549,8 @@ def ports_and_words(folder, seed, is_long):
             bot.sendall(VERSION)
             want(bot.recv(100) == LINE + END, f"a line comes at {listen}")
             status, printed, told = status_of("--port", port, "--listen", listen, node.address)
-            want((status, printed) == (1, b"") and b"105 LinkFailed" in told, f"a port that another has: {status, printed, told}")
+            said = f"{listen}:{port}: in use\n105 LinkFailed: the local port can't be had\n".encode()
+            want((status, printed, told) == (1, b"", said), f"a port that another has: {status, printed, told}")
         relay.ends(1)
         waited(lambda: is_free(port), "the port")
     files = {"none": None, "empty": b"", "long": b"x" * 201, "space": b" x"}

@@ -4,6 +4,7 @@
 use crate::arguments::GREATEST_NODE;
 use crate::kept_match::{keep_match, kept_path, unmade_file};
 use crate::made_files::Readers;
+use crate::match_files::named;
 use crate::notes::Notes;
 use crate::seeds::tell_seeds;
 use crate::store_files::cause;
@@ -34,11 +35,11 @@ pub(crate) fn init(rt: &HostRuntime, path: &str) -> Ending {
 /// The steps of it once there is a match file.
 fn make_stores(rt: &HostRuntime, path: &str, notes: &mut Notes<'_>) -> Result<(), Ending> {
     let text = read(rt, path, notes)?;
-    let file = MatchFile::read(rt.alloc(), &text)?;
+    let file = named(path, MatchFile::read(rt.alloc(), &text), notes)?;
     tell_unused(rt, &file, notes)?;
-    let game = read(rt, file.game()?, notes)?;
-    let config = file.config(rt.alloc(), Some(&game))?;
-    let folder = file.stores()?;
+    let game = read(rt, named(path, file.game(), notes)?, notes)?;
+    let config = named(path, file.config(rt.alloc(), Some(&game)), notes)?;
+    let folder = named(path, file.stores(), notes)?;
     tell_seeds(rt, &config, notes)?;
     make_files(rt, folder, &config, &game, notes)
 }
@@ -51,10 +52,10 @@ pub(crate) fn read_config(
     notes: &mut Notes<'_>,
 ) -> Result<Config, Ending> {
     let text = read(rt, path, notes)?;
-    let file = MatchFile::read(rt.alloc(), &text)?;
+    let file = named(path, MatchFile::read(rt.alloc(), &text), notes)?;
     tell_unused(rt, &file, notes)?;
-    let game = read(rt, file.game()?, notes)?;
-    Ok(file.config(rt.alloc(), Some(&game))?)
+    let game = read(rt, named(path, file.game(), notes)?, notes)?;
+    Ok(named(path, file.config(rt.alloc(), Some(&game)), notes)?)
 }
 
 /// Writes what `init` has for standard output: `StreamFailed` (107) where it can't be written.

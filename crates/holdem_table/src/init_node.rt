@@ -8,6 +8,7 @@ use crate::identity::difference;
 use crate::init::{make_store, read, refuse_present, sync_folder, tell_unused};
 use crate::kept_match::{kept_path, unmade_file};
 use crate::made_files::{Readers, put};
+use crate::match_files::named;
 use crate::notes::Notes;
 use crate::seeds::tell_own_seed;
 use dealer_kind::Config;
@@ -39,11 +40,11 @@ pub(crate) fn init_node(rt: &HostRuntime, path: &str, node: u8) -> Ending {
 /// The steps of it.
 fn make_node(rt: &HostRuntime, path: &str, node: u8, notes: &mut Notes<'_>) -> Result<(), Ending> {
     let text = read(rt, path, notes)?;
-    let file = MatchFile::read(rt.alloc(), &text)?;
+    let file = named(path, MatchFile::read(rt.alloc(), &text), notes)?;
     tell_unused(rt, &file, notes)?;
-    let game = read(rt, file.game()?, notes)?;
-    let config = file.config(rt.alloc(), Some(&game))?;
-    let folder = file.stores()?;
+    let game = read(rt, named(path, file.game(), notes)?, notes)?;
+    let config = named(path, file.config(rt.alloc(), Some(&game)), notes)?;
+    let folder = named(path, file.stores(), notes)?;
     if node as usize >= config.nodes() {
         notes.tell_no_such_node(node, config.nodes() as u8);
         return Err(Ending::Match(MatchFault::BadEntry(Key::Node)));

@@ -18,6 +18,7 @@ mod locking;
 mod log_files;
 mod luck_lines;
 mod made_files;
+mod match_files;
 mod node;
 mod notes;
 mod open_files;

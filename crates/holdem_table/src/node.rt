@@ -11,6 +11,7 @@ mod opening;
 use crate::arguments::NodeArguments;
 use crate::init::tell_unused;
 use crate::life_files::LifeFiles;
+use crate::match_files::named;
 use crate::notes::Notes;
 use crate::open_files::tell_open_file;
 use crate::promise_files::PromiseFiles;
@@ -55,7 +56,8 @@ pub(crate) fn node(rt: &HostRuntime, arguments: NodeArguments<'_>) -> Result<(),
     let mut notes = Notes::new(rt, arguments.has_times);
     let text = read(rt, arguments.path, &mut notes).map_err(end_by)?;
     tell_open_file(rt, arguments.path, &mut notes);
-    let file = MatchFile::read(rt.alloc(), &text)?;
+    let read = MatchFile::read(rt.alloc(), &text);
+    let file = named(arguments.path, read, &mut notes)?;
     run_file(rt, &file, arguments, &mut notes)
 }
 
@@ -66,11 +68,11 @@ fn run_file(
     arguments: NodeArguments<'_>,
     notes: &mut Notes<'_>,
 ) -> Result<(), NodeEnd> {
-    let node = arguments.node;
+    let NodeArguments { path, node, .. } = arguments;
     tell_unused(rt, file, notes)?;
-    let config = configure(rt, file, notes).map_err(end_by)?;
+    let config = configure(rt, path, file, notes).map_err(end_by)?;
     config.limits();
-    let entries = entries_of(rt, file, &config, node, notes).map_err(end_by)?;
+    let entries = entries_of(rt, file, &config, arguments, notes).map_err(end_by)?;
     if arguments.is_look {
         look_at_entries(rt, &config, node, entries, notes).map_err(end_by)
     } else {
@@ -78,23 +80,26 @@ fn run_file(
     }
 }
 
-/// What the match file says of a node, if the match has one of this number. Notes tell the keys by which it doesn't go.
+/// What the match file says of the node that is asked for, if the match has one of this number. Notes tell the keys by which it
+/// doesn't go.
 fn entries_of<'a>(
     rt: &HostRuntime,
     file: &'a MatchFile,
     config: &Config,
-    node: u8,
+    arguments: NodeArguments<'_>,
     notes: &mut Notes<'_>,
 ) -> Result<NodeEntries<'a>, Unserved>
-    ensures { IfOk result (λ _. node < length config.now.sources) }
+    ensures { IfOk result (λ _. arguments.entry.node < length config.now.sources) }
 {
+    let NodeArguments { path, node, .. } = arguments;
     if node as usize >= config.nodes() {
         notes.tell_no_such_node(node, config.nodes() as u8);
         return Err(Unserved::Match(MatchFault::BadEntry(Entry::Node)));
     }
     tell_own_seed(config, node, notes);
     config.limits();
-    let entries = file.node_entries(rt.alloc(), config.game().players())?;
+    let players = config.game().players();
+    let entries = named(path, file.node_entries(rt.alloc(), players), notes)?;
     for key in file.unused_by_node(rt.alloc())? {
         notes.tell_node(&NodeNote::PassedOver(key.text()));
     }

@@ -7,6 +7,7 @@ use game_def::GameDef;
 use libc::net::{POLLOUT, poll};
 use libc::types::pollfd;
 use node_wires::{BindFault, TcpWire, Wire};
+use operator_notes::Cause;
 use relay_runs::{RelayEnd, RelayServer, Terms};
 use std::alloc::AllocError;
 use std::fs::File;
@@ -151,6 +152,21 @@ fn tell_wrong(rt: &HostRuntime, notes: &mut Notes<'_>, wrong: Wrong<'_>) {
     }
 }
 
+/// Why a relay doesn't begin whose port can't be bound; a note names its address.
+fn unbound<'a>(rt: &HostRuntime, fault: BindFault, notes: &mut Notes<'_>) -> Wrong<'a> {
+    match fault {
+        BindFault::OutOfMemory => Wrong::OutOfMemory,
+        BindFault::Failed { kind: _ } => Wrong::Port,
+        BindFault::Port { address, kind } => match format!(in rt.alloc(); "{address}") {
+            Ok(text) => {
+                notes.tell_file(text.as_str(), Cause::of(kind));
+                Wrong::Port
+            }
+            Err(_) => Wrong::OutOfMemory,
+        },
+    }
+}
+
 /// The words in their places, and what stands in the files that they name.
 fn run<'a>(
     rt: &HostRuntime,
@@ -170,8 +186,7 @@ fn run<'a>(
     let count = nodes.len().min(u8::MAX as usize) as u8;
     let mut wire = match TcpWire::bind_bot(rt, nodes, bot) {
         Ok(wire) => wire,
-        Err(BindFault::OutOfMemory) => return Err(Wrong::OutOfMemory),
-        Err(_) => return Err(Wrong::Port),
+        Err(fault) => return Err(unbound(rt, fault, notes)),
     };
     let mut trace = trace_of(rt, matches)?;
     let terms = Terms {

@@ -7,6 +7,7 @@ use crate::arguments::ServeArguments;
 use crate::init::tell_unused;
 use crate::kept_match::{compare_kept, unread};
 use crate::log_files::{add_logs, open_logs};
+use crate::match_files::named;
 use crate::notes::Notes;
 use crate::open_files::tell_open_file;
 use crate::seeds::tell_seeds;
@@ -53,17 +54,22 @@ pub(crate) fn serve(rt: &HostRuntime, arguments: ServeArguments<'_>) -> Conclusi
 fn serve_match(rt: &HostRuntime, path: &str, notes: &mut Notes<'_>) -> Result<(), Unserved> {
     let text = read(rt, path, notes)?;
     tell_open_file(rt, path, notes);
-    let file = MatchFile::read(rt.alloc(), &text)?;
+    let file = named(path, MatchFile::read(rt.alloc(), &text), notes)?;
     tell_unused(rt, &file, notes)?;
-    serve_file(rt, &file, notes)
+    serve_file(rt, path, &file, notes)
 }
 
 /// The steps of it once there is a match file to read them from. The logs of earlier starts stay open, and so locked, as
 /// long as the match is served.
-fn serve_file(rt: &HostRuntime, file: &MatchFile, notes: &mut Notes<'_>) -> Result<(), Unserved> {
-    let config = configure(rt, file, notes)?;
+fn serve_file(
+    rt: &HostRuntime,
+    path: &str,
+    file: &MatchFile,
+    notes: &mut Notes<'_>,
+) -> Result<(), Unserved> {
+    let config = configure(rt, path, file, notes)?;
     tell_seeds(rt, &config, notes)?;
-    let service = file.service(rt.alloc(), config.nodes())?;
+    let service = named(path, file.service(rt.alloc(), config.nodes()), notes)?;
     let (stores, logs) = (service.stores, service.logs);
     let ports = seat_ports(&config, service.port);
     let mut old_logs = Vec::new(rt.alloc());
@@ -71,14 +77,15 @@ fn serve_file(rt: &HostRuntime, file: &MatchFile, notes: &mut Notes<'_>) -> Resu
     serve_seats(rt, &mut server, (stores, logs), ports, notes)
 }
 
-/// The match that a match file configures, whose game file is read.
+/// The match that the match file at this path configures, whose game file is read.
 pub(crate) fn configure(
     rt: &HostRuntime,
+    path: &str,
     file: &MatchFile,
     notes: &mut Notes<'_>,
 ) -> Result<Config, Unserved> {
-    let game = read(rt, file.game()?, notes)?;
-    Ok(file.config(rt.alloc(), Some(&game))?)
+    let game = read(rt, named(path, file.game(), notes)?, notes)?;
+    Ok(named(path, file.config(rt.alloc(), Some(&game)), notes)?)
 }
 
 /// Serves the seats until the match is over. A note tells the port or the file where a turn failed.
